@@ -1,0 +1,94 @@
+-- 01, Owners: names, links, and what each expression belongs to.
+use mathlib.Core.Bool.{Bool, true, false, _&&_, _||_, cond, not}
+use mathlib.Core.Option.{Option, none, some}
+use Prim.Native.Nat.{ℕ}
+use Rattle.definitions.specs.Syntax.{DataType, address, Name, meName, finalName, parameterName, Owner, everyone, ownedBy, FieldOwner, toEveryone, toKey, toFinal, Operator, equal, conjunction, Expression, constant, me, field, entry, parameter, operator, negation, reveal, Statement, skip, sequence, assignField, assignEntry, require, conditional, Scope, Field, Parameter, fieldAt, parameterAt, sameType, sameName, isEveryone, isFinal, isOperator}
+
+-- Which names are linked.
+abbrev pub Links : Type 0
+Links = Name → Name → Bool
+
+-- A name is linked to itself: "(the same name counts)".
+abbrev pub noLinks : Links
+noLinks = sameName
+
+-- "Links are chained."
+unfoldable pub withLink : Name → Name → Links → Links
+withLink x y linked a b = linked a b || (linked a x && linked y b) || (linked a y && linked x b)
+
+abbrev pub withLinkOf : Option Name → Option Name → Links → Links
+withLinkOf none right linked = linked
+withLinkOf (some x) none linked = linked
+withLinkOf (some x) (some y) linked = withLink x y linked
+
+abbrev pub isPublicAddress : Parameter → Bool
+isPublicAddress p = sameType (p .type) address && not (p .private)
+
+-- "An operator or not belongs to all when its operands do, otherwise to the caller."
+abbrev pub ownerOfParts : Owner → Owner → Owner
+ownerOfParts everyone everyone = everyone
+ownerOfParts everyone (ownedBy n) = ownedBy meName
+ownerOfParts (ownedBy n) right = ownedBy meName
+
+-- "a place (kinds 3 to 5) to its declared owner (tag: the name used as key)". A tag with no name is number 10.
+abbrev pub placeOwner : FieldOwner → Option Name → Owner
+placeOwner toEveryone key = everyone
+placeOwner (toFinal f) key = ownedBy (finalName f)
+placeOwner toKey none = ownedBy meName
+placeOwner toKey (some n) = ownedBy n
+
+abbrev pub parameterOwner : Parameter → Owner
+parameterOwner p = cond (p .private) (ownedBy meName) everyone
+
+-- "A name linked to me is the caller": an owner that is all or the caller.
+abbrev pub isReader : Links → Owner → Bool
+isReader linked everyone = true
+isReader linked (ownedBy n) = linked n meName
+
+module _ (scope : Scope) where
+  -- "A name is me, a final, or a public address parameter."
+  unfoldable pub nameOf : Expression → Option Name
+  nameOf (constant t v) = none
+  nameOf me = some meName
+  nameOf (field f) = cond (isFinal ((fieldAt (scope .fields) f) .shape)) (some (finalName f)) none
+  nameOf (entry f key) = none
+  nameOf (parameter k) = cond (isPublicAddress (parameterAt (scope .parameters) k)) (some (parameterName k)) none
+  nameOf (operator o left right) = none
+  nameOf (negation part) = none
+  nameOf (reveal part o) = none
+
+  -- "A constant and me belong to all; a place .. to its declared owner ..; a reveal to its target."
+  unfoldable pub ownerOf : Expression → Owner
+  ownerOf (constant t v) = everyone
+  ownerOf me = everyone
+  ownerOf (field f) = placeOwner ((fieldAt (scope .fields) f) .owner) none
+  ownerOf (entry f key) = placeOwner ((fieldAt (scope .fields) f) .owner) (nameOf key)
+  ownerOf (parameter k) = parameterOwner (parameterAt (scope .parameters) k)
+  ownerOf (operator o left right) = ownerOfParts (ownerOf left) (ownerOf right)
+  ownerOf (negation part) = ownerOfParts (ownerOf part) everyone
+  ownerOf (reveal part o) = o
+
+  abbrev pub isPublic : Expression → Bool
+  isPublic e = isEveryone (ownerOf e)
+
+  -- "A completed require of name == name, or of an "and" tree holding such, links the two names"
+  unfoldable pub linksOfCondition : Expression → Links → Links
+  linksOfCondition (constant t v) linked = linked
+  linksOfCondition me linked = linked
+  linksOfCondition (field f) linked = linked
+  linksOfCondition (entry f key) linked = linked
+  linksOfCondition (parameter k) linked = linked
+  linksOfCondition (operator o left right) linked =
+      cond (isOperator o equal) (withLinkOf (nameOf left) (nameOf right) linked)
+      (cond (isOperator o conjunction) (linksOfCondition right (linksOfCondition left linked)) linked)
+  linksOfCondition (negation part) linked = linked
+  linksOfCondition (reveal part o) linked = linked
+
+  -- ".. for what follows in sequence. An if gives on the links it was given, and nothing from inside."
+  unfoldable pub linksAfter : Statement → Links → Links
+  linksAfter skip linked = linked
+  linksAfter (sequence first second) linked = linksAfter second (linksAfter first linked)
+  linksAfter (assignField f value) linked = linked
+  linksAfter (assignEntry f key value) linked = linked
+  linksAfter (require condition) linked = linksOfCondition condition linked
+  linksAfter (conditional condition then else) linked = linked

@@ -1,0 +1,79 @@
+-- 01, Rewriting: the rewritten contract as trees.
+use mathlib.Core.List.{List}
+use Prim.Native.Nat.{ℕ}
+use Rattle.definitions.specs.Syntax.{DataType, Owner, everyone, ownedBy, Operator, Expression, Parameter, Field}
+
+-- An expression of a written body: "Nodes follow as in input, with 9 variable first".
+pub data BodyExpression : Type 0 where
+  constant : DataType → ℕ → BodyExpression
+  me : BodyExpression
+  field : ℕ → BodyExpression
+  entry : ℕ → BodyExpression → BodyExpression
+  parameter : ℕ → BodyExpression
+  operator : Operator → BodyExpression → BodyExpression → BodyExpression
+  negation : BodyExpression → BodyExpression
+  variable : ℕ → BodyExpression
+
+-- "The circuit keeps constants, me, operators and not"; "10 variable first opened".
+pub data Circuit : Type 0 where
+  constant : DataType → ℕ → Circuit
+  me : Circuit
+  operator : Operator → Circuit → Circuit → Circuit
+  negation : Circuit → Circuit
+  variable : ℕ → Circuit
+  opened : ℕ → Circuit
+
+-- A statement of a written body: ".. 22 variable first set to second, 23 verify".
+pub data Command : Type 0 where
+  skip : Command
+  sequence : Command → Command → Command
+  assignField : ℕ → BodyExpression → Command
+  assignEntry : ℕ → BodyExpression → BodyExpression → Command
+  require : BodyExpression → Command
+  conditional : BodyExpression → Command → Command → Command
+  setVariable : ℕ → BodyExpression → Command
+  verify : Command
+
+-- "Origins: 0 supplied plain, 1 supplied cell, 2 read plain, 3 read cell, 4 guard." A variable keeps the expression that it is
+-- supplied for or read from, and its owner.
+pub data Variable : Type 0 where
+  supplied : Owner → Expression → Variable
+  readFrom : Owner → Expression → Variable
+  guard : Variable
+
+-- What a constraint says: a variable, with its owner, is a circuit's value; or a variable opens for the caller.
+pub data Claim : Type 0 where
+  equals : ℕ → Owner → Circuit → Claim
+  opensForCaller : ℕ → Claim
+
+-- "each guard (0, or 1 + variable)"
+pub data Guard : Type 0 where
+  always : Guard
+  under : ℕ → Guard
+
+pub record Constraint : Type 0 where
+  pub guard : Guard
+  pub claim : Claim
+
+pub record WrittenFunction : Type 0 where
+  pub parameters : List Parameter
+  pub variables : List Variable
+  pub constraints : List Constraint
+  pub body : Command
+
+pub record WrittenContract : Type 0 where
+  pub fields : List Field
+  pub functions : List WrittenFunction
+
+-- A variable's origin, and its owner, which is everyone unless it holds a cell.
+abbrev pub origin : Variable → ℕ
+origin (supplied everyone e) = 0
+origin (supplied (ownedBy n) e) = 1
+origin (readFrom everyone e) = 2
+origin (readFrom (ownedBy n) e) = 3
+origin guard = 4
+
+abbrev pub variableOwner : Variable → Owner
+variableOwner (supplied o e) = o
+variableOwner (readFrom o e) = o
+variableOwner guard = everyone

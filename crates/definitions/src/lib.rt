@@ -1,0 +1,24 @@
+// 01, The contract file: "Uint arithmetic is modulo 4,294,967,296." The code of the three wrapping operators; the paper's definitions
+// are in specs/.
+ghost use mathlib.Core.Path.{_≡_};
+ghost use Rattle.definitions.specs.Syntax.{plus, minus, times};
+ghost use Rattle.definitions.specs.Original.{operate};
+
+pub fn sum(left: u32, right: u32) -> u32
+    ensures { λ r. ⌜ r ≡ operate plus left right ⌝ }
+{
+    std::num::wrapping_add_u32(left, right)
+}
+
+pub fn difference(left: u32, right: u32) -> u32
+    ensures { λ r. ⌜ r ≡ operate minus left right ⌝ }
+{
+    std::num::wrapping_sub_u32(left, right)
+}
+
+// The product is made over 64 bits, where it cannot wrap.
+pub fn product(left: u32, right: u32) -> u32
+    ensures { λ r. ⌜ r ≡ operate times left right ⌝ }
+{
+    (left as u64 * right as u64 % 4294967296) as u32
+}

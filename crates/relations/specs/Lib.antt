@@ -1,0 +1,4 @@
+pub mod Acceptance
+pub mod Environment
+pub mod Standing
+pub mod Secrecy
