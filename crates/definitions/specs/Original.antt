@@ -98,7 +98,7 @@ module _ (fields : List Field) (address : Name → ℕ) (arguments : List ℕ) w
         disclosed places condition
         ++ cond (isWorkedOut places condition) (cond (isTrue (value places condition)) (disclosedBy places then) (disclosedBy places else)) []
 
--- A call of the original, by function, sender and arguments: whether it completes, the places after it, and what it discloses to a
+-- A call of the original, by function, caller and arguments: whether it completes, the places after it, and what it discloses to a
 -- party. "after failed ones its places are restored"
 module _ (contract : Contract) (places : List ℕ) (function caller : ℕ) (arguments : List ℕ) where
   abbrev pub callAddress : Name → ℕ

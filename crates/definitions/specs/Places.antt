@@ -5,7 +5,7 @@ use Prim.Native.Nat.{ℕ, zero, suc, _+_}
 use lib.Dec.{eqb}
 use lib.ListN.{getD, drop, replicate}
 use Rattle.definitions.specs.Basics.{flatMap}
-use Rattle.definitions.specs.Syntax.{Name, meName, finalName, parameterName, Owner, everyone, ownedBy, FieldOwner, toEveryone, toKey, toFinal, Field, Parameter, Scope, parameterAt, isFinal, isMapping}
+use Rattle.definitions.specs.Syntax.{Name, meName, finalName, parameterName, Owner, everyone, ownedBy, FieldOwner, toEveryone, toKey, toFinal, Field, Parameter, Scope, fieldAt, parameterAt, isFinal, isMapping}
 
 -- The numbers from n on, as many as told.
 unfoldable pub numbersFrom : ℕ → ℕ → List ℕ
@@ -31,10 +31,11 @@ position (d ∷ ds) (suc f) key = placeCount d + position ds f key
 abbrev pub finalAddress : List Field → List ℕ → ℕ → ℕ
 finalAddress fields places f = getD places (position fields f 0) 0
 
--- The address that each name stands for, in a call by a sender with arguments. A private parameter is no name.
+-- The address that each name stands for, in a call with arguments. A field that is not final and a private parameter are no names.
 abbrev pub addressIn : Scope → ℕ → List ℕ → List ℕ → Name → ℕ
 addressIn scope caller arguments places meName = caller
-addressIn scope caller arguments places (finalName f) = finalAddress (scope .fields) places f
+addressIn scope caller arguments places (finalName f) =
+    cond (isFinal ((fieldAt (scope .fields) f) .shape)) (finalAddress (scope .fields) places f) 0
 addressIn scope caller arguments places (parameterName k) = cond ((parameterAt (scope .parameters) k) .private) 0 (getD arguments k 0)
 
 -- Who can read a value: anyone, or the party at one address.

@@ -1,7 +1,7 @@
 -- When the contents of a ledger stand for the original's numbers.
 use mathlib.Core.Path.{_≡_}
 use mathlib.Core.List.{List}
-use Prim.Native.Nat.{ℕ}
+use Prim.Native.Nat.{ℕ, _<_}
 use lib.ListN.{length, getD}
 use Rattle.definitions.specs.Syntax.{Name, finalName, Field, Parameter, Scope, parameterAt}
 use Rattle.definitions.specs.Owners.{parameterOwner}
@@ -22,5 +22,8 @@ pub record AllStand (readers : List Reader) (contents : List Content) (numbers :
   pub extent : length contents ≡ length numbers
   pub each : (p : ℕ) → Stands (getD readers p anyone) (contentAt contents p) (getD numbers p 0)
 
+-- Each declared parameter stands for its argument. Past the last one a parameter reads as private and a content as plain.
 pub record ParametersStand (scope : Scope) (addressOf : Name → ℕ) (contents : List Content) (arguments : List ℕ) : Type 0 where
-  pub each : (k : ℕ) → Stands (readerOf addressOf (parameterOwner (parameterAt (scope .parameters) k))) (contentAt contents k) (getD arguments k 0)
+  pub each :
+      (k : ℕ) → k < length (scope .parameters)
+      → Stands (readerOf addressOf (parameterOwner (parameterAt (scope .parameters) k))) (contentAt contents k) (getD arguments k 0)

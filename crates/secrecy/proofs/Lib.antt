@@ -1,0 +1,11 @@
+pub mod HiddenWalk
+pub mod SideBySide
+pub mod AlikeContents
+pub mod Views
+pub mod Parameters
+pub mod Reading
+pub mod Supplied
+pub mod AlikeExpressions
+pub mod TwoExpressions
+pub mod TwoStatements
+pub mod TwoRuns

@@ -1,0 +1,14 @@
+pub mod Truth
+pub mod Standing
+pub mod Held
+pub mod Pieces
+pub mod Variables
+pub mod Expressions
+pub mod Constraints
+pub mod Passages
+pub mod Branches
+pub mod Statements
+pub mod Openings
+pub mod Call
+pub mod Parameters
+pub mod Instance

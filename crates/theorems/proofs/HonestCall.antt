@@ -1,0 +1,101 @@
+-- A taken call: what the ledger is after it, in terms of the original alone.
+use mathlib.Core.Path.{_≡_, refl, ap, sym, _∙_, subst}
+use mathlib.Core.Bool.{Bool, true, false, cond}
+use mathlib.Core.List.{List, [], _∷_, map}
+use Prim.Native.Nat.{ℕ, suc}
+use lib.Dec.{eqb}
+use lib.ListN.{getD}
+use Rattle.definitions.specs.Basics.{isZero}
+use Rattle.definitions.specs.Syntax.{Name, meName, finalName, FieldOwner, toEveryone, toKey, toFinal, Statement, Field, Scope, fieldAt, scopeOf, isFinal}
+use Rattle.definitions.specs.Places.{perPlace, finalAddress, placeReader, placeReaders, only}
+use Rattle.definitions.specs.Original.{completes, placesAfter, originalCompletes}
+use Rattle.definitions.specs.Written.{WrittenFunction}
+use Rattle.definitions.specs.Ledger.{Content, Ledger, State, openedNumber, plainNumber, stateAfter, walkCompletes}
+use Rattle.definitions.specs.Calls.{contractOfLedger, calledFunction, callNumber, callWith, afterFailed, writtenFunction, startOfCall, honestParametersOf, honestVariablesOf, ledgerAfterCall}
+use Rattle.relations.specs.Acceptance.{FieldsFit}
+use Rattle.relations.specs.Standing.{AllStand, readersOf}
+use Rattle.relations.specs.Standing.{ParametersStand}
+use Rattle.typing.proofs.WellFormed.{ledger-body-accepted, ledger-fields-fit, places-stand}
+use Rattle.typing.proofs.CallEnvironment.{originalAddress, walkAddress, call-well-formed, honest-parameters-stand, same-addresses, call-places-stand, call-environment}
+use Rattle.simulation.proofs.Call.{HonestCall, honestEnd, honest-call}
+
+module _ (l : Ledger) (function caller : ℕ) (arguments : List ℕ) where
+  abbrev pub scopeOfCall : Scope
+  scopeOfCall = scopeOf (contractOfLedger l) function
+
+  abbrev pub bodyOfCall : Statement
+  bodyOfCall = (calledFunction l function caller) .body
+
+  abbrev pub openedPlaces : List ℕ
+  openedPlaces = map openedNumber (l .places)
+
+  abbrev pub addressOfCall : Name → ℕ
+  addressOfCall = originalAddress l function caller arguments
+
+  abbrev pub parametersOfCall : List Content
+  parametersOfCall = honestParametersOf l function caller arguments
+
+  -- The state in which the honest walk ends, over the original's addresses.
+  abbrev pub endOfHonest : State
+  endOfHonest = honestEnd scopeOfCall bodyOfCall addressOfCall (suc (l .call)) arguments openedPlaces parametersOfCall (l .places)
+
+  abbrev pub completesHere : Bool
+  completesHere = completes (scopeOfCall .fields) addressOfCall arguments openedPlaces bodyOfCall
+
+  abbrev pub numbersAfter : List ℕ
+  numbersAfter = placesAfter (scopeOfCall .fields) addressOfCall arguments openedPlaces bodyOfCall
+
+  abbrev pub ledgerDone : Ledger
+  ledgerDone =
+      record {
+        file = l .file;
+        call = suc (l .call);
+        function = function;
+        caller = caller;
+        outcome = 0;
+        parameters = parametersOfCall;
+        variables = endOfHonest .variables;
+        places = endOfHonest .places;
+      }
+
+  abbrev pub ledgerFailed : Ledger
+  ledgerFailed = afterFailed l function caller parametersOfCall (honestVariablesOf l function caller arguments)
+
+  -- The ledger after a call whose names have these addresses.
+  abbrev ledgerOver : (Name → ℕ) → Ledger
+  ledgerOver addressOf =
+      let g = writtenFunction l function caller parametersOfCall (honestVariablesOf l function caller arguments) in
+      let start = startOfCall l function caller parametersOfCall (honestVariablesOf l function caller arguments) in
+      let end = stateAfter addressOf ((contractOfLedger l) .fields) parametersOfCall start (g .body) in
+      cond (walkCompletes addressOf ((contractOfLedger l) .fields) parametersOfCall (g .constraints) start (g .body))
+      (record {
+        file = l .file;
+        call = suc (l .call);
+        function = function;
+        caller = caller;
+        outcome = 0;
+        parameters = parametersOfCall;
+        variables = end .variables;
+        places = end .places;
+      })
+      ledgerFailed
+
+  module _ (clear : callNumber l function caller arguments ≡ 0) where
+    pub fields-of-call : FieldsFit ((contractOfLedger l) .fields)
+    fields-of-call = ledger-fields-fit l (call-well-formed l function caller arguments clear)
+
+    pub honest : HonestCall scopeOfCall bodyOfCall addressOfCall (suc (l .call)) arguments openedPlaces parametersOfCall (l .places)
+    honest =
+        honest-call scopeOfCall bodyOfCall addressOfCall (suc (l .call)) arguments openedPlaces parametersOfCall (l .places)
+        (ledger-body-accepted l (call-well-formed l function caller arguments clear) function) (call-environment l function caller arguments clear) (call-places-stand l function caller arguments clear)
+        (record { each = honest-parameters-stand l function caller arguments clear addressOfCall refl })
+
+    pub ledger-after : ledgerAfterCall l function caller arguments ≡ cond completesHere ledgerDone ledgerFailed
+    unfolding ledgerAfterCall callWith
+    ledger-after =
+        ap (λ n. cond (isZero n) (callWith l function caller parametersOfCall (honestVariablesOf l function caller arguments)) l) clear
+        ∙ ap ledgerOver (same-addresses l function caller arguments clear) ∙ ap (λ b. cond b ledgerDone ledgerFailed) (honest .ends)
+
+    pub completes-here : originalCompletes (contractOfLedger l) openedPlaces function caller arguments ≡ completesHere
+    unfolding originalCompletes
+    completes-here = refl

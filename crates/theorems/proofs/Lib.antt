@@ -1,0 +1,10 @@
+pub mod Serials
+pub mod NewSerials
+pub mod ParameterForms
+pub mod HonestCall
+pub mod WellFormedAfter
+pub mod Faithful
+pub mod AlikeCalls
+pub mod EqualViews
+pub mod Demands
+pub mod Examples

@@ -1,0 +1,15 @@
+pub mod Basics
+pub mod Places
+pub mod Faults
+pub mod Values
+pub mod Environments
+pub mod Readers
+pub mod FaultNumbers
+pub mod Tables
+pub mod Acceptance
+pub mod Forms
+pub mod Contents
+pub mod Deployment
+pub mod WellFormed
+pub mod CallEnvironment
+pub mod Links
