@@ -1,12 +1,12 @@
 -- Cases that pin the definitions: what each says, and the test that decides it.
 use mathlib.Core.Path.{_≡_, refl, ap₂, sym}
-use mathlib.Core.Bool.{Bool, true, false, _&&_, true≢false, false≢true}
+use mathlib.Core.Bool.{Bool, true, false, _&&_}
 use mathlib.Core.List.{List, [], _∷_, zipWith, List·Memᴰ, List·Memᴰ·not-nil, List·Memᴰ·cases-cons}
 use mathlib.Core.Logic.{⊎-elim}
 use mathlib.Core.Path.{subst}
 use Prim.Native.Nat.{ℕ}
 use lib.Dec.{T, eqb, eqb→eq}
-use Rattle.definitions.specs.Basics.{twoBytes, all, any, anyNumbered, countIf, largest, flatMap, firstThatHolds}
+use Rattle.definitions.specs.Basics.{all, any, anyNumbered, countIf, largest, flatMap, firstThatHolds}
 use Rattle.definitions.specs.Calls.{deployNumber, deployed, allFit, publicOf, isWellFormed, notCallable, argumentsOff, callNumber, callWith, honestContents, honestVariables, honestParameters, ledgerAfterCall}
 use Rattle.definitions.specs.ContractFile.{functionsEnd, nodesAt, fieldRecords, parameterRecords, functionRecords, nodeRecords, sectionsOf, sectionPart, fieldOf, parameterOf}
 use Rattle.definitions.specs.DataTypes.{typeOf}

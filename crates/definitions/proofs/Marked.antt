@@ -1,8 +1,6 @@
 -- The marked cases of document 01 and further ones that pin its definitions: one table, one theorem.
-use mathlib.Core.Bool.{Bool, true, false}
 use mathlib.Core.List.{List, [], _∷_, _++_, List·Memᴰ}
 use Prim.Native.Nat.{ℕ, zero, suc, _-_}
-use lib.Dec.{T}
 use lib.ListN.{length, take}
 use Rattle.definitions.specs.Basics.{twoBytes, flatMap}
 use Rattle.definitions.specs.Runs.{Request}

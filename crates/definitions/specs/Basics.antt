@@ -1,7 +1,7 @@
 -- Functions on truth values, numbers and lists that the definitions share.
 use mathlib.Core.Bool.{Bool, true, false, _&&_, _||_, cond, not}
 use mathlib.Core.List.{List, [], _∷_, _++_}
-use Prim.Native.Nat.{ℕ, zero, suc, _+_, _*_, _/_, _%_, max}
+use Prim.Native.Nat.{ℕ, zero, suc, _+_, _/_, _%_, max}
 use lib.Dec.{eqb}
 
 -- f at n, with n worked out first. A definition computes by name: a number that a recursion names twice would be worked

@@ -1,14 +1,13 @@
 -- 01, Runs and views: deployment, calls with supplied values, the honest ones, and numbers 17 to 20.
 use mathlib.Core.Bool.{Bool, true, false, _&&_, _||_, cond, not}
 use mathlib.Core.List.{List, [], _∷_, _++_, map, zipWith}
-use Prim.Native.Nat.{ℕ, zero, suc, _+_}
+use Prim.Native.Nat.{ℕ, suc, _+_}
 use lib.Dec.{eqb, leb, ltb}
-use lib.ListN.{length, getD, replicate}
-use Rattle.definitions.specs.Basics.{all, any, countIf, isZero, isTrue, firstThatHolds}
-use Rattle.definitions.specs.Syntax.{DataType, boolean, Name, meName, Owner, Expression, Statement, Field, Parameter, Function, Contract, Scope, fieldAt, functionAt, scopeOf, isFinal}
+use lib.ListN.{length, replicate}
+use Rattle.definitions.specs.Basics.{any, countIf, isZero, isTrue, firstThatHolds}
+use Rattle.definitions.specs.Syntax.{DataType, boolean, Name, Expression, Statement, Field, Parameter, Function, Contract, Scope, functionAt, scopeOf, isFinal}
 use Rattle.definitions.specs.ContractFile.{sectionsOf}
 use Rattle.definitions.specs.Nodes.{contractOf}
-use Rattle.definitions.specs.Owners.{parameterOwner}
 use Rattle.definitions.specs.DataTypes.{isOfType, typeOf}
 use Rattle.definitions.specs.Numbers.{checkNumber, orElse}
 use Rattle.definitions.specs.Written.{Variable, supplied, readFrom, guard, variableOwner, Guard, always, under, WrittenFunction}

@@ -5,7 +5,7 @@ use Prim.Native.Nat.{ℕ, zero, suc, _+_, _*_}
 use lib.Dec.{eqb}
 use lib.ListN.{getD}
 use Rattle.definitions.specs.Basics.{largest}
-use Rattle.definitions.specs.Syntax.{DataType, boolean, Owner, everyone, ownedBy, Name, finalName, Operator, Expression, Statement, Function, Contract}
+use Rattle.definitions.specs.Syntax.{DataType, Owner, everyone, ownedBy, Name, finalName, Operator, Expression, Statement, Function, Contract}
 use Rattle.definitions.specs.ContractFile.{NodeRecord, FunctionRecord, Sections, dataTypeOf, ownerOfCode, operatorOf, fieldOf, parameterOf}
 
 -- "Kinds (decimal)"

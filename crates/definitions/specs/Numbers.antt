@@ -5,10 +5,10 @@ use mathlib.Core.Option.{Option, none, some}
 use Prim.Native.Nat.{ℕ, zero, suc, _+_}
 use lib.Dec.{eqb, leb, ltb}
 use lib.ListN.{length}
-use Rattle.definitions.specs.Basics.{all, any, anyNumbered, countIf, flatMap, isZero, firstThatHolds}
-use Rattle.definitions.specs.Syntax.{DataType, boolean, address, Shape, Name, meName, finalName, parameterName, Owner, everyone, ownedBy, FieldOwner, toEveryone, toKey, toFinal, Operator, Expression, constant, me, field, entry, parameter, operator, negation, reveal, Statement, skip, sequence, assignField, assignEntry, require, conditional, Field, Parameter, Function, Contract, Scope, fieldAt, parameterAt, sameType, isEveryone, isPlainField, isFinal, isMapping, isDivision}
-use Rattle.definitions.specs.ContractFile.{FieldRecord, ParameterRecord, FunctionRecord, NodeRecord, Sections, fieldCount, functionCount, nodeCount, fileEnd, sectionsOf, sectionPart, isFinalCode, isParameterCode, dataTypeOf, fieldOf}
-use Rattle.definitions.specs.Nodes.{Kind, constantKind, meKind, fieldKind, entryKind, parameterKind, operatorKind, negationKind, revealKind, skipKind, sequenceKind, assignFieldKind, assignEntryKind, requireKind, conditionalKind, noKind, kindOf, Node, nodeOf, nodeAt, constantValue, expressionParts, statementParts, children, isExpression, isStatement, fieldsNamed, chainLength, contractOf}
+use Rattle.definitions.specs.Basics.{any, anyNumbered, countIf, flatMap, isZero, firstThatHolds}
+use Rattle.definitions.specs.Syntax.{boolean, address, Name, meName, finalName, parameterName, Owner, everyone, ownedBy, FieldOwner, toEveryone, toKey, toFinal, Expression, constant, me, field, entry, parameter, operator, negation, reveal, Statement, skip, sequence, assignField, assignEntry, require, conditional, Field, Function, Contract, Scope, fieldAt, parameterAt, sameType, isPlainField, isFinal, isMapping, isDivision}
+use Rattle.definitions.specs.ContractFile.{FieldRecord, ParameterRecord, NodeRecord, Sections, fieldCount, functionCount, nodeCount, fileEnd, sectionsOf, sectionPart, isFinalCode, isParameterCode, dataTypeOf, fieldOf}
+use Rattle.definitions.specs.Nodes.{Kind, constantKind, meKind, fieldKind, entryKind, parameterKind, operatorKind, negationKind, revealKind, skipKind, sequenceKind, assignFieldKind, assignEntryKind, requireKind, conditionalKind, noKind, kindOf, nodeOf, nodeAt, constantValue, expressionParts, statementParts, children, isExpression, isStatement, fieldsNamed, chainLength, contractOf}
 use Rattle.definitions.specs.Owners.{Links, noLinks, isReader, isPublicAddress, placeOwner, nameOf, ownerOf, isPublic, linksAfter}
 use Rattle.definitions.specs.DataTypes.{isOfType, classOf, operandsFit, typeOf}
 

@@ -1,8 +1,7 @@
 -- 01, Owners: names, links, and what each expression belongs to.
-use mathlib.Core.Bool.{Bool, true, false, _&&_, _||_, cond, not}
+use mathlib.Core.Bool.{Bool, true, _&&_, _||_, cond, not}
 use mathlib.Core.Option.{Option, none, some}
-use Prim.Native.Nat.{ℕ}
-use Rattle.definitions.specs.Syntax.{DataType, address, Name, meName, finalName, parameterName, Owner, everyone, ownedBy, FieldOwner, toEveryone, toKey, toFinal, Operator, equal, conjunction, Expression, constant, me, field, entry, parameter, operator, negation, reveal, Statement, skip, sequence, assignField, assignEntry, require, conditional, Scope, Field, Parameter, fieldAt, parameterAt, sameType, sameName, isEveryone, isFinal, isOperator}
+use Rattle.definitions.specs.Syntax.{address, Name, meName, finalName, parameterName, Owner, everyone, ownedBy, FieldOwner, toEveryone, toKey, toFinal, equal, conjunction, Expression, constant, me, field, entry, parameter, operator, negation, reveal, Statement, skip, sequence, assignField, assignEntry, require, conditional, Scope, Parameter, fieldAt, parameterAt, sameType, sameName, isEveryone, isFinal, isOperator}
 
 -- Which names are linked.
 abbrev pub Links : Type 0

@@ -1,10 +1,10 @@
 -- 01, Rewriting (004, figure 5): the rewritten contract of an accepted one.
-use mathlib.Core.Bool.{Bool, true, false, _&&_, cond}
+use mathlib.Core.Bool.{_&&_, cond}
 use mathlib.Core.List.{List, [], _∷_, _++_, map}
-use mathlib.Core.Option.{Option, none}
-use Prim.Native.Nat.{ℕ, zero, suc, _+_}
+use mathlib.Core.Option.{none}
+use Prim.Native.Nat.{ℕ, suc, _+_}
 use lib.ListN.{length}
-use Rattle.definitions.specs.Syntax.{DataType, boolean, Name, meName, Owner, everyone, ownedBy, Operator, Expression, Statement, Field, Parameter, Function, Contract, Scope, fieldAt, parameterAt, isEveryone, isDivision}
+use Rattle.definitions.specs.Syntax.{boolean, meName, Owner, everyone, ownedBy, Operator, Expression, Statement, Field, Parameter, Function, Contract, Scope, fieldAt, isDivision}
 use Rattle.definitions.specs.Owners.{nameOf, ownerOf, placeOwner, isPublic}
 use Rattle.definitions.specs.Written.{BodyExpression, Circuit, Command, Variable, supplied, readFrom, guard, Claim, equals, opensForCaller, Guard, always, under, Constraint, WrittenFunction, WrittenContract}
 

@@ -6,7 +6,7 @@ use Prim.Native.Nat.{ℕ}
 use lib.Dec.{eqb}
 use lib.ListN.{getD}
 use Rattle.definitions.specs.Basics.{isZero}
-use Rattle.definitions.specs.Syntax.{Parameter, Function, Contract, functionAt, parameterAt}
+use Rattle.definitions.specs.Syntax.{Contract, functionAt, parameterAt}
 use Rattle.definitions.specs.Places.{deployedNumbers}
 use Rattle.definitions.specs.Original.{originalAfter, originalDiscloses}
 use Rattle.definitions.specs.Ledger.{Ledger}

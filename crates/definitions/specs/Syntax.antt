@@ -1,5 +1,5 @@
 -- 01, The contract file: what a file says, as trees. Codes, widths and layouts are left to the reading and the writing.
-use mathlib.Core.Bool.{Bool, true, false, _&&_, _||_, cond}
+use mathlib.Core.Bool.{Bool, true, false, _||_}
 use mathlib.Core.List.{List, []}
 use Prim.Native.Nat.{ℕ}
 use lib.Dec.{eqb}

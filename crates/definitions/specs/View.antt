@@ -1,11 +1,11 @@
 -- 01, Runs and views: what a party sees, as items and as bytes, and number 21.
-use mathlib.Core.Bool.{Bool, true, false, _||_, cond, not}
+use mathlib.Core.Bool.{_||_, cond, not}
 use mathlib.Core.List.{List, [], _∷_, _++_, map}
 use Prim.Native.Nat.{ℕ}
 use lib.Dec.{eqb, ltb}
 use lib.ListN.{length, drop}
 use Rattle.definitions.specs.Basics.{flatMap, twoBytes, fourBytes, firstThatHolds}
-use Rattle.definitions.specs.Ledger.{Cell, Content, plain, cell, Ledger}
+use Rattle.definitions.specs.Ledger.{Content, plain, cell, Ledger}
 use Rattle.definitions.specs.Calls.{isWellFormed}
 
 -- "An item is mark, owner (an address), serial (2 + 2), value (4)."

@@ -1,9 +1,9 @@
 -- What acceptance gives of a contract's trees: numbers 3 and 8 to 15, as the theorems use them.
 use mathlib.Core.Path.{_≡_}
-use mathlib.Core.Bool.{Bool, true, false, _&&_}
+use mathlib.Core.Bool.{Bool, true, _&&_}
 use mathlib.Core.List.{List, []}
 use Prim.Native.Nat.{ℕ}
-use Rattle.definitions.specs.Syntax.{DataType, address, FieldOwner, toEveryone, toFinal, Expression, constant, me, field, entry, parameter, operator, negation, reveal, Statement, skip, sequence, assignField, assignEntry, require, conditional, Field, Scope, fieldAt, isFinal, isMapping}
+use Rattle.definitions.specs.Syntax.{DataType, address, toEveryone, toFinal, Expression, constant, me, field, entry, parameter, operator, negation, reveal, Statement, skip, sequence, assignField, assignEntry, require, conditional, Field, Scope, fieldAt, isFinal, isMapping}
 use Rattle.definitions.specs.Owners.{noLinks}
 use Rattle.definitions.specs.DataTypes.{isOfType}
 use Rattle.definitions.specs.Numbers.{statementFaults, isTagged}

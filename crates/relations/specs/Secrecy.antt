@@ -1,14 +1,14 @@
 -- What a party may tell apart: contents with the values hidden that it may not read, and numbers that agree where it may read.
 use mathlib.Core.Path.{_≡_}
-use mathlib.Core.Bool.{Bool, true, cond}
+use mathlib.Core.Bool.{true, cond}
 use mathlib.Core.List.{List, map}
 use Prim.Native.Nat.{ℕ}
 use lib.Dec.{eqb}
 use lib.ListN.{getD}
 use Rattle.definitions.specs.Syntax.{Name, Field, Scope, parameterAt}
 use Rattle.definitions.specs.Owners.{parameterOwner}
-use Rattle.definitions.specs.Places.{Reader, anyone, mayRead, readerOf}
-use Rattle.definitions.specs.Ledger.{Cell, Content, plain, cell, State}
+use Rattle.definitions.specs.Places.{anyone, mayRead, readerOf}
+use Rattle.definitions.specs.Ledger.{Content, plain, cell, State}
 use Rattle.relations.specs.Standing.{readersOf}
 
 -- A content as a party sees it: "1 opaque has value 0; 2 is a cell of the viewing party".

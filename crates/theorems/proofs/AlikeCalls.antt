@@ -1,17 +1,16 @@
 -- Two taken calls that are alike for a party, on ledgers that it cannot tell apart, and that disclose the same to it, leave two such ledgers.
-use mathlib.Core.Path.{_≡_, refl, ap, ap₂, sym, _∙_, subst, fun-ext}
+use mathlib.Core.Path.{_≡_, refl, ap, sym, _∙_, subst, fun-ext}
 use mathlib.Core.Bool.{Bool, true, false, _||_, cond, not}
-use mathlib.Core.List.{List, [], _∷_, map}
+use mathlib.Core.List.{List}
 use Prim.Native.Nat.{ℕ, suc}
 use lib.Dec.{eqb}
 use lib.ListN.{length, getD}
-use Rattle.definitions.specs.Syntax.{Name, meName, finalName, parameterName, Parameter, Field, Scope, fieldAt, parameterAt, isFinal}
+use Rattle.definitions.specs.Syntax.{Name, meName, finalName, parameterName, Parameter, Scope, fieldAt, parameterAt, isFinal}
 use Rattle.definitions.specs.Owners.{parameterOwner}
-use Rattle.definitions.specs.Places.{position, finalAddress, placeReaders, Reader, anyone, only, mayRead, readerOf}
+use Rattle.definitions.specs.Places.{position, finalAddress, Reader, anyone, mayRead, readerOf}
 use Rattle.definitions.specs.Original.{completes, disclosedBy}
-use Rattle.definitions.specs.Written.{WrittenFunction}
-use Rattle.definitions.specs.Ledger.{Content, Ledger, State, openedNumber, contentAt, stateAfter}
-use Rattle.definitions.specs.Calls.{contractOfLedger, calledFunction, callNumber, publicOf, ledgerAfterCall}
+use Rattle.definitions.specs.Ledger.{Ledger, State, contentAt, stateAfter}
+use Rattle.definitions.specs.Calls.{contractOfLedger, calledFunction, callNumber, ledgerAfterCall}
 use Rattle.relations.specs.Environment.{Environment}
 use Rattle.relations.specs.Standing.{Stands, AllStand, readersOf}
 use Rattle.relations.specs.Secrecy.{hidden, allHidden, stateHidden, Agree, ArgumentsAgree}

@@ -1,6 +1,6 @@
 -- Two lists of calls that meet the hypotheses of equal views with different secrets; and, for h, a call that discloses different values.
 use mathlib.Core.Path.{_≡_, refl, ap}
-use mathlib.Core.Bool.{Bool, true, false, _||_, not, false≢true}
+use mathlib.Core.Bool.{true, false, _||_, not, false≢true}
 use mathlib.Core.List.{List, [], _∷_, zipWith}
 use Prim.Native.Nat.{ℕ, zero, suc}
 use lib.Dec.{eqb}
@@ -18,7 +18,7 @@ use Rattle.definitions.specs.Owners.{withLink, nameOf, ownerOf, linksOfConditio
 use Rattle.definitions.specs.Places.{numbersFrom, perPlace, position, deployedNumbers}
 use Rattle.definitions.specs.Report.{tallies, insert, sorted, digits, reportText}
 use Rattle.definitions.specs.Rewriting.{kept, onePart, twoParts, supplying, reading, stepsBefore, single, inSequence, inBranch, inBranches, rewriteStatement, privateParameters, openings, rewriteFunction, rewrite, inBody, inCircuit}
-use Rattle.definitions.specs.Runs.{Request, Run, AlikeFor, Paired, finished, bothRefused, bothTaken, runAtDeployment, isTaken, runAfter, disclosedIn, viewsAfter, disclosures}
+use Rattle.definitions.specs.Runs.{Request, Run, Paired, finished, bothRefused, bothTaken, runAtDeployment, isTaken, runAfter, disclosedIn, viewsAfter, disclosures}
 use Rattle.definitions.specs.Syntax.{sameName}
 use Rattle.definitions.specs.View.{itemFor, itemsFor, itemBytes, viewBytes, viewNumber, viewLength, outputAfterView}
 use Rattle.definitions.specs.WrittenFile.{size, numbered, bodyTree, circuitTree, commandTree, sizes, numberedAll, eachOnce, constraintBytes, functionBytes, functionsBytes, contractBytes, writtenFile, writeNumber, writtenLength, outputAfterWriting}

@@ -1,14 +1,12 @@
 -- Demand 2, second half, and the ledger's own test, over whole lists of calls.
 use mathlib.Core.Path.{_≡_, refl, ap, sym, _∙_, subst}
-use mathlib.Core.Bool.{Bool, true, false, cond, true≢false, false≢true}
+use mathlib.Core.Bool.{Bool, true, false, cond, false≢true}
 use mathlib.Core.List.{List, [], _∷_, map}
-use Prim.Native.Nat.{ℕ, zero, suc}
+use Prim.Native.Nat.{ℕ}
 use borrow.Author.Tests.{eqb-true}
-use lib.Dec.{eqb}
 use Rattle.definitions.specs.Basics.{all, isZero}
-use Rattle.definitions.specs.Syntax.{Field, Contract}
 use Rattle.definitions.specs.Places.{placeReaders}
-use Rattle.definitions.specs.Original.{placesAfter, originalCompletes, originalAfter}
+use Rattle.definitions.specs.Original.{originalCompletes, originalAfter}
 use Rattle.definitions.specs.Ledger.{Ledger, openedNumber, constraintHolds}
 use Rattle.definitions.specs.Calls.{contractIn, contractOfLedger, lastAddress, lastFunction, isWellFormed, callNumber, callWith, ledgerAfterCall, deployNumber, deployed, honestParametersOf, honestVariablesOf, isDone, afterDone, afterFailed}
 use Rattle.definitions.specs.Rewriting.{rewriteFunction}

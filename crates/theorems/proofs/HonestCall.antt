@@ -1,22 +1,16 @@
 -- A taken call: what the ledger is after it, in terms of the original alone.
-use mathlib.Core.Path.{_≡_, refl, ap, sym, _∙_, subst}
-use mathlib.Core.Bool.{Bool, true, false, cond}
-use mathlib.Core.List.{List, [], _∷_, map}
+use mathlib.Core.Path.{_≡_, refl, ap, _∙_}
+use mathlib.Core.Bool.{Bool, cond}
+use mathlib.Core.List.{List, map}
 use Prim.Native.Nat.{ℕ, suc}
-use lib.Dec.{eqb}
-use lib.ListN.{getD}
 use Rattle.definitions.specs.Basics.{isZero}
-use Rattle.definitions.specs.Syntax.{Name, meName, finalName, FieldOwner, toEveryone, toKey, toFinal, Statement, Field, Scope, fieldAt, scopeOf, isFinal}
-use Rattle.definitions.specs.Places.{perPlace, finalAddress, placeReader, placeReaders, only}
+use Rattle.definitions.specs.Syntax.{Name, Statement, Scope, scopeOf}
 use Rattle.definitions.specs.Original.{completes, placesAfter, originalCompletes}
-use Rattle.definitions.specs.Written.{WrittenFunction}
-use Rattle.definitions.specs.Ledger.{Content, Ledger, State, openedNumber, plainNumber, stateAfter, walkCompletes}
+use Rattle.definitions.specs.Ledger.{Content, Ledger, State, openedNumber, stateAfter, walkCompletes}
 use Rattle.definitions.specs.Calls.{contractOfLedger, calledFunction, callNumber, callWith, afterFailed, writtenFunction, startOfCall, honestParametersOf, honestVariablesOf, ledgerAfterCall}
 use Rattle.relations.specs.Acceptance.{FieldsFit}
-use Rattle.relations.specs.Standing.{AllStand, readersOf}
-use Rattle.relations.specs.Standing.{ParametersStand}
-use Rattle.typing.proofs.WellFormed.{ledger-body-accepted, ledger-fields-fit, places-stand}
-use Rattle.typing.proofs.CallEnvironment.{originalAddress, walkAddress, call-well-formed, honest-parameters-stand, same-addresses, call-places-stand, call-environment}
+use Rattle.typing.proofs.WellFormed.{ledger-body-accepted, ledger-fields-fit}
+use Rattle.typing.proofs.CallEnvironment.{originalAddress, call-well-formed, honest-parameters-stand, same-addresses, call-places-stand, call-environment}
 use Rattle.simulation.proofs.Call.{HonestCall, honestEnd, honest-call}
 
 module _ (l : Ledger) (function caller : ℕ) (arguments : List ℕ) where

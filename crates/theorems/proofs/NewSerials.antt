@@ -1,14 +1,13 @@
 -- From deployment on, the cells of a ledger have serials of calls up to its last, so the next call's serials are new.
-use mathlib.Core.Path.{_≡_, refl, ap, sym, _∙_, subst}
 use mathlib.Core.Bool.{Bool, true, false, cond}
-use mathlib.Core.List.{List, [], _∷_, _++_, map, zipWith}
-use Prim.Native.Nat.{ℕ, zero, suc, _≤_}
+use mathlib.Core.List.{List, [], _∷_, zipWith}
+use Prim.Native.Nat.{ℕ, suc}
 use native.Mathlib.Omega.{arith}
 use Rattle.definitions.specs.Basics.{isZero}
-use Rattle.definitions.specs.Places.{Reader, anyone, only, placeReaders, deployedNumbers}
-use Rattle.definitions.specs.Ledger.{Cell, Content, plain, cell, Ledger, contentAt, contentFor}
-use Rattle.definitions.specs.Calls.{contractIn, contractOfLedger, callNumber, calledFunction, writtenFunction, startOfCall, addressInCall, isDone, afterDone, afterFailed, callWith, deployed, honestParametersOf, honestVariablesOf, ledgerAfterCall}
-use Rattle.definitions.specs.Runs.{Request, Run, runAtDeployment, runAfter}
+use Rattle.definitions.specs.Places.{Reader, anyone, only}
+use Rattle.definitions.specs.Ledger.{Content, plain, cell, Ledger, contentAt, contentFor}
+use Rattle.definitions.specs.Calls.{contractOfLedger, callNumber, calledFunction, writtenFunction, startOfCall, addressInCall, isDone, afterDone, afterFailed, callWith, deployed, honestParametersOf, honestVariablesOf, ledgerAfterCall}
+use Rattle.definitions.specs.Runs.{Request, Run, runAfter}
 use Rattle.theorems.specs.Claims.{SerialUpTo, SerialOf, EveryContent, SerialsUpTo, MadeSerials, runAfterAll}
 use Rattle.theorems.proofs.Serials.{every-none, every-cons, every-append, every-public, walked-state, made-parameters, made-contents, made-variables}
 

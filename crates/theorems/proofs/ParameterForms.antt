@@ -1,18 +1,15 @@
 -- The parameters of an honest call have the forms that a ledger's own test asks, all of them or the public ones alone.
-use mathlib.Core.Path.{_≡_, refl, ap}
+use mathlib.Core.Path.{_≡_, refl}
 use mathlib.Core.Bool.{Bool, true, false, _&&_, cond}
 use mathlib.Core.List.{List, [], _∷_, map}
-use Prim.Native.Nat.{ℕ, zero, suc}
+use Prim.Native.Nat.{ℕ, suc}
 use native.Mathlib.Omega.{arith}
-use borrow.Author.Tests.{eq-eqb}
-use lib.Dec.{eqb}
 use lib.ListN.{length, getD}
-use Rattle.definitions.specs.Syntax.{DataType, Parameter, parameterAt}
+use Rattle.definitions.specs.Syntax.{Parameter, parameterAt}
 use Rattle.definitions.specs.DataTypes.{isOfType}
-use Rattle.definitions.specs.Places.{Reader, anyone, only}
+use Rattle.definitions.specs.Places.{anyone, only}
 use Rattle.definitions.specs.Ledger.{Content, contentFor}
 use Rattle.definitions.specs.Calls.{Form, fits, allFit, parameterForm, publicOf, honestParameters}
-use Rattle.relations.specs.Standing.{Stands}
 use Rattle.typing.proofs.Forms.{stands-fits}
 
 module _ (caller call : ℕ) where

@@ -1,20 +1,18 @@
 -- A call makes cells with its own serials, and the walk makes none: it copies.
-use mathlib.Core.Path.{_≡_, refl, ap, sym, _∙_}
-use mathlib.Core.Bool.{Bool, true, false, cond, not}
-use mathlib.Core.List.{List, [], _∷_, _++_, map, zipWith}
-use Prim.Native.Nat.{ℕ, zero, suc, _+_, _≤_}
-use native.Mathlib.Nat.{le-refl}
-use native.Mathlib.Omega.{arith}
-use lib.ListN.{length, getD, set, replicate}
-use Rattle.definitions.specs.Basics.{isZero, isTrue}
+use mathlib.Core.Path.{refl}
+use mathlib.Core.Bool.{Bool, true, false, cond}
+use mathlib.Core.List.{List, [], _∷_, _++_}
+use Prim.Native.Nat.{ℕ, zero, suc, _+_}
+use lib.ListN.{length, set, replicate}
+use Rattle.definitions.specs.Basics.{isTrue}
 use Rattle.definitions.specs.Syntax.{Name, Statement, Field, Parameter, Scope}
-use Rattle.definitions.specs.Written.{BodyExpression, Command, Variable, supplied, readFrom, guard, Guard, under, Constraint}
+use Rattle.definitions.specs.Written.{BodyExpression, Command, Variable, supplied, readFrom, guard, Guard, under}
 use Rattle.definitions.specs.Rewriting.{Passage, inBody, inBranch, rewriteStatement}
 use Rattle.definitions.specs.Original.{value, placesAfter}
 use Rattle.definitions.specs.Places.{Reader, anyone, only, readerOf, position}
-use Rattle.definitions.specs.Ledger.{Cell, Content, plain, cell, Ledger, State, contentAt, contentFor, contentOf, stateAfter, plainNumber}
+use Rattle.definitions.specs.Ledger.{Content, plain, State, contentAt, contentFor, contentOf, stateAfter, plainNumber}
 use Rattle.definitions.specs.Calls.{honestContent, honestContents, honestVariables, honestParameters, publicOf}
-use Rattle.theorems.specs.Claims.{SerialUpTo, SerialOf, EveryContent}
+use Rattle.theorems.specs.Claims.{SerialOf, EveryContent}
 
 -- Lists all of whose contents have P, where plain contents do.
 module _ (P : Content → Type 0) (plainly : (v : ℕ) → P (plain v)) where

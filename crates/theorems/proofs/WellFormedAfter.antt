@@ -1,29 +1,29 @@
 -- The ledger that a taken call returns passes the ledger's own test again.
-use mathlib.Core.Path.{_≡_, refl, ap, ap₂, sym, _∙_, subst, fun-ext}
-use mathlib.Core.Bool.{Bool, true, false, _&&_, _||_, cond, not}
-use mathlib.Core.List.{List, [], _∷_, map, zipWith}
-use Prim.Native.Nat.{ℕ, zero, suc, _<_, _≤_}
+use mathlib.Core.Path.{_≡_, refl, ap, sym, _∙_, subst, fun-ext}
+use mathlib.Core.Bool.{Bool, true, false, _&&_, _||_, cond}
+use mathlib.Core.List.{List, map}
+use Prim.Native.Nat.{ℕ, suc, _<_, _≤_}
 use native.Mathlib.Omega.{arith}
-use borrow.Author.Tests.{lt-ltb, le-leb, eq-eqb}
-use lib.Dec.{eqb, leb, ltb}
-use lib.ListN.{length, getD}
+use borrow.Author.Tests.{lt-ltb, le-leb}
+use lib.Dec.{leb, ltb}
+use lib.ListN.{length}
 use Rattle.definitions.specs.Basics.{isZero}
-use Rattle.definitions.specs.Syntax.{DataType, Name, meName, finalName, parameterName, Parameter, Field, fieldAt, parameterAt, scopeOf, isFinal}
+use Rattle.definitions.specs.Syntax.{Name, meName, finalName, parameterName, Field, fieldAt, isFinal}
 use Rattle.definitions.specs.Numbers.{checkNumber}
-use Rattle.definitions.specs.Places.{addressIn, finalAddress, placeReaders}
-use Rattle.definitions.specs.Ledger.{Content, Ledger, plainNumber, openedNumber}
-use Rattle.definitions.specs.Calls.{contractOfLedger, calledFunction, lastFunction, lastAddress, plainPlaces, placeForms, parameterForms, variableForms, isBeforeCalls, isAfterDone, isAfterFailed, isAfterCall, isWellFormed, isPlainZero, fits, allFit, publicOf, callNumber, ledgerAfterCall}
+use Rattle.definitions.specs.Places.{finalAddress, placeReaders}
+use Rattle.definitions.specs.Ledger.{Ledger, plainNumber, openedNumber}
+use Rattle.definitions.specs.Calls.{contractOfLedger, calledFunction, lastAddress, isBeforeCalls, isAfterDone, isAfterFailed, isWellFormed, isPlainZero, fits, allFit, callNumber, ledgerAfterCall}
 use Rattle.definitions.specs.Rewriting.{rewriteFunction}
-use Rattle.relations.specs.Environment.{Environment, placeTypes}
+use Rattle.relations.specs.Environment.{Environment}
 use Rattle.relations.specs.Standing.{AllStand, readersOf}
 use Rattle.typing.proofs.Contents.{readers-as, final-plain, standing-fit}
 use Rattle.typing.proofs.Environments.{environment-after}
-use Rattle.typing.proofs.WellFormed.{ledger-accepted, ledger-body-accepted, ledger-final, ledger-numbers-typed, ledger-numbers-length, places-stand}
-use Rattle.typing.proofs.CallEnvironment.{originalAddress, walkAddress, same-address, call-well-formed, caller-below, function-exists, calls-left, argument-count, argument-typed, call-environment}
+use Rattle.typing.proofs.WellFormed.{ledger-accepted, ledger-body-accepted, ledger-numbers-typed, ledger-numbers-length, places-stand}
+use Rattle.typing.proofs.CallEnvironment.{same-address, call-well-formed, caller-below, function-exists, calls-left, argument-count, argument-typed, call-environment}
 use Rattle.simulation.proofs.Held.{formOf, held-fit}
 use Rattle.definitions.specs.Owners.{noLinks}
 use Rattle.theorems.proofs.ParameterForms.{parameters-fit, public-parameters-fit}
-use Rattle.theorems.proofs.HonestCall.{scopeOfCall, bodyOfCall, openedPlaces, addressOfCall, parametersOfCall, endOfHonest, completesHere, numbersAfter, ledgerDone, ledgerFailed, fields-of-call, honest, ledger-after}
+use Rattle.theorems.proofs.HonestCall.{scopeOfCall, bodyOfCall, openedPlaces, addressOfCall, endOfHonest, completesHere, numbersAfter, ledgerDone, ledgerFailed, fields-of-call, honest, ledger-after}
 
 and-true-both : {a b : Bool} → a ≡ true → b ≡ true → (a && b) ≡ true
 and-true-both h k = rw (h, k)

@@ -1,17 +1,15 @@
 -- What the theorems claim of a run: that its ledger stands for the original, and that a call's cells have new serials.
 use mathlib.Core.Path.{_≡_}
-use mathlib.Core.Bool.{Bool, true, false, cond}
+use mathlib.Core.Bool.{true, cond}
 use mathlib.Core.List.{List, [], _∷_}
 use Prim.Native.Nat.{ℕ, suc, _≤_}
 use Rattle.definitions.specs.Basics.{all}
-use Rattle.definitions.specs.Syntax.{Field, Contract}
-use Rattle.definitions.specs.Written.{WrittenFunction}
 use Rattle.definitions.specs.Places.{placeReaders}
 use Rattle.definitions.specs.Original.{originalCompletes}
-use Rattle.definitions.specs.Ledger.{Cell, Content, plain, cell, Ledger, contentAt, constraintHolds}
+use Rattle.definitions.specs.Ledger.{Content, plain, cell, Ledger, contentAt, constraintHolds}
 use Rattle.definitions.specs.Calls.{contractIn, lastAddress, lastFunction, honestParametersOf, honestVariablesOf}
 use Rattle.definitions.specs.Rewriting.{rewriteFunction}
-use Rattle.definitions.specs.Runs.{Request, Run, isTaken, runAfter}
+use Rattle.definitions.specs.Runs.{Request, Run, runAfter}
 use Rattle.relations.specs.Standing.{AllStand}
 
 -- A whole list of calls, one after the other.
