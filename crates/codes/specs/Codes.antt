@@ -1,0 +1,24 @@
+-- Rules on data types and owners, told of their codes.
+use mathlib.Core.Bool.{Bool, _&&_, _||_, cond}
+use Prim.Native.Nat.{ℕ}
+use lib.Dec.{eqb}
+use Rattle.definitions.specs.Basics.{isZero}
+use Rattle.definitions.specs.ContractFile.{isFinalCode}
+use Rattle.definitions.specs.DataTypes.{OperatorClass, arithmetic, order, equality, logic}
+
+abbrev pub fitCodes : OperatorClass → ℕ → ℕ → Bool
+fitCodes arithmetic left right = eqb left 1 && eqb right 1
+fitCodes order left right = eqb left 1 && eqb right 1
+fitCodes equality left right = eqb left right
+fitCodes logic left right = eqb left 0 && eqb right 0
+
+-- A field's owner code: 0, 16+f or 2.
+abbrev pub isFieldCode : ℕ → Bool
+isFieldCode code = isZero code || isFinalCode code || eqb code 2
+
+-- The owner code of a place, from its field's and its key's name; a tag without a name reads as the caller.
+abbrev pub placeCode : ℕ → ℕ → ℕ
+placeCode declared name = cond (eqb declared 0) 0 (cond (eqb declared 2) (cond (eqb name 0) 1 name) declared)
+
+abbrev pub partsCode : ℕ → ℕ → ℕ
+partsCode left right = cond (eqb left 0 && eqb right 0) 0 1

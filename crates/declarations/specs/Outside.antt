@@ -1,0 +1,14 @@
+-- 01, number 3: a field, a parameter and a function that are outside the tables.
+use mathlib.Core.Bool.{Bool, not}
+use Rattle.definitions.specs.Basics.{any}
+use Rattle.definitions.specs.ContractFile.{FieldRecord, ParameterRecord, FunctionRecord}
+use Rattle.definitions.specs.Numbers.{fieldInTables, parameterInTables}
+
+abbrev pub fieldOutside : FieldRecord → Bool
+fieldOutside r = not (fieldInTables r)
+
+abbrev pub parameterOutside : ParameterRecord → Bool
+parameterOutside r = not (parameterInTables r)
+
+abbrev pub functionOutside : FunctionRecord → Bool
+functionOutside r = any parameterOutside (r .parameters)

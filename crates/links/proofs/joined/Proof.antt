@@ -1,0 +1,62 @@
+-- `links::joined` meets its contract: the classes passed are exchanged, those ahead are as before.
+use mathlib.Core.Path.{_≡_, refl, _∙_}
+use Prim.Native.Nat.{ℕ, _≤_, _<_, _-_}
+use native.Mathlib.Omega.{arith}
+use borrow.Author.Needs.{needs}
+use lib.ListN.{length, getD}
+use Rattle.links.proofs.Joining.{UpTo, up-to-start, up-to-next}
+use Rattle.links.proofs.joined.Statement.{statement}
+use Rattle.links.proofs.joined.Tie as tie
+
+abbrev Inv-loop : tie.InvT-loop
+Inv-loop old new next₀ i₀ next i = (i ≤ 256) × (UpTo old new i (next₀ .of) (next .of))
+
+abbrev μ-loop : tie.MeasureT-loop
+μ-loop old new next₀ i₀ next i = 256 - i
+
+long : (c : tie.Start Inv-loop μ-loop) → length (c .args .classes .of) ≡ 256
+long c = search needs
+
+loop-holds : tie.Need-loop-holds Inv-loop μ-loop
+loop-holds c = (omega arith, up-to-start _ _ _)
+
+element-copy-out-exchange : tie.Need-element-copy-out-exchange Inv-loop μ-loop
+element-copy-out-exchange c = search needs
+
+exchange-requires : tie.Need-exchange-requires Inv-loop μ-loop
+exchange-requires c κs = search needs
+
+element-write-next : tie.Need-element-write-next Inv-loop μ-loop
+element-write-next c = search needs
+
+add-i : tie.Need-add-i Inv-loop μ-loop
+add-i c = search needs
+
+loop-less : tie.Need-loop-less Inv-loop μ-loop
+loop-less c = search needs
+
+loop-again : tie.Need-loop-again Inv-loop μ-loop
+loop-again c =
+    let inv = c .before .before .before .loop .inv in
+    let n = long (c .before .before .before .before) in
+    let s = inv .1 .size in
+    let h : c .before .before .before .loop .i < length (c .before .before .before .loop .next .of) = omega arith in
+    (omega arith, up-to-next _ _ _ _ _ _ h (inv .1) (c .exchange .ensures))
+
+returns : tie.Need-returns Inv-loop μ-loop
+returns c = record { each = λ j h. c .before .loop .inv .1 .passed j (omega arith) }
+
+pub joined-spec : {M : Type 1} → statement M
+joined-spec =
+    tie.close
+    (tie.spec
+    Inv-loop
+    μ-loop
+    loop-holds
+    element-copy-out-exchange
+    exchange-requires
+    element-write-next
+    add-i
+    loop-less
+    loop-again
+    returns)

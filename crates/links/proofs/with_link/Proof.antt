@@ -1,0 +1,36 @@
+-- `links::with_link` meets its contract.
+use Rattle.links.proofs.Joining.{no-left-name, no-right-name, with-link-codes}
+use borrow.Author.Needs.{needs}
+use Rattle.links.proofs.with_link.Statement.{statement}
+use Rattle.links.proofs.with_link.Tie as tie
+
+returns : tie.Need-returns
+returns c = no-left-name _ _ (c .before .args .b) (c .if1 .taken)
+
+returns-2 : tie.Need-returns-2
+returns-2 c = no-right-name _ _ _ (c .before .if1 .left) (c .if2 .taken)
+
+element-copy-out-joined : tie.Need-element-copy-out-joined
+element-copy-out-joined c = search needs
+
+element-copy-out-joined-2 : tie.Need-element-copy-out-joined-2
+element-copy-out-joined-2 c = search needs
+
+joined-requires : tie.Need-joined-requires
+joined-requires c κs = search needs
+
+returns-3 : tie.Need-returns-3
+returns-3 c =
+    let s = c .before .before .before .before .before in
+    with-link-codes _ _ _ _ (s .pre .0) (s .pre .1) (c .before .before .before .before .if1 .left) (c .before .before .before .if2 .left) (c .joined .ensures)
+
+pub with-link-spec : {M : Type 1} → statement M
+with-link-spec =
+    tie.close
+    (tie.spec
+    returns
+    returns-2
+    element-copy-out-joined
+    element-copy-out-joined-2
+    joined-requires
+    returns-3)

@@ -1,0 +1,13 @@
+-- `nodes::is_expression_kind` meets its contract.
+use borrow.Author.Tests.{le-leb, lt-leb}
+use Rattle.nodes.proofs.is_expression_kind.Statement.{statement}
+use Rattle.nodes.proofs.is_expression_kind.Tie as tie
+
+returns : tie.Need-returns
+returns c = rw (le-leb _ _ (c .if1 .taken))
+
+returns-2 : tie.Need-returns-2
+returns-2 c = rw (lt-leb _ _ (c .if1 .left))
+
+pub is-expression-kind-spec : {M : Type 1} → statement M
+is-expression-kind-spec = tie.close (tie.spec returns returns-2)

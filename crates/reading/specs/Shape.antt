@@ -1,0 +1,24 @@
+-- 01, Numbers: the sentences 1 to 7, which are told of a file's sections.
+use mathlib.Core.Path.{_≡_}
+use mathlib.Core.Bool.{false}
+use mathlib.Core.List.{List, [], _∷_}
+use Prim.Native.Nat.{ℕ}
+use Rattle.definitions.specs.Basics.{firstThatHolds}
+use Rattle.definitions.specs.ContractFile.{sectionsOf}
+use Rattle.definitions.specs.Numbers.{endsWrongly, countOffLimits, outsideTables, namesNothing, usedOtherThanOnce, tooDeep, wrongSort}
+
+unfoldable pub shapeNumber : List ℕ → ℕ
+shapeNumber file =
+    let s = sectionsOf file in
+    firstThatHolds 1
+    (endsWrongly file ∷ countOffLimits file ∷ outsideTables s ∷ namesNothing s ∷ usedOtherThanOnce s ∷ tooDeep s ∷ wrongSort s ∷ [])
+
+-- None of the sentences 1 to 7 holds of a file.
+pub record WellShaped (file : List ℕ) : Type 0 where
+  pub ends : endsWrongly file ≡ false
+  pub counts : countOffLimits file ≡ false
+  pub tables : outsideTables (sectionsOf file) ≡ false
+  pub numbers : namesNothing (sectionsOf file) ≡ false
+  pub uses : usedOtherThanOnce (sectionsOf file) ≡ false
+  pub depth : tooDeep (sectionsOf file) ≡ false
+  pub sorts : wrongSort (sectionsOf file) ≡ false

@@ -1,0 +1,69 @@
+-- `uses::count_roots` meets its contract.
+use mathlib.Core.List.{map}
+use Prim.Native.Nat.{_+_, _*_, _≤_}
+use native.Mathlib.Omega.{arith}
+use borrow.Author.Needs.{needs}
+use Rattle.definitions.specs.ContractFile.{functionRecords}
+use Rattle.uses.specs.Counting.{Room, rootOf}
+use Rattle.uses.proofs.Laws.{room-less, room-after}
+use Rattle.uses.proofs.Loops.{Leads, leads-all, roots-next, roots-done}
+use Rattle.uses.proofs.count_roots.Statement.{statement}
+use Rattle.uses.proofs.count_roots.Tie as tie
+
+abbrev Inv-loop : tie.InvT-loop
+Inv-loop file from count counts₀ at₀ left₀ counts at left =
+    (Leads counts₀ counts (map rootOf (functionRecords left file at)) (map rootOf (functionRecords count file from))) × (Room counts left)
+    × (at + 513 * left ≤ 200000)
+
+abbrev μ-loop : tie.MeasureT-loop
+μ-loop file from count counts₀ at₀ left₀ counts at left = left
+
+loop-holds : tie.Need-loop-holds Inv-loop μ-loop
+loop-holds c = (leads-all _ _, c .before .pre .1, c .before .pre .0)
+
+function-end-requires : tie.Need-function-end-requires Inv-loop μ-loop
+function-end-requires c κs = search needs
+
+sub-two-bytes-at : tie.Need-sub-two-bytes-at Inv-loop μ-loop
+sub-two-bytes-at c = search needs
+
+two-bytes-at-requires : tie.Need-two-bytes-at-requires Inv-loop μ-loop
+two-bytes-at-requires c κs = search needs
+
+count-use-requires : tie.Need-count-use-requires Inv-loop μ-loop
+count-use-requires c κs = room-less _ _ 1 (c .before .before .before .before .loop .inv .1) (c .before .before .before .loop-test .taken)
+
+sub-left : tie.Need-sub-left Inv-loop μ-loop
+sub-left c = search needs
+
+loop-less : tie.Need-loop-less Inv-loop μ-loop
+loop-less c = search needs
+
+loop-again : tie.Need-loop-again Inv-loop μ-loop
+loop-again c =
+    let turn = c .before .before .before .before in (
+      roots-next _ _ _ _ (c .before .before .before .before .before .before .before .args .file .now) _ (turn .before .loop .inv .0)
+          (turn .loop-test .taken) _ _ (c .before .before .before .function-end .ensures .0) (c .before .before .two-bytes-at .ensures .0) _
+          (c .count-use .ensures),
+      room-after _ _ _ _ _ (c .count-use .ensures) (turn .before .loop .inv .1) (omega arith),
+      omega arith,
+    )
+
+returns : tie.Need-returns Inv-loop μ-loop
+returns c = roots-done _ _ _ _ _ _ (c .before .loop .inv .0) (c .loop-test .left)
+
+pub count-roots-spec : {M : Type 1} → statement M
+count-roots-spec =
+    tie.close
+    (tie.spec
+    Inv-loop
+    μ-loop
+    loop-holds
+    function-end-requires
+    sub-two-bytes-at
+    two-bytes-at-requires
+    count-use-requires
+    sub-left
+    loop-less
+    loop-again
+    returns)
