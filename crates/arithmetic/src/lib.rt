@@ -1,0 +1,66 @@
+// 01, The contract file: "Operators: 0 +, 1 −, 2 ×, 3 /, 4 %, 5 <, 6 ≤, 7 ==, 8 !=, 9 and, 10 or.", worked out on numbers of 32 bits.
+use definitions::difference;
+use definitions::product;
+use definitions::sum;
+ghost use mathlib.Core.Path.{_≡_};
+ghost use mathlib.Core.Bool.{_&&_, _||_};
+ghost use Prim.Native.Nat.{_/_, _%_};
+ghost use Rattle.definitions.specs.Basics.{bit, isTrue};
+ghost use Rattle.definitions.specs.ContractFile.{operatorOf};
+ghost use Rattle.definitions.specs.Original.{operate, negate};
+
+// A bool's number.
+pub fn bit_of(b: bool) -> u32
+    ensures { λ r. ⌜ r ≡ bit b ⌝ }
+{
+    if b { 1 } else { 0 }
+}
+
+// What has no quotient gives 0: the call that divides by 0 fails, and its numbers are given up.
+fn quotient(left: u32, right: u32) -> u32
+    ensures { λ r. ⌜ r ≡ left / right ⌝ }
+{
+    if right == 0 { 0 } else { left / right }
+}
+
+fn rest(left: u32, right: u32) -> u32
+    ensures { λ r. ⌜ r ≡ left % right ⌝ }
+{
+    if right == 0 { left } else { left % right }
+}
+
+fn both(left: u32, right: u32) -> u32
+    ensures { λ r. ⌜ r ≡ bit (isTrue left && isTrue right) ⌝ }
+{
+    if left == 0 { 0 } else { bit_of(right != 0) }
+}
+
+fn either(left: u32, right: u32) -> u32
+    ensures { λ r. ⌜ r ≡ bit (isTrue left || isTrue right) ⌝ }
+{
+    if left == 0 { bit_of(right != 0) } else { 1 }
+}
+
+pub fn negated(part: u32) -> u32
+    ensures { λ r. ⌜ r ≡ negate part ⌝ }
+{
+    bit_of(part == 0)
+}
+
+pub fn operated(code: usize, left: u32, right: u32) -> u32
+    ensures { λ r. ⌜ r ≡ operate (operatorOf code) left right ⌝ }
+{
+    match code {
+        1 => difference(left, right),
+        2 => product(left, right),
+        3 => quotient(left, right),
+        4 => rest(left, right),
+        5 => bit_of(left < right),
+        6 => bit_of(left <= right),
+        7 => bit_of(left == right),
+        8 => bit_of(left != right),
+        9 => both(left, right),
+        10 => either(left, right),
+        _ => sum(left, right),
+    }
+}

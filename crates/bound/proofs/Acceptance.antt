@@ -1,0 +1,206 @@
+-- What an accepted file's counts, roots and children are: numbers 2, 4 and 5 hold nowhere.
+use mathlib.Core.Path.{_≡_, refl, ap, sym, _∙_}
+use mathlib.Core.Bool.{Bool, true, false, _&&_, _||_, cond, not, true≢false}
+use mathlib.Core.List.{List, [], _∷_, _++_, map}
+use Prim.Native.Nat.{ℕ, zero, suc, _+_, _≤_, _<_}
+use native.Mathlib.Nat.{add-zero}
+use native.Mathlib.Omega.{arith}
+use borrow.Author.Tests.{ltb-true, ltb-false, leb-false, lt-ltb, not-false, eqb-true}
+use lib.Dec.{eqb, leb, ltb}
+use lib.ListN.{length, getD, length-map, List·getD-map, List·getD-eq-default}
+use Rattle.definitions.specs.Basics.{force, all, any, anyNumbered, countIf, flatMap, firstThatHolds, isZero}
+use Rattle.definitions.specs.Syntax.{Function}
+use Rattle.definitions.specs.ContractFile.{FieldRecord, FunctionRecord, NodeRecord, Sections, fieldCount, functionCount, nodeCount, nodesAt, functionEnd, fieldRecords, functionRecords, nodeRecords, sectionsOf, fieldOf, parameterOf}
+use Rattle.definitions.specs.Nodes.{kindOf, nodeOfKind, Node, unknownNode, nodeOf, nodeAt, children, expressionParts, statementParts, fieldsNamed, functionOf, contractOf}
+use Rattle.definitions.specs.Numbers.{endsWrongly, countOffLimits, outsideTables, namesNothing, fieldOfDeclaredOwner, usesOf, usedOtherThanOnce, tooDeep, wrongSort, contractSentences, checkNumber}
+use Rattle.trees.specs.Trees.{Falling}
+use Rattle.bound.specs.Sizes.{fewParameters}
+use Rattle.bound.specs.Counting.{Below}
+use Rattle.bound.proofs.Counting.{count-append}
+
+or-left : (a b : Bool) → (a || b) ≡ false → a ≡ false
+or-left true b h = h
+or-left false b h = refl
+
+or-right : (a b : Bool) → (a || b) ≡ false → b ≡ false
+or-right true b h = absurd (true≢false h)
+or-right false b h = h
+
+-- "0 means accepted": none of the sentences holds.
+none-holds : (n : ℕ) (sentences : List Bool) → firstThatHolds (suc n) sentences ≡ 0 → (j : ℕ) → getD sentences j false ≡ false
+unfolding firstThatHolds
+none-holds n [] h j = refl
+none-holds n (true ∷ later) h j = absurd (omega arith)
+none-holds n (false ∷ later) h zero = refl
+none-holds n (false ∷ later) h (suc j) = none-holds (suc n) later h j
+
+none-numbered : {A : Type 0} (test : ℕ → A → Bool) (n : ℕ) (xs : List A) → anyNumbered test n xs ≡ false → (i : ℕ) (d : A) → i < length xs → test (n + i) (getD xs i d) ≡ false
+unfolding anyNumbered
+none-numbered test n [] h i d l = absurd (omega arith)
+none-numbered test n (x ∷ xs) h zero d l = rw (add-zero n) (or-left (test n x) (anyNumbered test (suc n) xs) h)
+none-numbered test n (x ∷ xs) h (suc i) d l =
+    let e : n + suc i ≡ suc n + i = omega arith in
+    rw e (none-numbered test (suc n) xs (or-right (test n x) (anyNumbered test (suc n) xs) h) i d (omega arith))
+
+pub force-is : {A : Type 0} (n : ℕ) (f : ℕ → A) → force n f ≡ f n
+force-is zero f = refl
+force-is (suc n) f = refl
+
+-- As many records as counted.
+fields-length : (n : ℕ) (file : List ℕ) (at : ℕ) → length (fieldRecords n file at) ≡ n
+unfolding fieldRecords
+fields-length zero file at = refl
+fields-length (suc n) file at = ap suc (fields-length n file (at + 3))
+
+functions-length : (n : ℕ) (file : List ℕ) (at : ℕ) → length (functionRecords n file at) ≡ n
+unfolding functionRecords
+functions-length zero file at = refl
+functions-length (suc n) file at =
+    ap suc (ap length (force-is (functionEnd file at) (functionRecords n file)) ∙ functions-length n file (functionEnd file at))
+
+nodes-length : (n : ℕ) (file : List ℕ) (at : ℕ) → length (nodeRecords n file at) ≡ n
+unfolding nodeRecords
+nodes-length zero file at = refl
+nodes-length (suc n) file at = ap suc (nodes-length n file (at + 8))
+
+-- None at or above k: all below k.
+none-above : (k : ℕ) (xs : List ℕ) → any (leb k) xs ≡ false → all (λ x. ltb x k) xs ≡ true
+unfolding any all
+none-above k [] h = refl
+none-above k (x ∷ xs) h = rw (lt-ltb x k (leb-false k x (or-left (leb k x) _ h)), none-above k xs (or-right (leb k x) _ h))
+
+roots-below : (k : ℕ) (rs : List FunctionRecord) → any (λ r. leb k (r .root)) rs ≡ false → Below k (map (λ r. r .root) rs)
+unfolding any Below
+roots-below k [] h = tt
+roots-below k (r ∷ rs) h = (leb-false k (r .root) (or-left (leb k (r .root)) _ h), roots-below k rs (or-right (leb k (r .root)) _ h))
+
+pub few-parameters : (nodes : List Node) (rs : List FunctionRecord) → any (λ r. ltb 8 (length (r .parameters))) rs ≡ false → fewParameters (map (functionOf nodes) rs)
+unfolding any fewParameters
+few-parameters nodes [] h = tt
+few-parameters nodes (r ∷ rs) h =
+    let l = ltb-false 8 (length (r .parameters)) (or-left (ltb 8 (length (r .parameters))) _ h) in
+    let m = length-map (r .parameters) parameterOf in
+    (omega arith, few-parameters nodes rs (or-right (ltb 8 (length (r .parameters))) _ h))
+
+flat-map : {A B C : Type 0} (g : A → B) (f : B → List C) (xs : List A) → flatMap f (map g xs) ≡ flatMap (λ x. f (g x)) xs
+unfolding flatMap
+flat-map g f [] = refl
+flat-map g f (x ∷ xs) = ap (λ ys. f (g x) ++ ys) (flat-map g f xs)
+
+-- A record of no kind, which reads as a node that is not there.
+abbrev noRecord : NodeRecord
+noRecord = record { kind = 0; arg = 0; first = 0; second = 0; third = 0 }
+
+module _ (file : List ℕ) (accepted : checkNumber file ≡ 0) where
+  abbrev sections : Sections
+  sections = sectionsOf file
+
+  abbrev nodes : List Node
+  nodes = map nodeOf (sections .nodes)
+
+  abbrev sentences : List Bool
+  sentences =
+      endsWrongly file ∷ countOffLimits file ∷ outsideTables sections ∷ namesNothing sections ∷ usedOtherThanOnce sections ∷ tooDeep sections ∷ wrongSort sections
+      ∷ contractSentences (contractOf sections)
+
+  no-sentence : (j : ℕ) → getD sentences j false ≡ false
+  unfolding checkNumber
+  no-sentence = none-holds 0 sentences accepted
+
+  pub fields-counted : length (sections .fields) ≡ fieldCount file
+  unfolding sectionsOf
+  fields-counted = fields-length (fieldCount file) file 1
+
+  pub functions-counted : length (sections .functions) ≡ functionCount file
+  unfolding sectionsOf
+  functions-counted = functions-length (functionCount file) file _
+
+  pub nodes-counted : length (sections .nodes) ≡ nodeCount file
+  unfolding sectionsOf
+  nodes-counted = ap length (force-is (nodesAt file + 2) (nodeRecords (nodeCount file) file)) ∙ nodes-length (nodeCount file) file (nodesAt file + 2)
+
+  abbrev manyParameters : Bool
+  manyParameters = any (λ r. ltb 8 (length (r .parameters))) (sections .functions)
+
+  -- Number 2.
+  pub record Counts : Type 0 where
+    pub fields : length (sections .fields) ≤ 64
+    pub functions : length (sections .functions) ≤ 16
+    pub parameters : manyParameters ≡ false
+    pub nodes : length (sections .nodes) ≤ 512
+
+  pub counts : Counts
+  unfolding countOffLimits
+  counts =
+      let off = no-sentence 1 in
+      let four = or-left (ltb 64 (fieldCount file) || isZero (functionCount file) || ltb 16 (functionCount file) || manyParameters) (ltb 512 (nodeCount file)) off in
+      let three = or-left (ltb 64 (fieldCount file) || isZero (functionCount file) || ltb 16 (functionCount file)) manyParameters four in
+      let two = or-left (ltb 64 (fieldCount file) || isZero (functionCount file)) (ltb 16 (functionCount file)) three in
+      let a = fields-counted in
+      let b = functions-counted in
+      let c = nodes-counted in
+      let few = ltb-false 64 (fieldCount file) (or-left (ltb 64 (fieldCount file)) (isZero (functionCount file)) two) in
+      let few₂ = ltb-false 16 (functionCount file) (or-right (ltb 64 (fieldCount file) || isZero (functionCount file)) (ltb 16 (functionCount file)) three) in
+      let few₃ =
+      ltb-false 512 (nodeCount file)
+      (or-right (ltb 64 (fieldCount file) || isZero (functionCount file) || ltb 16 (functionCount file) || manyParameters) (ltb 512 (nodeCount file)) off) in
+      record {
+        fields = omega arith;
+        functions = omega arith;
+        parameters = or-right (ltb 64 (fieldCount file) || isZero (functionCount file) || ltb 16 (functionCount file)) manyParameters four;
+        nodes = omega arith;
+      }
+
+  -- Number 4.
+  abbrev ownersOff : Bool
+  ownersOff = any (λ r. any (leb (length (sections .fields))) (fieldOfDeclaredOwner ((fieldOf r) .owner))) (sections .fields)
+
+  abbrev rootsOff : Bool
+  rootsOff = any (λ r. leb (length (sections .nodes)) (r .root)) (sections .functions)
+
+  abbrev nodeOff : ℕ → NodeRecord → Bool
+  nodeOff n r = any (leb (length (sections .fields))) (fieldsNamed (nodeOf r)) || any (leb n) (children (nodeOf r))
+
+  pub roots-inside : Below (length (sections .nodes)) (map (λ r. r .root) (sections .functions))
+  unfolding namesNothing
+  roots-inside =
+      roots-below (length (sections .nodes)) (sections .functions)
+      (or-right ownersOff rootsOff (or-left (ownersOff || rootsOff) (anyNumbered nodeOff 0 (sections .nodes)) (no-sentence 3)))
+
+  child-below : (n : ℕ) (d : NodeRecord) → n < length (sections .nodes) → any (leb n) (children (nodeOf (getD (sections .nodes) n d))) ≡ false
+  unfolding namesNothing
+  child-below n d l =
+      let r = getD (sections .nodes) n d in
+      let off = none-numbered nodeOff 0 (sections .nodes) (or-right (ownersOff || rootsOff) (anyNumbered nodeOff 0 (sections .nodes)) (no-sentence 3)) n d l in
+      let e : 0 + n ≡ n = omega arith in
+      or-right (any (leb (length (sections .fields))) (fieldsNamed (nodeOf r))) (any (leb n) (children (nodeOf r))) (rw e at off)
+
+  node-at : (n : ℕ) → nodeAt nodes n ≡ nodeOf (getD (sections .nodes) n noRecord)
+  unfolding kindOf nodeOfKind
+  node-at n = List·getD-map nodeOf (sections .nodes) n noRecord
+
+  fall : (n : ℕ) (inside : Bool) → ltb n (length (sections .nodes)) ≡ inside → all (λ child. ltb child n) (children (nodeAt nodes n)) ≡ true
+  unfolding all expressionParts statementParts
+  fall n true e =
+      let h = none-above n _ (child-below n noRecord (ltb-true n (length (sections .nodes)) e)) in
+      rw (node-at n) h
+  fall n false e =
+      let m = length-map (sections .nodes) nodeOf in
+      let l = ltb-false n (length (sections .nodes)) e in
+      let past : length nodes ≤ n = omega arith in
+      rw (List·getD-eq-default nodes unknownNode past)
+
+  pub nodes-fall : Falling nodes
+  nodes-fall = record { below = λ n. fall n (ltb n (length (sections .nodes))) refl }
+
+  -- Number 5.
+  pub used-once : (n : ℕ) → n < length (sections .nodes)
+      → countIf (eqb n) (map (λ r. r .root) (sections .functions)) + countIf (eqb n) (flatMap children nodes) ≤ 1
+  unfolding usedOtherThanOnce usesOf
+  used-once n l =
+      let off = none-numbered (λ m r. not (eqb (countIf (eqb m) (usesOf sections)) 1)) 0 (sections .nodes) (no-sentence 4) n noRecord l in
+      let e : 0 + n ≡ n = omega arith in
+      let one = eqb-true (countIf (eqb n) (usesOf sections)) 1 (not-false _ (rw e at off)) in
+      let parts = count-append (eqb n) (map (λ r. r .root) (sections .functions)) (flatMap (λ r. children (nodeOf r)) (sections .nodes)) in
+      let same = ap (countIf (eqb n)) (flat-map nodeOf children (sections .nodes)) in
+      omega arith

@@ -1,0 +1,5 @@
+pub mod Pieces
+pub mod Functions
+pub mod Counting
+pub mod Acceptance
+pub mod Room

@@ -1,0 +1,31 @@
+-- A function's constraints as flat numbers: guard, variable, owner code and root of each.
+use mathlib.Core.List.{List, [], _∷_, _++_}
+use Prim.Native.Nat.{ℕ, _+_, _-_, _<_}
+use Rattle.definitions.specs.Syntax.{Owner, everyone, ownedBy, Name, meName, finalName, parameterName}
+use Rattle.definitions.specs.ContractFile.{ownerCode}
+use Rattle.definitions.specs.Written.{Claim, equals, opensForCaller, Constraint}
+use Rattle.definitions.specs.WrittenFile.{size, sizes, circuitTree, claimTrees, guardNumber}
+
+abbrev pub claimNumbers : ℕ → Claim → List ℕ
+claimNumbers n (equals i o circuit) = i ∷ ownerCode o ∷ (n + size (circuitTree circuit) - 1) ∷ []
+claimNumbers n (opensForCaller i) = i ∷ 1 ∷ 65535 ∷ []
+
+-- The constraints' first node has number n.
+unfoldable pub constraintNumbers : ℕ → List Constraint → List ℕ
+constraintNumbers n [] = []
+constraintNumbers n (c ∷ cs) = (guardNumber (c .guard) ∷ claimNumbers n (c .claim)) ++ constraintNumbers (n + sizes (claimTrees (c .claim))) cs
+
+-- A name that has an owner code: of a final, a field below 64.
+abbrev pub HasCode : Owner → Type 0
+HasCode everyone = Unit {0}
+HasCode (ownedBy meName) = Unit {0}
+HasCode (ownedBy (finalName f)) = f < 64
+HasCode (ownedBy (parameterName k)) = Unit {0}
+
+abbrev pub ClaimHasCode : Claim → Type 0
+ClaimHasCode (equals i o circuit) = HasCode o
+ClaimHasCode (opensForCaller i) = Unit {0}
+
+pub data AllHaveCodes : List Constraint → Type 0 where
+  none : AllHaveCodes []
+  more : (c : Constraint) (cs : List Constraint) → ClaimHasCode (c .claim) → AllHaveCodes cs → AllHaveCodes (c ∷ cs)

@@ -1,0 +1,5 @@
+pub mod Nodes
+pub mod Statements
+pub mod Declarations
+pub mod Accepted
+pub mod Functions

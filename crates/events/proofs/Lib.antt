@@ -1,0 +1,8 @@
+pub mod Appended
+pub mod Pieces
+pub mod Statements
+pub mod Singles
+pub mod Functions
+pub mod Steady
+pub mod Lengths
+pub mod Parts

@@ -1,0 +1,4 @@
+pub mod Events
+pub mod Making
+pub mod Sizes
+pub mod Parts

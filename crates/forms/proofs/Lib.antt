@@ -1,0 +1,5 @@
+pub mod Bodies
+pub mod Circuits
+pub mod Listed
+pub mod BodyNodes
+pub mod CircuitNodes

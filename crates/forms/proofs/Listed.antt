@@ -1,0 +1,57 @@
+-- Codes of the tables are those of what they stand for, so the nodes of a form keep them.
+use mathlib.Core.Path.{_≡_, refl, ap, sym, _∙_}
+use mathlib.Core.Bool.{Bool, true, false, _&&_, cond}
+use mathlib.Core.List.{List}
+use Prim.Native.Nat.{ℕ, zero, suc, _+_, _*_, _/_, _%_, _<_, _≤_}
+use native.Mathlib.Omega.{arith}
+use borrow.Author.Tests.{leb-true}
+use lib.Dec.{leb}
+use Rattle.definitions.specs.Basics.{isZero}
+use Rattle.definitions.specs.Syntax.{dataTypeCode, operatorCode}
+use Rattle.definitions.specs.ContractFile.{NodeRecord, nodeCount, nodeRecord, dataTypeOf, operatorOf}
+use Rattle.definitions.specs.Nodes.{constantKind, operatorKind, kindOf, constantValue}
+use Rattle.definitions.specs.DataTypes.{isOfType}
+use Rattle.definitions.specs.Numbers.{kindInTables}
+use Rattle.definitions.specs.WrittenFile.{Tree, leaf, constantTree}
+use Rattle.context.specs.Context.{Context}
+use Rattle.context.proofs.Nodes.{listed-is, both-left}
+
+operator-code : (code : ℕ) → code ≤ 10 → operatorCode (operatorOf code) ≡ code
+operator-code zero h = refl
+operator-code (suc zero) h = refl
+operator-code (suc (suc zero)) h = refl
+operator-code (suc (suc (suc zero))) h = refl
+operator-code (suc (suc (suc (suc zero)))) h = refl
+operator-code (suc (suc (suc (suc (suc zero))))) h = refl
+operator-code (suc (suc (suc (suc (suc (suc zero)))))) h = refl
+operator-code (suc (suc (suc (suc (suc (suc (suc zero))))))) h = refl
+operator-code (suc (suc (suc (suc (suc (suc (suc (suc zero)))))))) h = refl
+operator-code (suc (suc (suc (suc (suc (suc (suc (suc (suc zero))))))))) h = refl
+operator-code (suc (suc (suc (suc (suc (suc (suc (suc (suc (suc zero)))))))))) h = refl
+operator-code (suc (suc (suc (suc (suc (suc (suc (suc (suc (suc (suc n))))))))))) h = absurd (omega arith)
+
+type-code : (code : ℕ) → code ≤ 2 → dataTypeCode (dataTypeOf code) ≡ code
+type-code zero h = refl
+type-code (suc zero) h = refl
+type-code (suc (suc zero)) h = refl
+type-code (suc (suc (suc n))) h = absurd (omega arith)
+
+module _ (file : List ℕ) (functionStart nodesStart : ℕ) (context : Context file functionStart nodesStart) (n : ℕ) (inside : n < nodeCount file) (r : NodeRecord)
+    (same : r ≡ nodeRecord file (nodesStart + 2 + 8 * n)) where
+  pub operator-kept : r .kind ≡ 6 → operatorCode (operatorOf (r .arg)) ≡ r .arg
+  unfolding kindInTables kindOf
+  operator-kept e =
+      let h = listed-is file functionStart nodesStart context n inside r same operatorKind (rw e) in
+      operator-code (r .arg) (leb-true (r .arg) 10 (both-left (leb (r .arg) 10) (isZero (r .third)) h))
+
+  -- "constants keep kind 1, arg type, first and second"
+  pub constant-kept : r .kind ≡ 1 → r .first ≤ 65535 → constantTree (dataTypeOf (r .arg)) (r .first + 65536 * r .second) ≡ leaf 1 (r .arg) (r .first) (r .second)
+  unfolding kindInTables kindOf
+  constant-kept e small =
+      let h = listed-is file functionStart nodesStart context n inside r same constantKind (rw e) in
+      let fits = isOfType (dataTypeOf (r .arg)) (constantValue r) in
+      let type : dataTypeCode (dataTypeOf (r .arg)) ≡ r .arg =
+      type-code (r .arg) (leb-true (r .arg) 2 (both-left (leb (r .arg) 2) fits (both-left (leb (r .arg) 2 && fits) (isZero (r .third)) h))) in
+      let low : (r .first + 65536 * r .second) % 65536 ≡ r .first = omega arith in
+      let high : (r .first + 65536 * r .second) / 65536 ≡ r .second = omega arith in
+      rw (type, low, high)

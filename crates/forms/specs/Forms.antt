@@ -1,0 +1,16 @@
+-- The trees of an expression's rewritten form, given the number of its first variable.
+use mathlib.Core.Bool.{Bool, cond}
+use Prim.Native.Nat.{ℕ}
+use Rattle.definitions.specs.Syntax.{Expression, Scope}
+use Rattle.definitions.specs.Rewriting.{inBody, inCircuit}
+use Rattle.definitions.specs.WrittenFile.{Tree, bodyTree, circuitTree}
+
+abbrev pub bodyForm : Scope → Expression → ℕ → Tree
+bodyForm scope e i = bodyTree ((inBody scope e i) .form)
+
+abbrev pub circuitForm : Scope → Expression → ℕ → Tree
+circuitForm scope e i = circuitTree ((inCircuit scope e i) .form)
+
+-- "9 variable first, 10 variable first opened"
+abbrev pub readKind : Bool → ℕ
+readKind public = cond public 9 10

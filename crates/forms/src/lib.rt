@@ -1,0 +1,180 @@
+// 01, Rewriting: the nodes of an expression's form in the body and in a circuit, written behind others.
+use file::node_at;
+use node_output::put_above_one;
+use node_output::put_above_two;
+use node_output::put_leaf;
+use owners::is_public;
+use variable_counts::body_count;
+use variable_counts::circuit_count;
+use variable_counts::is_public_division;
+ghost use mathlib.Core.Path.{_≡_};
+ghost use Prim.Native.Nat.{_+_, _<_, _≤_};
+ghost use lib.ListN.{length};
+ghost use Rattle.definitions.specs.ContractFile.{nodeCount};
+ghost use Rattle.definitions.specs.WrittenFile.{node, nodeBytes};
+ghost use Rattle.trees.specs.Trees.{expressionIn};
+ghost use Rattle.context.specs.Context.{Context, nodesIn, scopeIn};
+ghost use Rattle.buffer.specs.Buffer.{stored};
+ghost use Rattle.node_output.specs.Numbering.{Room, Numbered};
+ghost use Rattle.variable_counts.specs.Counts.{bodyCount, circuitCount};
+ghost use Rattle.forms.specs.Forms.{bodyForm, circuitForm, readKind};
+
+// "9 variable first, 10 variable first opened"
+fn put_read(public: bool, variable: usize, out: &mut [u8], at: usize) -> usize
+    requires { ⌜ at + 8 ≤ length (now out) ⌝ }
+    ensures { λ r. ⌜ (now (out .exit) ≡ stored (now (out .entry)) at (nodeBytes (node (readKind public) 0 variable 0 0))) × (r ≡ 1) ⌝ }
+{
+    if public {
+        put_leaf(9, 0, variable, 0, out, at)
+    } else {
+        put_leaf(10, 0, variable, 0, out, at)
+    }
+}
+
+// The body's form of node n, whose first variable is number i; the answer is how many nodes it has.
+pub fn write_body_form(
+    file: &[u8],
+    function_at: usize,
+    nodes_at: usize,
+    n: usize,
+    i: usize,
+    out: &mut [u8],
+    at: usize,
+    base: usize,
+) -> usize
+    requires { ⌜ (n < nodeCount (now file)) × ((Context (now file) «function_at» «nodes_at») × ((i + bodyCount (scopeIn (now file) «function_at») (expressionIn (nodesIn (now file)) n) ≤ 65535) × (Room (now out) at base (bodyForm (scopeIn (now file) «function_at») (expressionIn (nodesIn (now file)) n) i)))) ⌝ }
+    ensures { λ r. ⌜ Numbered (now (out .entry)) (now (out .exit)) at base (bodyForm (scopeIn (now (file .entry)) «function_at») (expressionIn (nodesIn (now (file .entry))) n) i) r ⌝ }
+{
+    let node = node_at(file, nodes_at, n);
+    let kind = node.kind;
+    let arg = node.arg as u8;
+    match kind {
+        1 => put_leaf(1, arg, node.first, node.second, out, at),
+        3 => put_leaf(3, arg, 0, 0, out, at),
+        4 => {
+            let key = write_body_form(file, function_at, nodes_at, node.first, i, out, at, base);
+            put_above_one(4, arg, key, out, at, base)
+        }
+        5 => put_leaf(5, arg, 0, 0, out, at),
+        6 => {
+            if is_public(file, function_at, nodes_at, n) {
+                let j = i + body_count(file, function_at, nodes_at, node.first);
+                let left = write_body_form(
+                    file,
+                    function_at,
+                    nodes_at,
+                    node.first,
+                    i,
+                    out,
+                    at,
+                    base,
+                );
+                let right = write_body_form(
+                    file,
+                    function_at,
+                    nodes_at,
+                    node.second,
+                    j,
+                    out,
+                    at + 8 * left,
+                    base + left,
+                );
+                put_above_two(6, arg, left, right, out, at, base)
+            } else {
+                put_leaf(9, 0, i, 0, out, at)
+            }
+        }
+        7 => {
+            if is_public(file, function_at, nodes_at, n) {
+                let part = write_body_form(
+                    file,
+                    function_at,
+                    nodes_at,
+                    node.first,
+                    i,
+                    out,
+                    at,
+                    base,
+                );
+                put_above_one(7, 0, part, out, at, base)
+            } else {
+                put_leaf(9, 0, i, 0, out, at)
+            }
+        }
+        8 => put_leaf(9, 0, i, 0, out, at),
+        _ => put_leaf(2, 0, 0, 0, out, at),
+    }
+}
+
+// The circuit's form of node n, whose first variable is number i; the answer is how many nodes it has.
+pub fn write_circuit_form(
+    file: &[u8],
+    function_at: usize,
+    nodes_at: usize,
+    n: usize,
+    i: usize,
+    out: &mut [u8],
+    at: usize,
+    base: usize,
+) -> usize
+    requires { ⌜ (n < nodeCount (now file)) × ((Context (now file) «function_at» «nodes_at») × ((i + circuitCount (scopeIn (now file) «function_at») (expressionIn (nodesIn (now file)) n) ≤ 65535) × (Room (now out) at base (circuitForm (scopeIn (now file) «function_at») (expressionIn (nodesIn (now file)) n) i)))) ⌝ }
+    ensures { λ r. ⌜ Numbered (now (out .entry)) (now (out .exit)) at base (circuitForm (scopeIn (now (file .entry)) «function_at») (expressionIn (nodesIn (now (file .entry))) n) i) r ⌝ }
+{
+    let node = node_at(file, nodes_at, n);
+    let kind = node.kind;
+    let arg = node.arg as u8;
+    match kind {
+        1 => put_leaf(1, arg, node.first, node.second, out, at),
+        3 => put_read(is_public(file, function_at, nodes_at, n), i, out, at),
+        4 => {
+            let j = i + body_count(file, function_at, nodes_at, node.first);
+            put_read(is_public(file, function_at, nodes_at, n), j, out, at)
+        }
+        5 => put_read(is_public(file, function_at, nodes_at, n), i, out, at),
+        6 => {
+            if is_public_division(file, function_at, nodes_at, n, node.arg) {
+                let j = i + body_count(file, function_at, nodes_at, node.first);
+                let k = j + body_count(file, function_at, nodes_at, node.second);
+                put_leaf(9, 0, k, 0, out, at)
+            } else {
+                let j = i + circuit_count(file, function_at, nodes_at, node.first);
+                let left = write_circuit_form(
+                    file,
+                    function_at,
+                    nodes_at,
+                    node.first,
+                    i,
+                    out,
+                    at,
+                    base,
+                );
+                let right = write_circuit_form(
+                    file,
+                    function_at,
+                    nodes_at,
+                    node.second,
+                    j,
+                    out,
+                    at + 8 * left,
+                    base + left,
+                );
+                put_above_two(6, arg, left, right, out, at, base)
+            }
+        }
+        7 => {
+            let part = write_circuit_form(
+                file,
+                function_at,
+                nodes_at,
+                node.first,
+                i,
+                out,
+                at,
+                base,
+            );
+            put_above_one(7, 0, part, out, at, base)
+        }
+        8 => write_circuit_form(file, function_at, nodes_at, node.first, i, out, at, base),
+        _ => put_leaf(2, 0, 0, 0, out, at),
+    }
+}

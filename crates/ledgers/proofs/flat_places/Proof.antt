@@ -1,0 +1,24 @@
+-- The meaning of the ledger names its contents.
+use Rattle.ledgers.specs.Ledgers.{ledgerOf}
+use borrow.Author.Needs.{needs}
+use Rattle.ledgers.proofs.flat_places.Statement.{statement}
+use Rattle.ledgers.proofs.flat_places.Tie as tie
+use Rattle.ledgers.proofs.flat_places.Reads as reads
+use Rattle.ledgers.proofs.flat_places.Lts as lts
+use Rattle.ledgers.proofs.flatten.Reads as flatten-reads
+
+-- src/lib.rt:128:5
+flatten-requires : tie.Need-flatten-requires
+flatten-requires c κs = search needs
+
+-- src/lib.rt:123:1
+same-length : tie.Need-same-length
+same-length c = search needs
+
+-- src/lib.rt:123:1
+returns : tie.Need-returns
+unfolding ledgerOf
+returns c = c .before .before .flatten .ensures
+
+pub flat-places-spec : {M : Type 1} → statement M
+flat-places-spec = tie.close (tie.spec flatten-requires same-length returns)

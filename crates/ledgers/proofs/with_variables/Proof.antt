@@ -1,0 +1,20 @@
+-- The other parts are kept.
+use Rattle.ledgers.specs.Ledgers.{ledgerOf}
+use borrow.Author.Needs.{needs}
+use Rattle.ledgers.proofs.with_variables.Statement.{statement}
+use Rattle.ledgers.proofs.with_variables.Tie as tie
+use Rattle.ledgers.proofs.with_variables.Reads as reads
+use Rattle.ledgers.proofs.with_variables.Lts as lts
+use Rattle.ledgers.proofs.filled.Reads as filled-reads
+
+-- src/lib.rt:160:9
+filled-requires : tie.Need-filled-requires
+filled-requires c κs = search needs
+
+-- src/lib.rt:155:1
+returns : tie.Need-returns
+unfolding ledgerOf
+returns c = rw (c .filled .ensures)
+
+pub with-variables-spec : {M : Type 1} → statement M
+with-variables-spec = tie.close (tie.spec filled-requires returns)

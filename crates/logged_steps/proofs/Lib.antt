@@ -1,0 +1,4 @@
+pub mod Held
+pub mod Logged
+pub mod Readings
+pub mod Within

@@ -1,0 +1,4 @@
+pub mod PerEntry
+pub mod Variables
+pub mod Keys
+pub mod Links

@@ -1,0 +1,2 @@
+pub mod PerEntry
+pub mod Variables

@@ -1,0 +1,4 @@
+pub mod Codes
+pub mod Declared
+pub mod Names
+pub mod Targets

@@ -1,0 +1,148 @@
+-- Laws of the report's lines: from the functions' crossings, line by line, and how long they are at most.
+use mathlib.Core.Path.{_≡_, refl, ap, sym, _∙_}
+use mathlib.Core.Bool.{Bool, true, false, cond}
+use mathlib.Core.List.{List, [], _∷_, _++_, map, append-nil, append-assoc}
+use Prim.Native.Nat.{ℕ, zero, suc, _+_, _*_, _<_, _≤_}
+use native.Mathlib.Numerals.{add-one}
+use native.Mathlib.Omega.{arith}
+use lib.ListN.{length, getD, take, drop, length-append, length-map, take-append-drop, List·getD-map}
+use lib.Seq.{take-suc, take-all, length-take-le, getD-take}
+use Rattle.definitions.specs.Basics.{flatMap}
+use Rattle.definitions.specs.Written.{WrittenContract}
+use Rattle.definitions.specs.Report.{Tally, crossings, comesBefore, insert, sorted, decimal, heading, tallyLine, refusedLine, contractReport}
+use Rattle.append.specs.Append.{Appended}
+use Rattle.append.proofs.Laws.{appended-nothing, appended-length, appended-then}
+use Rattle.tallies.specs.Counts.{talliesFrom, tallyOf, orderedTallies}
+use Rattle.tallies.proofs.Laws.{tallies-are}
+use Rattle.report_text.specs.Lines.{reportLines}
+use Rattle.report_text.proofs.Digits.{digits-length}
+
+-- The report of a rewritten contract, from the functions' crossings.
+pub report-is : (c : WrittenContract) → contractReport c ≡ reportLines (map crossings (c .functions))
+report-is c = ap (λ ts. heading ++ flatMap tallyLine (sorted ts)) (tallies-are 0 (c .functions))
+
+flat-append : {A : Type 0} (f : A → List ℕ) (a b : List A) → flatMap f (a ++ b) ≡ flatMap f a ++ flatMap f b
+unfolding flatMap
+flat-append f [] b = refl
+flat-append f (x ∷ a) b = ap (λ ys. f x ++ ys) (flat-append f a b) ∙ sym (append-assoc (f x) (flatMap f a) (flatMap f b))
+
+-- One line more.
+flat-next : {A : Type 0} (f : A → List ℕ) (ts : List A) (i : ℕ) (d : A) → i < length ts → flatMap f (take (suc i) ts) ≡ flatMap f (take i ts) ++ f (getD ts i d)
+unfolding flatMap
+flat-next f ts i d l =
+    ap (flatMap f) (take-suc ts i d l) ∙ flat-append f (take i ts) (getD ts i d ∷ []) ∙ ap (λ ys. flatMap f (take i ts) ++ ys) (append-nil (f (getD ts i d)))
+
+flat-front : {A : Type 0} (f : A → List ℕ) (ts : List A) (i : ℕ) → length (flatMap f (take i ts)) ≤ length (flatMap f ts)
+flat-front f ts i =
+    let h = ap length (ap (flatMap f) (sym (take-append-drop i ts)) ∙ flat-append f (take i ts) (drop i ts)) in
+    omega (arith, length-append (flatMap f (take i ts)) (flatMap f (drop i ts)))
+
+-- The loop over the lines of an order.
+module _ (counts order : List ℕ) (enough : length counts ≤ length order) where
+  abbrev pub ordered : List Tally
+  ordered = orderedTallies counts (length counts) order
+
+  abbrev pub linesTo : ℕ → List ℕ
+  linesTo i = flatMap tallyLine (take i ordered)
+
+  ordered-length : length ordered ≡ length counts
+  unfolding orderedTallies
+  ordered-length = length-map (take (length counts) order) (tallyOf counts) ∙ length-take-le (length counts) order enough
+
+  line-at : (i : ℕ) → i < length counts → getD ordered i (tallyOf counts 0) ≡ tallyOf counts (getD order i 0)
+  unfolding orderedTallies
+  line-at i l = List·getD-map (tallyOf counts) (take (length counts) order) i 0 ∙ ap (tallyOf counts) (getD-take (length counts) order i 0 l)
+
+  lines-next : (i : ℕ) → i < length counts → linesTo (i + 1) ≡ linesTo i ++ tallyLine (tallyOf counts (getD order i 0))
+  lines-next i l =
+      let n = ordered-length in
+      ap linesTo (add-one i) ∙ flat-next tallyLine ordered i (tallyOf counts 0) (omega arith) ∙ ap (λ t. linesTo i ++ tallyLine t) (line-at i l)
+
+  module _ (held : List ℕ) (from : ℕ) (fits : from + length (flatMap tallyLine ordered) ≤ length held) where
+    pub lines-start : Appended held held from (linesTo 0) from
+    unfolding flatMap
+    lines-start = appended-nothing held from
+
+    pub line-room : (between : List ℕ) (i at count : ℕ) → i < length counts → count ≡ getD counts (getD order i 0) 0 → Appended held between from (linesTo i) at
+        → at + length (tallyLine (record { function = getD order i 0; count = count })) ≤ length between
+    line-room between i at count l e a =
+        rw e (let front = flat-front tallyLine ordered (i + 1) in
+        let next = ap length (lines-next i l) in
+        let both = length-append (linesTo i) (tallyLine (tallyOf counts (getD order i 0))) in
+        let same = appended-length held from between (linesTo i) at a (omega arith) in
+        let place = a .place in
+        omega arith)
+
+    pub line-appended : (between after : List ℕ) (i at count end : ℕ) → i < length counts → count ≡ getD counts (getD order i 0) 0 → Appended held between from (linesTo i) at
+        → Appended between after at (tallyLine (record { function = getD order i 0; count = count })) end → Appended held after from (linesTo (i + 1)) end
+    line-appended between after i at count end l e a c =
+        let b : Appended between after at (tallyLine (tallyOf counts (getD order i 0))) end = rw e at c in
+        let front = flat-front tallyLine ordered i in
+        rw (lines-next i l) (appended-then held from between after (linesTo i) (tallyLine (tallyOf counts (getD order i 0))) at end a (omega arith) b)
+
+    pub lines-done : (after : List ℕ) (i end : ℕ) → length counts ≤ i → Appended held after from (linesTo i) end → Appended held after from (flatMap tallyLine ordered) end
+    lines-done after i end l a = let n = ordered-length in rw (ap (flatMap tallyLine) (take-all i ordered (omega arith))) at a
+
+-- The heading, then the lines in sorted order.
+module _ (counts order held : List ℕ) (fits : length (reportLines counts) ≤ length held)
+    (is-sorted : orderedTallies counts (length counts) order ≡ sorted (talliesFrom 0 counts)) where
+  abbrev inOrder : List ℕ
+  inOrder = flatMap tallyLine (orderedTallies counts (length counts) order)
+
+  same-lines : inOrder ≡ flatMap tallyLine (sorted (talliesFrom 0 counts))
+  same-lines = ap (flatMap tallyLine) is-sorted
+
+  pub lines-room : (between : List ℕ) (at : ℕ) → Appended held between 0 heading at → at + length inOrder ≤ length between
+  lines-room between at a =
+      let n = ap length same-lines in
+      let same = appended-length held 0 between heading at a (omega arith) in
+      let place = a .place in
+      omega arith
+
+  pub report-appended : (between after : List ℕ) (at end : ℕ) → Appended held between 0 heading at → Appended between after at inOrder end → Appended held after 0 (reportLines counts) end
+  report-appended between after at end a b =
+      let c : Appended between after at (flatMap tallyLine (sorted (talliesFrom 0 counts))) end = rw same-lines at b in
+      appended-then held 0 between after heading (flatMap tallyLine (sorted (talliesFrom 0 counts))) at end a (omega arith) c
+
+-- At most twenty digits a number: 42 bytes a line.
+insert-length : (a : Tally) (bs : List Tally) → length (insert a bs) ≡ suc (length bs)
+unfolding insert
+insert-length a [] = refl
+insert-length a (b ∷ bs) = go (comesBefore a b) (insert-length a bs)
+  where
+    go : (t : Bool) → length (insert a bs) ≡ suc (length bs) → length (cond t (a ∷ b ∷ bs) (b ∷ insert a bs)) ≡ suc (suc (length bs))
+    go true h = refl
+    go false h = ap suc h
+
+sorted-length : (ts : List Tally) → length (sorted ts) ≡ length ts
+unfolding sorted
+sorted-length [] = refl
+sorted-length (t ∷ ts) = insert-length t (sorted ts) ∙ ap suc (sorted-length ts)
+
+tallies-length : (n : ℕ) (counts : List ℕ) → length (talliesFrom n counts) ≡ length counts
+unfolding talliesFrom
+tallies-length n [] = refl
+tallies-length n (count ∷ counts) = ap suc (tallies-length (suc n) counts)
+
+line-length : (t : Tally) → length (tallyLine t) ≤ 42
+line-length t =
+    let f = digits-length 20 (t .function) in
+    let c = digits-length 20 (t .count) in
+    let a = length-append (decimal (t .function)) (32 ∷ decimal (t .count)) in
+    let b = length-append (decimal (t .function) ++ (32 ∷ decimal (t .count))) (10 ∷ []) in
+    omega arith
+
+lines-length : (ts : List Tally) → length (flatMap tallyLine ts) ≤ 42 * length ts
+unfolding flatMap
+lines-length [] = omega arith
+lines-length (t ∷ ts) = let h = lines-length ts in let k = line-length t in omega (arith, length-append (tallyLine t) (flatMap tallyLine ts))
+
+pub report-length : (counts : List ℕ) → length counts ≤ 16 → length (reportLines counts) ≤ 691
+report-length counts few =
+    let a = lines-length (sorted (talliesFrom 0 counts)) in
+    let b = sorted-length (talliesFrom 0 counts) in
+    let c = tallies-length 0 counts in
+    omega arith
+
+pub refused-length : (n : ℕ) → length (refusedLine n) ≤ 29
+refused-length n = let h = digits-length 20 n in omega (arith, length-append (decimal n) (10 ∷ []))

@@ -1,0 +1,4 @@
+pub mod Placing
+pub mod Statements
+pub mod Rooms
+pub mod Roots

@@ -1,0 +1,13 @@
+-- One statement that holds no other, with the steps before it, as code reads them from a log.
+use mathlib.Core.List.{List}
+use Prim.Native.Nat.{ℕ}
+use Rattle.definitions.specs.Rewriting.{stepsBefore}
+use Rattle.definitions.specs.WrittenFile.{Tree, commandTree}
+use Rattle.trees.specs.Trees.{statementIn}
+use Rattle.context.specs.Context.{nodesIn, scopeIn}
+use Rattle.statement_forms.specs.Statements.{simple}
+use Rattle.step_output.specs.Steps.{stepsIn}
+
+abbrev pub singleTree : List ℕ → ℕ → List ℕ → ℕ → ℕ → ℕ → ℕ → Tree
+singleTree file functionStart log from left n i =
+    commandTree (stepsBefore (stepsIn file functionStart log from left) ((simple (scopeIn file functionStart) (statementIn (nodesIn file) n) i) .form))

@@ -1,0 +1,12 @@
+-- What the original works out on numbers. Of the addresses that names stand for it asks only the caller's.
+use mathlib.Core.List.{List}
+use Prim.Native.Nat.{ℕ}
+use Rattle.definitions.specs.Syntax.{Name, Expression, Statement}
+use Rattle.definitions.specs.Original.{value, placesAfter}
+use Rattle.context.specs.Context.{fieldsIn}
+
+unfoldable pub valueOf : List ℕ → List ℕ → ℕ → List ℕ → Expression → ℕ
+valueOf file arguments caller numbers e = value (fieldsIn file) (λ (n : Name). caller) arguments numbers e
+
+unfoldable pub numbersAfter : List ℕ → List ℕ → ℕ → List ℕ → Statement → List ℕ
+numbersAfter file arguments caller numbers s = placesAfter (fieldsIn file) (λ (n : Name). caller) arguments numbers s

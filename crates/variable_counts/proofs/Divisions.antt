@@ -1,0 +1,45 @@
+-- The codes of / and % are 3 and 4.
+use mathlib.Core.Path.{_≡_, refl}
+use mathlib.Core.Bool.{Bool, true, false, _&&_}
+use Prim.Native.Nat.{ℕ, zero, suc}
+use native.Mathlib.Omega.{arith}
+use Rattle.definitions.specs.Syntax.{Expression, Scope, isDivision}
+use Rattle.definitions.specs.Owners.{isPublic}
+use Rattle.definitions.specs.ContractFile.{operatorOf}
+
+pub other-operator : (code : ℕ) → (code ≡ 3 → ⊥) → (code ≡ 4 → ⊥) → isDivision (operatorOf code) ≡ false
+other-operator zero h k = refl
+other-operator (suc zero) h k = refl
+other-operator (suc (suc zero)) h k = refl
+other-operator (suc (suc (suc zero))) h k = absurd (h refl)
+other-operator (suc (suc (suc (suc zero)))) h k = absurd (k refl)
+other-operator (suc (suc (suc (suc (suc zero))))) h k = refl
+other-operator (suc (suc (suc (suc (suc (suc zero)))))) h k = refl
+other-operator (suc (suc (suc (suc (suc (suc (suc zero))))))) h k = refl
+other-operator (suc (suc (suc (suc (suc (suc (suc (suc zero)))))))) h k = refl
+other-operator (suc (suc (suc (suc (suc (suc (suc (suc (suc zero))))))))) h k = refl
+other-operator (suc (suc (suc (suc (suc (suc (suc (suc (suc (suc zero)))))))))) h k = refl
+other-operator (suc (suc (suc (suc (suc (suc (suc (suc (suc (suc (suc n))))))))))) h k = refl
+
+-- A public division, by the operator's code.
+module _ (public : Bool) (code : ℕ) where
+  pub divides : (flag : Bool) → flag ≡ public → code ≡ 3 → flag ≡ (public && isDivision (operatorOf code))
+  divides flag h e = rw (e, h) (go public)
+    where
+      go : (b : Bool) → b ≡ (b && true)
+      go true = refl
+      go false = refl
+
+  pub leaves-rest : (flag : Bool) → flag ≡ public → code ≡ 4 → flag ≡ (public && isDivision (operatorOf code))
+  leaves-rest flag h e = rw (e, h) (go public)
+    where
+      go : (b : Bool) → b ≡ (b && true)
+      go true = refl
+      go false = refl
+
+pub neither : (scope : Scope) (e : Expression) (code : ℕ) → (code ≡ 3 → ⊥) → (code ≡ 4 → ⊥) → false ≡ (isPublic scope e && isDivision (operatorOf code))
+neither scope e code h k = rw (other-operator code h k) (go (isPublic scope e))
+  where
+    go : (b : Bool) → false ≡ (b && false)
+    go true = refl
+    go false = refl

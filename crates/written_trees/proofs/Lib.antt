@@ -1,0 +1,9 @@
+pub mod Unfolding
+pub mod Numbering
+pub mod Falls
+pub mod RoundTrip
+pub mod Tables
+pub mod ByKind
+pub mod Read
+pub mod Narrowness
+pub mod Functions
