@@ -1,8 +1,12 @@
 -- Functions on truth values, numbers and lists that the definitions share.
-use mathlib.Core.Bool.{Bool, true, false, _&&_, _||_, cond, not}
-use mathlib.Core.List.{List, [], _∷_, _++_}
-use Prim.Native.Nat.{ℕ, zero, suc, _+_, _/_, _%_, max}
-use lib.Dec.{eqb}
+pub use mathlib.Core.Path.{_≡_}
+pub use mathlib.Core.Bool.{Bool, true, false, _&&_, _||_, cond, not}
+pub use mathlib.Core.List.{List, [], _∷_, _++_, map, zipWith}
+pub use mathlib.Core.Option.{Option, none, some}
+pub use Prim.Native.Nat.{ℕ, zero, suc, _+_, _/_, _%_, max, _*_, _-_}
+pub use lib.Dec.{eqb, leb, ltb}
+pub use lib.ListN.{length, replicate, getD, drop, set}
+pub use lib.Seq.{slice}
 
 -- f at n, with n worked out first. A definition computes by name: a number that a recursion names twice would be worked
 -- out twice at each level.

@@ -1,10 +1,5 @@
 -- 01, Runs and views: deployment, calls with supplied values, the honest ones, and numbers 17 to 20.
-use mathlib.Core.Bool.{Bool, true, false, _&&_, _||_, cond, not}
-use mathlib.Core.List.{List, [], _∷_, _++_, map, zipWith}
-use Prim.Native.Nat.{ℕ, suc, _+_}
-use lib.Dec.{eqb, leb, ltb}
-use lib.ListN.{length, replicate}
-use Rattle.definitions.specs.Basics.{any, countIf, isZero, isTrue, firstThatHolds}
+use Rattle.definitions.specs.Basics.{Bool, true, false, _&&_, _||_, cond, not, List, [], _∷_, _++_, map, zipWith, ℕ, suc, _+_, eqb, leb, ltb, length, replicate, any, countIf, isZero, isTrue, firstThatHolds}
 use Rattle.definitions.specs.Syntax.{DataType, boolean, Name, Expression, Statement, Field, Parameter, Function, Contract, Scope, functionAt, scopeOf, isFinal}
 use Rattle.definitions.specs.ContractFile.{sectionsOf}
 use Rattle.definitions.specs.Nodes.{contractOf}
@@ -165,34 +160,24 @@ module _ (l : Ledger) (function caller : ℕ) where
     abbrev pub isDone : Bool
     isDone = walkCompletes addressInCall ((contractOfLedger l) .fields) parameters (writtenFunction .constraints) startOfCall (writtenFunction .body)
 
-    abbrev pub endOfCall : State
-    endOfCall = stateAfter addressInCall ((contractOfLedger l) .fields) parameters startOfCall (writtenFunction .body)
+    abbrev pub afterCall : ℕ → List Content → State → Ledger
+    afterCall outcome shown end =
+        record {
+          file = l .file;
+          call = suc (l .call);
+          function = function;
+          caller = caller;
+          outcome = outcome;
+          parameters = shown;
+          variables = end .variables;
+          places = end .places;
+        }
 
     abbrev pub afterDone : Ledger
-    afterDone =
-        record {
-          file = l .file;
-          call = suc (l .call);
-          function = function;
-          caller = caller;
-          outcome = 0;
-          parameters = parameters;
-          variables = endOfCall .variables;
-          places = endOfCall .places;
-        }
+    afterDone = afterCall 0 parameters (stateAfter addressInCall ((contractOfLedger l) .fields) parameters startOfCall (writtenFunction .body))
 
     abbrev pub afterFailed : Ledger
-    afterFailed =
-        record {
-          file = l .file;
-          call = suc (l .call);
-          function = function;
-          caller = caller;
-          outcome = 1;
-          parameters = publicOf (calledFunction .parameters) parameters;
-          variables = [];
-          places = l .places;
-        }
+    afterFailed = afterCall 1 (publicOf (calledFunction .parameters) parameters) (record { places = l .places; variables = [] })
 
     unfoldable pub callWith : Ledger
     callWith = cond isDone afterDone afterFailed

@@ -1,11 +1,5 @@
 -- 01, The contract file: its sections as they lie in the bytes, and the codes.
-use mathlib.Core.Bool.{Bool, _&&_, cond, not}
-use mathlib.Core.List.{List, [], _∷_}
-use Prim.Native.Nat.{ℕ, zero, suc, _+_, _*_, _-_}
-use lib.Dec.{eqb, leb, ltb}
-use lib.ListN.{getD, drop}
-use lib.Seq.{slice}
-use Rattle.definitions.specs.Basics.{force}
+use Rattle.definitions.specs.Basics.{Bool, _&&_, cond, not, List, [], _∷_, ℕ, zero, suc, _+_, _*_, _-_, eqb, leb, ltb, getD, drop, slice, force}
 use Rattle.definitions.specs.Syntax.{DataType, boolean, uint, address, Shape, plainField, finalField, mapping, meName, finalName, parameterName, Owner, everyone, ownedBy, FieldOwner, toEveryone, toKey, toFinal, Operator, plus, minus, times, divide, remainder, less, lessOrEqual, equal, unequal, conjunction, disjunction, Field, Parameter}
 
 -- "Numbers of several bytes are low byte first." A byte that is not there reads as 0.

@@ -1,7 +1,5 @@
 -- 01, The contract file: the data types of operators and of expressions, and the values that a type has.
-use mathlib.Core.Bool.{Bool, _&&_}
-use Prim.Native.Nat.{ℕ}
-use lib.Dec.{ltb}
+use Rattle.definitions.specs.Basics.{Bool, _&&_, ℕ, ltb}
 use Rattle.definitions.specs.Syntax.{DataType, boolean, uint, address, Operator, plus, minus, times, divide, remainder, less, lessOrEqual, equal, unequal, conjunction, disjunction, Expression, constant, me, field, entry, parameter, operator, negation, reveal, Scope, fieldAt, parameterAt, sameType}
 
 -- "bool 0 or 1, address 0 to 15"; "Uint arithmetic is modulo 4,294,967,296."

@@ -1,10 +1,5 @@
 -- 01, Runs and views: plain values and cells, the ledger, and the walk of a written body on it.
-use mathlib.Core.Bool.{Bool, true, false, _&&_, _||_, cond, not}
-use mathlib.Core.List.{List}
-use Prim.Native.Nat.{ℕ}
-use lib.Dec.{eqb}
-use lib.ListN.{getD, set}
-use Rattle.definitions.specs.Basics.{all, isTrue}
+use Rattle.definitions.specs.Basics.{Bool, true, false, _&&_, _||_, cond, not, List, ℕ, eqb, getD, set, all, isTrue}
 use Rattle.definitions.specs.Syntax.{Name, meName, Field}
 use Rattle.definitions.specs.Places.{position, Reader, anyone, only, readerOf}
 use Rattle.definitions.specs.Original.{operate, operates, negate}

@@ -1,10 +1,5 @@
 -- 01, The contract file: nodes with their children's numbers, and the trees that they make.
-use mathlib.Core.Bool.{Bool, true, false, cond}
-use mathlib.Core.List.{List, [], _∷_, _++_, map}
-use Prim.Native.Nat.{ℕ, zero, suc, _+_, _*_}
-use lib.Dec.{eqb}
-use lib.ListN.{getD}
-use Rattle.definitions.specs.Basics.{largest}
+use Rattle.definitions.specs.Basics.{Bool, true, false, cond, List, [], _∷_, _++_, map, ℕ, zero, suc, _+_, _*_, eqb, getD, largest}
 use Rattle.definitions.specs.Syntax.{DataType, Owner, everyone, ownedBy, Name, finalName, Operator, Expression, Statement, Function, Contract}
 use Rattle.definitions.specs.ContractFile.{NodeRecord, FunctionRecord, Sections, dataTypeOf, ownerOfCode, operatorOf, fieldOf, parameterOf}
 
@@ -32,11 +27,9 @@ kindOf n =
 pub data ExpressionNode : Type 0 where
   constant : DataType → ℕ → ExpressionNode
   me : ExpressionNode
-  field : ℕ → ExpressionNode
+  field parameter negation : ℕ → ExpressionNode
   entry : ℕ → ℕ → ExpressionNode
-  parameter : ℕ → ExpressionNode
   operator : Operator → ℕ → ℕ → ExpressionNode
-  negation : ℕ → ExpressionNode
   reveal : ℕ → Owner → ExpressionNode
 
 pub data StatementNode : Type 0 where

@@ -1,10 +1,5 @@
 -- 01, Runs and views: "The original is the contract as filed, with a plain value in every place".
-use mathlib.Core.Bool.{Bool, true, _&&_, _||_, cond, not}
-use mathlib.Core.List.{List, [], _∷_, _++_}
-use Prim.Native.Nat.{ℕ, _+_, _*_, _-_, _/_, _%_}
-use lib.Dec.{eqb, leb, ltb}
-use lib.ListN.{getD, set}
-use Rattle.definitions.specs.Basics.{bit, isZero, isTrue}
+use Rattle.definitions.specs.Basics.{Bool, true, _&&_, _||_, cond, not, List, [], _∷_, _++_, ℕ, _+_, _*_, _-_, _/_, _%_, eqb, leb, ltb, getD, set, bit, isZero, isTrue}
 use Rattle.definitions.specs.Syntax.{Name, meName, Operator, plus, minus, times, divide, remainder, less, lessOrEqual, equal, unequal, conjunction, disjunction, Expression, constant, me, field, entry, parameter, operator, negation, reveal, Statement, skip, sequence, assignField, assignEntry, require, conditional, Field, Contract, isDivision, functionAt, scopeOf}
 use Rattle.definitions.specs.Places.{position, addressIn, mayRead, readerOf}
 

@@ -1,6 +1,5 @@
 -- 01, Owners: names, links, and what each expression belongs to.
-use mathlib.Core.Bool.{Bool, true, _&&_, _||_, cond, not}
-use mathlib.Core.Option.{Option, none, some}
+use Rattle.definitions.specs.Basics.{Bool, true, _&&_, _||_, cond, not, Option, none, some}
 use Rattle.definitions.specs.Syntax.{address, Name, meName, finalName, parameterName, Owner, everyone, ownedBy, FieldOwner, toEveryone, toKey, toFinal, equal, conjunction, Expression, constant, me, field, entry, parameter, operator, negation, reveal, Statement, skip, sequence, assignField, assignEntry, require, conditional, Scope, Parameter, fieldAt, parameterAt, sameType, sameName, isEveryone, isFinal, isOperator}
 
 -- Which names are linked.

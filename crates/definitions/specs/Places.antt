@@ -1,9 +1,5 @@
 -- 01, Runs and views: the places of a contract, and the addresses that names stand for in a call.
-use mathlib.Core.Bool.{Bool, true, cond}
-use mathlib.Core.List.{List, [], _∷_, _++_, map}
-use Prim.Native.Nat.{ℕ, zero, suc, _+_}
-use lib.Dec.{eqb}
-use lib.ListN.{getD, drop, replicate}
+use Rattle.definitions.specs.Basics.{Bool, true, cond, List, [], _∷_, _++_, map, ℕ, zero, suc, _+_, eqb, getD, drop, replicate}
 use Rattle.definitions.specs.Syntax.{Name, meName, finalName, parameterName, Owner, everyone, ownedBy, FieldOwner, toEveryone, toKey, toFinal, Field, Scope, fieldAt, parameterAt, isFinal, isMapping}
 
 -- The numbers from n on, as many as told.

@@ -1,9 +1,5 @@
 -- 01, Rewriting (004, figure 5): the rewritten contract of an accepted one.
-use mathlib.Core.Bool.{_&&_, cond}
-use mathlib.Core.List.{List, [], _∷_, _++_, map}
-use mathlib.Core.Option.{none}
-use Prim.Native.Nat.{ℕ, suc, _+_}
-use lib.ListN.{length}
+use Rattle.definitions.specs.Basics.{_&&_, cond, List, [], _∷_, _++_, map, none, ℕ, suc, _+_, length}
 use Rattle.definitions.specs.Syntax.{boolean, meName, Owner, everyone, ownedBy, Operator, Expression, Statement, Field, Parameter, Function, Contract, Scope, fieldAt, isDivision}
 use Rattle.definitions.specs.Owners.{nameOf, ownerOf, placeOwner, isPublic}
 use Rattle.definitions.specs.Written.{BodyExpression, Circuit, Command, Variable, supplied, readFrom, guard, Claim, equals, opensForCaller, Guard, always, under, Constraint, WrittenFunction, WrittenContract}
@@ -20,38 +16,31 @@ pub record Piece (A : Type 0) : Type 0 where
   pub steps : List Step
   pub claims : List Claim
 
+abbrev pub piece : {A : Type 0} → List Variable → A → List Step → List Claim → Piece A
+piece variables form steps claims = record { variables = variables; form = form; steps = steps; claims = claims }
+
 -- "Each function has variables numbered from 0 as they are made": a piece, given the number of its first variable.
 abbrev pub Generator : Type 0 → Type 0
 Generator A = ℕ → Piece A
 
 unfoldable pub kept : {A : Type 0} → A → Generator A
-kept form i = record { variables = []; form = form; steps = []; claims = [] }
+kept form i = piece [] form [] []
 
 unfoldable pub onePart : {A B : Type 0} → (A → B) → Generator A → Generator B
-onePart f part i = let a = part i in record { variables = a .variables; form = f (a .form); steps = a .steps; claims = a .claims }
+onePart f part i = let a = part i in piece (a .variables) (f (a .form)) (a .steps) (a .claims)
 
 -- "Parts are worked out and rewritten first, second, third."
 unfoldable pub twoParts : {A B C : Type 0} → (A → B → C) → Generator A → Generator B → Generator C
 twoParts f first second i =
     let a = first i in
     let b = second (i + length (a .variables)) in
-    record {
-      variables = a .variables ++ b .variables;
-      form = f (a .form) (b .form);
-      steps = a .steps ++ b .steps;
-      claims = a .claims ++ b .claims;
-    }
+    piece (a .variables ++ b .variables) (f (a .form) (b .form)) (a .steps ++ b .steps) (a .claims ++ b .claims)
 
 -- "Supplying makes the variable, then turns its expression into circuit form, then adds a constraint."
 unfoldable pub supplying : Owner → Expression → Generator Circuit → Generator BodyExpression
 supplying o e circuit i =
     let c = circuit (suc i) in
-    record {
-      variables = supplied o e ∷ c .variables;
-      form = BodyExpression.variable i;
-      steps = c .steps;
-      claims = c .claims ++ (equals i o (c .form) ∷ []);
-    }
+    piece (supplied o e ∷ c .variables) (BodyExpression.variable i) (c .steps) (c .claims ++ (equals i o (c .form) ∷ []))
 
 -- A read variable in a circuit: as it stands where plain, opened where a cell.
 abbrev pub readForm : Owner → ℕ → Circuit
@@ -63,12 +52,7 @@ unfoldable pub reading : Owner → Expression → Generator BodyExpression → G
 reading o e value i =
     let v = value i in
     let j = i + length (v .variables) in
-    record {
-      variables = v .variables ++ (readFrom o e ∷ []);
-      form = readForm o j;
-      steps = v .steps ++ (record { variable = j; value = v .form } ∷ []);
-      claims = v .claims;
-    }
+    piece (v .variables ++ (readFrom o e ∷ [])) (readForm o j) (v .steps ++ (record { variable = j; value = v .form } ∷ [])) (v .claims)
 
 module _ (scope : Scope) where
   -- "The circuit keeps .. operators ..; replaces .. a public / or %, by a read variable"
@@ -139,31 +123,26 @@ pub record Passage : Type 0 where
   pub command : Command
   pub constraints : List Constraint
 
+abbrev pub passage : List Variable → Command → List Constraint → Passage
+passage variables command constraints = record { variables = variables; command = command; constraints = constraints }
+
 abbrev pub StatementGenerator : Type 0
 StatementGenerator = Guard → ℕ → Passage
 
 unfoldable pub single : Generator Command → StatementGenerator
-single m g i = let a = m i in record { variables = a .variables; command = stepsBefore (a .steps) (a .form); constraints = heldUnder g (a .claims) }
+single m g i = let a = m i in passage (a .variables) (stepsBefore (a .steps) (a .form)) (heldUnder g (a .claims))
 
 unfoldable pub inSequence : StatementGenerator → StatementGenerator → StatementGenerator
 inSequence first second g i =
     let a = first g i in
     let b = second g (i + length (a .variables)) in
-    record {
-      variables = a .variables ++ b .variables;
-      command = Command.sequence (a .command) (b .command);
-      constraints = a .constraints ++ b .constraints;
-    }
+    passage (a .variables ++ b .variables) (Command.sequence (a .command) (b .command)) (a .constraints ++ b .constraints)
 
 -- "Each branch begins by setting a guard variable of its own to true; constraints inside hold under the innermost guard."
 unfoldable pub inBranch : StatementGenerator → ℕ → Passage
 inBranch inside i =
     let a = inside (under i) (suc i) in
-    record {
-      variables = guard ∷ a .variables;
-      command = Command.sequence (Command.setVariable i (BodyExpression.constant boolean 1)) (a .command);
-      constraints = a .constraints;
-    }
+    passage (guard ∷ a .variables) (Command.sequence (Command.setVariable i (BodyExpression.constant boolean 1)) (a .command)) (a .constraints)
 
 unfoldable pub inBranches : Generator BodyExpression → StatementGenerator → StatementGenerator → StatementGenerator
 inBranches condition then else g i =
@@ -171,11 +150,8 @@ inBranches condition then else g i =
     let j = i + length (c .variables) in
     let a = inBranch then j in
     let b = inBranch else (j + length (a .variables)) in
-    record {
-      variables = c .variables ++ (a .variables ++ b .variables);
-      command = stepsBefore (c .steps) (Command.conditional (c .form) (a .command) (b .command));
-      constraints = heldUnder g (c .claims) ++ (a .constraints ++ b .constraints);
-    }
+    passage (c .variables ++ (a .variables ++ b .variables)) (stepsBefore (c .steps) (Command.conditional (c .form) (a .command) (b .command)))
+    (heldUnder g (c .claims) ++ (a .constraints ++ b .constraints))
 
 unfoldable pub rewriteStatement : Scope → Statement → StatementGenerator
 rewriteStatement scope Statement.skip = single (kept Command.skip)
@@ -192,15 +168,10 @@ privateParameters k (p ∷ ps) = cond (p .private) (k ∷ privateParameters (suc
 
 -- "First, each private parameter is read, with a constraint that it opens for the caller."
 unfoldable pub openings : List ℕ → Generator (Unit {0})
-openings [] i = record { variables = []; form = tt; steps = []; claims = [] }
+openings [] i = piece [] tt [] []
 openings (k ∷ ks) i =
     let r = openings ks (suc i) in
-    record {
-      variables = readFrom (ownedBy meName) (Expression.parameter k) ∷ r .variables;
-      form = tt;
-      steps = record { variable = i; value = BodyExpression.parameter k } ∷ r .steps;
-      claims = opensForCaller i ∷ r .claims;
-    }
+    piece (readFrom (ownedBy meName) (Expression.parameter k) ∷ r .variables) tt (record { variable = i; value = BodyExpression.parameter k } ∷ r .steps) (opensForCaller i ∷ r .claims)
 
 -- "A verify ends the body if any constraint exists."
 abbrev pub withVerify : List Constraint → Command → Command
@@ -211,13 +182,13 @@ withVerify (c ∷ cs) body = Command.sequence body Command.verify
 unfoldable pub rewriteFunction : List Field → Function → WrittenFunction
 rewriteFunction fields g =
     let opening = openings (privateParameters 0 (g .parameters)) 0 in
-    let passage = rewriteStatement (record { fields = fields; parameters = g .parameters }) (g .body) always (length (opening .variables)) in
-    let constraints = heldUnder always (opening .claims) ++ passage .constraints in
+    let inside = rewriteStatement (record { fields = fields; parameters = g .parameters }) (g .body) always (length (opening .variables)) in
+    let constraints = heldUnder always (opening .claims) ++ inside .constraints in
     record {
       parameters = g .parameters;
-      variables = opening .variables ++ passage .variables;
+      variables = opening .variables ++ inside .variables;
       constraints = constraints;
-      body = stepsBefore (opening .steps) (withVerify constraints (passage .command));
+      body = stepsBefore (opening .steps) (withVerify constraints (inside .command));
     }
 
 unfoldable pub rewrite : Contract → WrittenContract

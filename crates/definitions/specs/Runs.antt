@@ -1,11 +1,5 @@
 -- 01, Runs and views: whole lists of calls, with the original beside the ledger, and when two lists are alike for a party.
-use mathlib.Core.Path.{_≡_}
-use mathlib.Core.Bool.{Bool, true, false, _||_, cond, not}
-use mathlib.Core.List.{List, [], _∷_}
-use Prim.Native.Nat.{ℕ}
-use lib.Dec.{eqb}
-use lib.ListN.{getD}
-use Rattle.definitions.specs.Basics.{isZero}
+use Rattle.definitions.specs.Basics.{_≡_, Bool, true, false, _||_, cond, not, List, [], _∷_, ℕ, eqb, getD, isZero}
 use Rattle.definitions.specs.Syntax.{Contract, functionAt, parameterAt}
 use Rattle.definitions.specs.Places.{deployedNumbers}
 use Rattle.definitions.specs.Original.{originalAfter, originalDiscloses}

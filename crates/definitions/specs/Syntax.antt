@@ -1,9 +1,5 @@
 -- 01, The contract file: what a file says, as trees. Codes, widths and layouts are left to the reading and the writing.
-use mathlib.Core.Bool.{Bool, true, false, _||_}
-use mathlib.Core.List.{List, []}
-use Prim.Native.Nat.{ℕ}
-use lib.Dec.{eqb}
-use lib.ListN.{getD}
+use Rattle.definitions.specs.Basics.{Bool, true, false, _||_, List, [], ℕ, eqb, getD}
 
 -- "type (0 bool, 1 uint, 2 address)"
 pub data DataType : Type 0 where
@@ -36,9 +32,8 @@ pub data Operator : Type 0 where
 pub data Expression : Type 0 where
   constant : DataType → ℕ → Expression
   me : Expression
-  field : ℕ → Expression
+  field parameter : ℕ → Expression
   entry : ℕ → Expression → Expression
-  parameter : ℕ → Expression
   operator : Operator → Expression → Expression → Expression
   negation : Expression → Expression
   reveal : Expression → Owner → Expression

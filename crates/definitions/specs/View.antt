@@ -1,10 +1,5 @@
 -- 01, Runs and views: what a party sees, as items and as bytes, and number 21.
-use mathlib.Core.Bool.{_||_, cond, not}
-use mathlib.Core.List.{List, [], _∷_, _++_, map}
-use Prim.Native.Nat.{ℕ}
-use lib.Dec.{eqb, ltb}
-use lib.ListN.{length, drop}
-use Rattle.definitions.specs.Basics.{flatMap, twoBytes, fourBytes, firstThatHolds}
+use Rattle.definitions.specs.Basics.{_||_, cond, not, List, [], _∷_, _++_, map, ℕ, eqb, ltb, length, drop, flatMap, twoBytes, fourBytes, firstThatHolds}
 use Rattle.definitions.specs.Ledger.{Content, plain, cell, Ledger}
 use Rattle.definitions.specs.Calls.{isWellFormed}
 

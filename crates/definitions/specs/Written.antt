@@ -1,18 +1,15 @@
 -- 01, Rewriting: the rewritten contract as trees.
-use mathlib.Core.List.{List}
-use Prim.Native.Nat.{ℕ}
+use Rattle.definitions.specs.Basics.{List, ℕ}
 use Rattle.definitions.specs.Syntax.{DataType, Owner, everyone, ownedBy, Operator, Expression, Parameter, Field}
 
 -- An expression of a written body: "Nodes follow as in input, with 9 variable first".
 pub data BodyExpression : Type 0 where
   constant : DataType → ℕ → BodyExpression
   me : BodyExpression
-  field : ℕ → BodyExpression
+  field parameter variable : ℕ → BodyExpression
   entry : ℕ → BodyExpression → BodyExpression
-  parameter : ℕ → BodyExpression
   operator : Operator → BodyExpression → BodyExpression → BodyExpression
   negation : BodyExpression → BodyExpression
-  variable : ℕ → BodyExpression
 
 -- "The circuit keeps constants, me, operators and not"; "10 variable first opened".
 pub data Circuit : Type 0 where
@@ -20,25 +17,22 @@ pub data Circuit : Type 0 where
   me : Circuit
   operator : Operator → Circuit → Circuit → Circuit
   negation : Circuit → Circuit
-  variable : ℕ → Circuit
-  opened : ℕ → Circuit
+  variable opened : ℕ → Circuit
 
 -- A statement of a written body: ".. 22 variable first set to second, 23 verify".
 pub data Command : Type 0 where
-  skip : Command
+  skip verify : Command
   sequence : Command → Command → Command
   assignField : ℕ → BodyExpression → Command
   assignEntry : ℕ → BodyExpression → BodyExpression → Command
   require : BodyExpression → Command
   conditional : BodyExpression → Command → Command → Command
   setVariable : ℕ → BodyExpression → Command
-  verify : Command
 
 -- "Origins: 0 supplied plain, 1 supplied cell, 2 read plain, 3 read cell, 4 guard." A variable keeps the expression that it is
 -- supplied for or read from, and its owner.
 pub data Variable : Type 0 where
-  supplied : Owner → Expression → Variable
-  readFrom : Owner → Expression → Variable
+  supplied readFrom : Owner → Expression → Variable
   guard : Variable
 
 -- What a constraint says: a variable, with its owner, is a circuit's value; or a variable opens for the caller.

@@ -1,10 +1,5 @@
 -- 01, Rewriting: the written file, to the byte, and what writing does with the lent output.
-use mathlib.Core.Bool.{cond}
-use mathlib.Core.List.{List, [], _∷_, _++_}
-use Prim.Native.Nat.{ℕ, _+_, _-_, _/_, _%_}
-use lib.Dec.{eqb, ltb}
-use lib.ListN.{length, drop}
-use Rattle.definitions.specs.Basics.{any, flatMap, twoBytes, firstThatHolds}
+use Rattle.definitions.specs.Basics.{cond, List, [], _∷_, _++_, ℕ, _+_, _-_, _/_, _%_, eqb, ltb, length, drop, any, flatMap, twoBytes, firstThatHolds}
 use Rattle.definitions.specs.Syntax.{DataType, everyone, ownedBy, Field, Parameter, dataTypeCode, shapeCode, operatorCode}
 use Rattle.definitions.specs.ContractFile.{NodeRecord, sectionsOf, ownerCode, fieldOwnerCode}
 use Rattle.definitions.specs.Nodes.{contractOf}
