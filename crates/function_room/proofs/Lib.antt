@@ -1,0 +1,5 @@
+pub mod Sparse
+pub mod Owners
+pub mod Tables
+pub mod Written
+pub mod Room

@@ -1,0 +1,8 @@
+pub mod Guards
+pub mod Commands
+pub mod Logged
+pub mod Sequences
+pub mod Branches
+pub mod Conditionals
+pub mod Openings
+pub mod Passages

@@ -1,0 +1,3 @@
+pub mod Filling
+pub mod Arguments
+pub mod Numbers

@@ -1,0 +1,15 @@
+-- 01, Numbers: "19. Arguments differ in number from the parameters, or one is outside its type."
+use mathlib.Core.Bool.{Bool, _||_, not}
+use mathlib.Core.List.{List, zipWith}
+use Prim.Native.Nat.{ℕ}
+use lib.Dec.{eqb}
+use lib.ListN.{length}
+use Rattle.definitions.specs.Basics.{any}
+use Rattle.definitions.specs.Syntax.{Parameter}
+use Rattle.definitions.specs.DataTypes.{isOfType}
+
+abbrev pub anyOutside : List Parameter → List ℕ → Bool
+anyOutside parameters arguments = any not (zipWith (λ p v. isOfType (p .type) v) parameters arguments)
+
+abbrev pub argumentsOffFor : List Parameter → List ℕ → Bool
+argumentsOffFor parameters arguments = not (eqb (length arguments) (length parameters)) || anyOutside parameters arguments

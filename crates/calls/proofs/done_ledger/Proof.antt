@@ -1,0 +1,35 @@
+-- `calls::done_ledger` meets its contract.
+use native.Mathlib.Omega.{arith}
+use borrow.Author.Needs.{needs}
+use Rattle.calls.proofs.Ledgers.{call-left, done-after}
+use Rattle.calls.proofs.done_ledger.Statement.{statement}
+use Rattle.calls.proofs.done_ledger.Tie as tie
+
+add-next : tie.Need-add-next
+add-next c = omega (arith, call-left _ (c .before .before .before .before .pre .0 .callLeft))
+
+with-parameters-requires : tie.Need-with-parameters-requires
+with-parameters-requires c κs = search needs
+
+with-variables-requires : tie.Need-with-variables-requires
+with-variables-requires c κs = search needs
+
+with-places-requires : tie.Need-with-places-requires
+with-places-requires c κs = search needs
+
+with-call-requires : tie.Need-with-call-requires
+with-call-requires c κs = search needs
+
+returns : tie.Need-returns
+returns c = done-after _ _ _ _ _ _ _ (c .before .before .before .with-parameters .ensures) _ _ _ (c .before .before .with-variables .ensures) (c .before .with-places .ensures) (c .with-call .ensures)
+
+pub done-ledger-spec : {M : Type 1} → statement M
+done-ledger-spec =
+    tie.close
+    (tie.spec
+    add-next
+    with-parameters-requires
+    with-variables-requires
+    with-places-requires
+    with-call-requires
+    returns)

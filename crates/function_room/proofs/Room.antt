@@ -1,0 +1,179 @@
+-- Each function of an accepted file can be written, behind those before it and alone.
+use mathlib.Core.Path.{_≡_, refl, ap, _∙_}
+use mathlib.Core.Bool.{Bool, true, false, cond}
+use mathlib.Core.List.{List, [], _∷_}
+use Prim.Native.Nat.{ℕ, zero, suc, _+_, _*_, _-_, _<_, _≤_}
+use native.Mathlib.Omega.{arith}
+use lib.ListN.{length, getD, length-map}
+use Rattle.definitions.specs.Basics.{firstThatHolds}
+use Rattle.definitions.specs.Syntax.{Expression, Statement, Parameter, Function, functionAt}
+use Rattle.definitions.specs.ContractFile.{byteAt, functionCount, nodesAt, nodeCount, parameterRecords, parameterOf, sectionsOf}
+use Rattle.definitions.specs.Nodes.{contractOf}
+use Rattle.definitions.specs.Numbers.{endsWrongly, countOffLimits, outsideTables, namesNothing, usedOtherThanOnce, tooDeep, wrongSort, contractSentences, checkNumber}
+use Rattle.definitions.specs.Written.{always}
+use Rattle.definitions.specs.Rewriting.{privateParameters}
+use Rattle.file.proofs.Sections.{count-of-nodes}
+use Rattle.trees.specs.Trees.{statementIn}
+use Rattle.context.specs.Context.{nodesIn, fieldsIn, parametersIn, scopeIn, Context}
+use Rattle.context.specs.Functions.{functionStart, rootAt}
+use Rattle.context.proofs.Accepted.{few-functions, context-of}
+use Rattle.context.proofs.Declarations.{parameters-length}
+use Rattle.context.proofs.Functions.{functions-count, function-in, root-below}
+use Rattle.events.specs.Events.{variableCount}
+use Rattle.events.specs.Sizes.{expressionSize, statementSize}
+use Rattle.events.proofs.Lengths.{statement-length}
+use Rattle.logged_variables.specs.Variables.{ownersFit}
+use Rattle.parameter_output.specs.Parameters.{privateCount}
+use Rattle.bound.specs.Sizes.{bodiesSize}
+use Rattle.bound.proofs.Functions.{rewritten-weight}
+use Rattle.bound.proofs.Room.{nodes-suffice, room-suffices}
+use Rattle.function_room.specs.Functions.{functionIn, privateIn, eventsIn, headingsBefore, nodesBefore, FunctionRoom}
+use Rattle.function_room.proofs.Sparse.{variables-sparse}
+use Rattle.function_room.proofs.Owners.{owners-fit}
+use Rattle.function_room.proofs.Tables.{scope-small, targets-small}
+use Rattle.function_room.proofs.Written.{before-step, headings-before-step, written-length}
+
+-- "0 means accepted": none of the sentences holds.
+none-holds : (n : ℕ) (sentences : List Bool) → firstThatHolds (suc n) sentences ≡ 0 → (j : ℕ) → getD sentences j false ≡ false
+unfolding firstThatHolds
+none-holds n [] h j = refl
+none-holds n (true ∷ later) h j = absurd (omega arith)
+none-holds n (false ∷ later) h zero = refl
+none-holds n (false ∷ later) h (suc j) = none-holds (suc n) later h j
+
+-- Two definitions of a tree's nodes say the same.
+same-expression : (e : Expression) → Rattle.bound.specs.Sizes.expressionSize e ≡ expressionSize e
+unfolding Rattle.bound.specs.Sizes.expressionSize expressionSize
+same-expression (Expression.constant t v) = refl
+same-expression Expression.me = refl
+same-expression (Expression.field f) = refl
+same-expression (Expression.entry f key) = omega (arith, same-expression key)
+same-expression (Expression.parameter k) = refl
+same-expression (Expression.operator o left right) = omega (arith, same-expression left, same-expression right)
+same-expression (Expression.negation part) = omega (arith, same-expression part)
+same-expression (Expression.reveal part o) = omega (arith, same-expression part)
+
+same-statement : (s : Statement) → Rattle.bound.specs.Sizes.statementSize s ≡ statementSize s
+unfolding Rattle.bound.specs.Sizes.statementSize statementSize
+same-statement Statement.skip = refl
+same-statement (Statement.sequence first second) = omega (arith, same-statement first, same-statement second)
+same-statement (Statement.assignField f value) = omega (arith, same-expression value)
+same-statement (Statement.assignEntry f key value) = omega (arith, same-expression key, same-expression value)
+same-statement (Statement.require condition) = omega (arith, same-expression condition)
+same-statement (Statement.conditional condition then else) = omega (arith, same-expression condition, same-statement then, same-statement else)
+
+-- One body has no more nodes than all.
+body-within : (gs : List Function) (f : ℕ) → f < length gs → Rattle.bound.specs.Sizes.statementSize ((functionAt gs f) .body) ≤ bodiesSize gs
+unfolding bodiesSize
+body-within [] f h = absurd (omega arith)
+body-within (g ∷ gs) zero h = omega arith
+body-within (g ∷ gs) (suc f) h = omega (arith, body-within gs f (omega arith))
+
+private-few : (k : ℕ) (ps : List Parameter) → length (privateParameters k ps) ≤ length ps
+unfolding privateParameters
+private-few k [] = omega arith
+private-few k (p ∷ ps) = go (p .private) (private-few (suc k) ps)
+  where
+    go : (b : Bool) → length (privateParameters (suc k) ps) ≤ length ps → length (cond b (k ∷ privateParameters (suc k) ps) (privateParameters (suc k) ps)) ≤ suc (length ps)
+    go true h = omega arith
+    go false h = omega arith
+
+parameters-counted : (file : List ℕ) (at : ℕ) → length (parametersIn file at) ≡ byteAt file at
+unfolding parametersIn
+parameters-counted file at = length-map (parameterRecords (byteAt file at) file (at + 1)) parameterOf ∙ parameters-length (byteAt file at) file (at + 1)
+
+private-within : (file : List ℕ) (at : ℕ) → privateIn file at ≤ byteAt file at
+unfolding privateCount parametersIn
+private-within file at = omega (arith, private-few 0 (parametersIn file at), parameters-counted file at)
+
+-- What stands before a later function is no less than what stands before and in an earlier one.
+module _ (file : List ℕ) where
+  before-grows : (f more : ℕ) → f + more ≤ functionCount file → nodesBefore file f ≤ nodesBefore file (f + more)
+  before-grows f zero h = let e : f + 0 ≡ f = omega arith in rw e (omega arith)
+  before-grows f (suc more) h =
+      let e : f + suc more ≡ suc (f + more) = omega arith in
+      rw e (omega (arith, before-grows f more (omega arith), before-step file (f + more) (omega arith)))
+
+  headings-grow : (f more : ℕ) → f + more ≤ functionCount file → headingsBefore file f ≤ headingsBefore file (f + more)
+  headings-grow f zero h = let e : f + 0 ≡ f = omega arith in rw e (omega arith)
+  headings-grow f (suc more) h =
+      let e : f + suc more ≡ suc (f + more) = omega arith in
+      rw e (omega (arith, headings-grow f more (omega arith), headings-before-step file (f + more) (omega arith)))
+
+module _ (file : List ℕ) (accepted : checkNumber file ≡ 0) where
+  abbrev sentences : List Bool
+  sentences =
+      endsWrongly file ∷ countOffLimits file ∷ outsideTables (sectionsOf file) ∷ namesNothing (sectionsOf file) ∷ usedOtherThanOnce (sectionsOf file) ∷ tooDeep (sectionsOf file)
+      ∷ wrongSort (sectionsOf file) ∷ contractSentences (contractOf (sectionsOf file))
+
+  no-sentence : (j : ℕ) → getD sentences j false ≡ false
+  unfolding checkNumber
+  no-sentence = none-holds 0 sentences accepted
+
+  pub functions-few : functionCount file ≤ 16
+  functions-few = few-functions file (no-sentence 1)
+
+  pub file-fits : headingsBefore file (functionCount file) + 2 + 8 * nodesBefore file (functionCount file) ≤ 49152
+  file-fits = omega (arith, room-suffices file accepted, written-length file)
+
+  module _ (f : ℕ) (inside : f < functionCount file) where
+    abbrev start : ℕ
+    start = functionStart file f
+
+    pub function-context : Context file start (nodesAt file)
+    function-context = context-of file f (no-sentence 1) (no-sentence 2) (no-sentence 3) (no-sentence 6) inside
+
+    pub function-root : rootAt file start < nodeCount file
+    function-root = root-below file f (no-sentence 3) inside
+
+    abbrev body : Statement
+    body = statementIn (nodesIn file) (rootAt file start)
+
+    -- The nodes of the body are nodes of the file.
+    body-small : Rattle.bound.specs.Sizes.statementSize body ≤ 512
+    body-small =
+        let same = ap (λ (g : Function). Rattle.bound.specs.Sizes.statementSize (g .body)) (function-in file f inside) in
+        let counted = functions-count file in
+        let one = body-within ((contractOf (sectionsOf file)) .functions) f (omega arith) in
+        omega (arith, nodes-suffice file accepted, count-of-nodes file, function-context .fewNodes)
+
+    events-few : length (eventsIn file start) ≤ 1536
+    events-few = omega (arith, statement-length (scopeIn file start) body always (privateIn file start), same-statement body, body-small)
+
+    variables-few : privateIn file start + variableCount (eventsIn file start) ≤ 1024
+    variables-few =
+        omega (arith, variables-sparse (scopeIn file start) body always (privateIn file start), same-statement body, body-small, private-within file start, function-context .fewParameters)
+
+    owners-small : ownersFit (eventsIn file start)
+    owners-small =
+        owners-fit (scopeIn file start) (scope-small file start function-context) body always (privateIn file start)
+        (targets-small file start function-context (suc (rootAt file start)) (rootAt file start))
+
+    pub function-room : FunctionRoom file start (headingsBefore file f) (nodesBefore file f)
+    function-room =
+        let more : suc f + (functionCount file - suc f) ≡ functionCount file = omega arith in
+        let nodes = rw more at (before-grows file (suc f) (functionCount file - suc f) (omega arith)) in
+        let headings = rw more at (headings-grow file (suc f) (functionCount file - suc f) (omega arith)) in
+        record {
+          context = function-context;
+          root = function-root;
+          events = events-few;
+          variables = variables-few;
+          owners = owners-small;
+          heading = omega (arith, file-fits, headings-before-step file f inside);
+          nodes = omega (arith, file-fits, before-step file f inside);
+        }
+
+    pub function-room-alone : FunctionRoom file start 0 0
+    function-room-alone =
+        let few = parameters-counted file start in
+        let weight = rewritten-weight (fieldsIn file) 0 (functionIn file start) (omega (arith, function-context .fewParameters)) in
+        record {
+          context = function-context;
+          root = function-root;
+          events = events-few;
+          variables = variables-few;
+          owners = owners-small;
+          heading = omega (arith, body-small);
+          nodes = omega (arith, body-small);
+        }
