@@ -1,21 +1,20 @@
 -- The address of each kind of owner code, and that a list of them gives the address of each name.
 use mathlib.Core.Path.{_≡_, refl, ap, sym, _∙_}
-use mathlib.Core.Bool.{Bool, true, false, _&&_, cond, not}
+use mathlib.Core.Bool.{Bool, true, false, cond, not}
 use mathlib.Core.List.{List}
-use Prim.Native.Nat.{ℕ, zero, suc, _+_, _*_, _-_, _<_, _≤_}
+use Prim.Native.Nat.{ℕ, zero, _+_, _*_, _-_, _<_, _≤_}
 use native.Mathlib.Omega.{arith}
 use borrow.Author.Count.{below-more}
 use borrow.Author.Tests.{eq-eqb, ne-eqb, lt-ltb, le-ltb, le-leb, lt-leb, ltb-true, ltb-false}
-use lib.Dec.{eqb, leb, ltb}
+use lib.Dec.{eqb, ltb}
 use lib.ListN.{length, getD, set, length-set, List·getD-eq-default}
 use lib.Seq.{getD-set-same, getD-set-other}
-use Rattle.definitions.specs.Syntax.{Field, Parameter, plainField, finalField, mapping, fieldAt, parameterAt, isFinal, finalName, parameterName}
-use Rattle.definitions.specs.ContractFile.{byteAt, fieldCount, fieldOf, parameterOf, shapeOf, isFinalCode, isParameterCode}
-use Rattle.definitions.specs.Places.{addressIn, finalAddress, position}
-use Rattle.context.specs.Context.{fieldsIn, parametersIn, scopeIn, fieldRecordAt, parameterRecordAt}
+use Rattle.definitions.specs.Syntax.{Field, Parameter, plainField, finalField, mapping, isFinal, finalName, parameterName}
+use Rattle.definitions.specs.ContractFile.{byteAt, fieldCount, fieldOf, parameterOf, shapeOf}
+use Rattle.definitions.specs.Places.{finalAddress, position}
+use Rattle.context.specs.Context.{fieldsIn, scopeIn}
 use Rattle.context.proofs.Declarations.{field-declared, field-missing, parameter-declared, parameter-missing}
 use Rattle.positions.proofs.Laws.{fields-count}
-use Rattle.circuits.specs.Circuits.{addressFrom}
 use Rattle.circuits.proofs.Addresses.{addresses-are}
 use Rattle.addresses.specs.Addresses.{named, addressOfCode, FewNames, Addressed}
 
@@ -118,6 +117,7 @@ module _ (file : List ℕ) (functionStart caller : ℕ) (arguments places : List
     where
       here : getD after code 0 ≡ coded code
       here = rw s (getD-set-same out code address 0 (omega (arith, p .room)) ∙ e)
+
       earlier : (k : ℕ) → k < code → getD after k 0 ≡ coded k
       earlier k l = rw s (getD-set-other out code k address 0 (λ same. omega arith) ∙ p .below k l)
 
@@ -130,12 +130,16 @@ module _ (file : List ℕ) (functionStart caller : ℕ) (arguments places : List
     where
       atCaller : getD out 1 0 ≡ caller
       atCaller = p .below 1 (omega arith) ∙ sym (code-caller 1 refl)
+
       atFinals : (f : ℕ) → f < 64 → getD out (16 + f) 0 ≡ named file functionStart caller arguments places (finalName f)
       atFinals f l = p .below (16 + f) (omega arith) ∙ sym (code-final (16 + f) f _ (omega arith) (omega arith) (omega arith) refl)
+
       past : (k : ℕ) → 8 ≤ k → getD out (128 + k) 0 ≡ named file functionStart caller arguments places (parameterName k)
       past k l = List·getD-eq-default out 0 (omega (arith, p .room)) ∙ parameter-absent k (omega (arith, few .fewParameters))
+
       inside : (k : ℕ) → k < 8 → getD out (128 + k) 0 ≡ named file functionStart caller arguments places (parameterName k)
       inside k l = p .below (128 + k) (omega arith) ∙ sym (code-parameter (128 + k) k _ (omega arith) (omega arith) (omega arith) refl)
+
       atParameters : (k : ℕ) → getD out (128 + k) 0 ≡ named file functionStart caller arguments places (parameterName k)
       atParameters k = either (ltb k 8) refl
         where

@@ -1,9 +1,9 @@
 -- The numbers of contents, one after another.
-use mathlib.Core.Path.{_≡_, refl, ap, sym, _∙_}
-use mathlib.Core.List.{List, [], _∷_, map}
-use Prim.Native.Nat.{ℕ, suc, _+_, _/_, _<_, _≤_}
+use mathlib.Core.Path.{_≡_, ap, sym, _∙_}
+use mathlib.Core.List.{List, map}
+use Prim.Native.Nat.{ℕ, _+_, _/_, _<_, _≤_}
 use native.Mathlib.Omega.{arith}
-use lib.ListN.{length, getD, take, set, length-map, length-set, List·getD-map}
+use lib.ListN.{length, take, set, length-map, List·getD-map}
 use lib.Seq.{take-all}
 use Rattle.definitions.specs.Ledger.{Content, plain, contentAt}
 use Rattle.contents.specs.Contents.{contentsOf}

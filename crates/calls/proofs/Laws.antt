@@ -6,47 +6,63 @@ use Prim.Native.Nat.{ℕ, _<_}
 use Rattle.definitions.specs.Syntax.{Name, Function, Scope, functionAt}
 use Rattle.definitions.specs.ContractFile.{functionCount}
 use Rattle.definitions.specs.Nodes.{contractOf}
-use Rattle.definitions.specs.Written.{WrittenFunction}
 use Rattle.definitions.specs.Rewriting.{rewriteFunction}
 use Rattle.definitions.specs.Places.{addressIn}
 use Rattle.definitions.specs.Ledger.{Content, Ledger, State, plainNumber, stateAfter, walkCompletes}
 use Rattle.definitions.specs.Calls.{contractIn, publicOf, callWith}
 use Rattle.context.specs.Context.{fieldsIn, parametersIn, scopeIn}
 use Rattle.context.specs.Functions.{functionStart}
-use Rattle.context.proofs.Functions.{function-in, fields-in}
+use Rattle.context.proofs.Functions.{function-in}
+use Rattle.walk.specs.Walk.{Ran}
 use Rattle.function_room.specs.Functions.{functionIn, writtenIn}
 use Rattle.calls.specs.Calls.{doneLedger, failedLedger}
 
 module _ (l : Ledger) (function caller : ℕ) (parameters variables : List Content) where
-  abbrev start : State
-  start = record { places = l .places; variables = variables }
+  -- The ledger after a call of one function of a file, on places and with addresses that are given.
+  calledAs : List ℕ → List Content → (Name → ℕ) → Function → Ledger
+  calledAs file places address g =
+      let w = rewriteFunction (fieldsIn file) g in
+      let start : State = record { places = places; variables = variables } in
+      cond (walkCompletes address (fieldsIn file) parameters (w .constraints) start (w .body))
+      (doneLedger l function caller parameters (stateAfter address (fieldsIn file) parameters start (w .body)))
+      (failedLedger l function caller (publicOf (g .parameters) parameters))
 
-  -- Whether the walk of a written function completes, and where it ends.
-  abbrev pub isWalked : (Name → ℕ) → WrittenFunction → Bool
-  isWalked address w = walkCompletes address (fieldsIn (l .file)) parameters (w .constraints) start (w .body)
+  addressOf : List ℕ → List Content → Function → Name → ℕ
+  addressOf file places g =
+      addressIn (record { fields = fieldsIn file; parameters = g .parameters }) caller (map plainNumber parameters) (map plainNumber places)
 
-  abbrev pub ended : (Name → ℕ) → WrittenFunction → State
-  ended address w = stateAfter address (fieldsIn (l .file)) parameters start (w .body)
+  whole : List ℕ → ℕ → List Content → Ledger
+  whole file at places = calledAs file places (addressOf file places (functionIn file at)) (functionIn file at)
 
-  calledAs : (Name → ℕ) → Function → Ledger
-  calledAs address g =
-      let w = rewriteFunction (fieldsIn (l .file)) g in
-      cond (isWalked address w) (doneLedger l function caller parameters (ended address w)) (failedLedger l function caller (publicOf (g .parameters) parameters))
-
-  addressOf : Function → Name → ℕ
-  addressOf g = addressIn (record { fields = fieldsIn (l .file); parameters = g .parameters }) caller (map plainNumber parameters) (map plainNumber (l .places))
-
-  call-as : callWith l function caller parameters variables ≡ calledAs (addressOf (functionAt ((contractIn (l .file)) .functions) function)) (functionAt ((contractIn (l .file)) .functions) function)
+  call-as : let g = functionAt ((contractIn (l .file)) .functions) function in
+      callWith l function caller parameters variables ≡ calledAs (l .file) (l .places) (addressOf (l .file) (l .places) g) g
   unfolding callWith fieldsIn contractOf calledAs addressOf
   call-as = refl
 
-  -- The call, on the function as it stands in the file, with addresses that are those of its names.
-  pub call-is : (address : Name → ℕ) → function < functionCount (l .file)
-      → address ≡ addressIn (scopeIn (l .file) (functionStart (l .file) function)) caller (map plainNumber parameters) (map plainNumber (l .places))
-      → callWith l function caller parameters variables
-      ≡ cond (isWalked address (writtenIn (l .file) (functionStart (l .file) function))) (doneLedger l function caller parameters (ended address (writtenIn (l .file) (functionStart (l .file) function))))
-      (failedLedger l function caller (publicOf (parametersIn (l .file) (functionStart (l .file) function)) parameters))
-  unfolding calledAs addressOf
-  call-is address inside same =
-      call-as ∙ ap (λ (g : Function). calledAs (addressOf g) g) (function-in (l .file) function inside)
-      ∙ ap (λ (a : Name → ℕ). calledAs a (functionIn (l .file) (functionStart (l .file) function))) (sym same)
+  call-whole : function < functionCount (l .file) → callWith l function caller parameters variables ≡ whole (l .file) (functionStart (l .file) function) (l .places)
+  unfolding whole
+  call-whole inside =
+      call-as ∙ ap (λ (g : Function). calledAs (l .file) (l .places) (addressOf (l .file) (l .places) g) g) (function-in (l .file) function inside)
+
+  -- The call as code finds it: the file, the function's place, the places and the addresses are known by equations.
+  module _ (file : List ℕ) (at : ℕ) (places : List Content) (address : Name → ℕ) (inside : function < functionCount (l .file)) (same : file ≡ l .file)
+      (begins : at ≡ functionStart file function) (stand : places ≡ l .places)
+      (named : address ≡ addressIn (scopeIn file at) caller (map plainNumber parameters) (map plainNumber places)) where
+    call-found : callWith l function caller parameters variables ≡ calledAs file places address (functionIn file at)
+    unfolding whole addressOf
+    call-found =
+        call-whole inside ∙ ap (λ (f : List ℕ). whole f (functionStart f function) (l .places)) (sym same) ∙ ap (λ (a : ℕ). whole file a (l .places)) (sym begins)
+        ∙ ap (whole file at) (sym stand) ∙ ap (λ (a : Name → ℕ). calledAs file places a (functionIn file at)) (sym named)
+
+    module _ (r : Bool) (end : State)
+        (ran : Ran (walkCompletes address (fieldsIn file) parameters ((writtenIn file at) .constraints) (record { places = places; variables = variables }) ((writtenIn file at) .body))
+        (stateAfter address (fieldsIn file) parameters (record { places = places; variables = variables }) ((writtenIn file at) .body)) end r) where
+      pub call-done : r ≡ true → (after : Ledger) → after ≡ doneLedger l function caller parameters end → after ≡ callWith l function caller parameters variables
+      unfolding calledAs
+      call-done yes-it-is after made =
+          made ∙ ap (doneLedger l function caller parameters) (ran .state yes-it-is) ∙ sym (call-found ∙ rw (sym (ran .done) ∙ yes-it-is))
+
+      pub call-failed : r ≡ false → (after : Ledger) → after ≡ failedLedger l function caller (publicOf (parametersIn file at) parameters)
+          → after ≡ callWith l function caller parameters variables
+      unfolding calledAs
+      call-failed not-done after made = made ∙ sym (call-found ∙ rw (sym (ran .done) ∙ not-done))

@@ -1,14 +1,14 @@
 -- The ledgers after a call, put together part by part.
 use mathlib.Core.Path.{_≡_, refl, ap, ap₂, _∙_}
 use mathlib.Core.List.{List, [], _∷_}
-use Prim.Native.Nat.{ℕ, zero, suc, _+_, _<_, _≤_}
+use Prim.Native.Nat.{ℕ, zero, suc, _+_, _*_, _/_, _<_, _≤_}
 use native.Mathlib.Omega.{arith}
 use lib.ListN.{length, take}
 use Rattle.definitions.specs.Ledger.{Content, Ledger}
 use Rattle.ledgers.specs.declared.Ledger as code
 use Rattle.ledgers.specs.Ledgers.{ledgerOf, withCall, withParameters, withVariables, withPlaces}
 use Rattle.contents.specs.Contents.{contentsOf}
-use Rattle.calls.specs.Calls.{doneLedger, failedLedger}
+use Rattle.calls.specs.Calls.{doneLedger, failedLedger, Held}
 
 pub call-of : (l : code.Ledger) → (ledgerOf l) .call ≡ l .call
 unfolding ledgerOf
@@ -40,3 +40,9 @@ pub taken-length : (n : ℕ) (xs : List ℕ) → n ≤ length xs → n ≡ lengt
 taken-length zero xs h = refl
 taken-length (suc n) [] h = absurd (omega arith)
 taken-length (suc n) (x ∷ xs) h = ap suc (taken-length n xs (omega arith))
+
+-- What at most forty numbers show is held, as parameters and as variables.
+pub shown-held : (l : Ledger) (n : ℕ) (flat : List ℕ) → l .call < 65535 → 5 * n ≤ length flat → length flat ≤ 40 → Held l (take (5 * n) flat) (take (5 * n) flat)
+shown-held l n flat left inside few =
+    let long = taken-length (5 * n) flat inside in
+    record { parameterRoom = omega (arith, long); variableRoom = omega (arith, long); callLeft = left }

@@ -1,20 +1,32 @@
 // 01, Runs and views: a call with given parameters and supplied values: the written body walked, and the ledger after it.
 use addresses::put_addresses;
 use call_numbers::plain_numbers;
+use call_parameters::put_public;
+use file::read_layout;
+use function_walk::walk_function;
+use functions::function_start;
 use ledgers::Ledger;
+use ledgers::at_most;
+use ledgers::flat_places;
 use ledgers::with_call;
 use ledgers::with_parameters;
 use ledgers::with_places;
 use ledgers::with_variables;
 ghost use mathlib.Core.Path.{_≡_};
 ghost use mathlib.Core.List.{map};
-ghost use Prim.Native.Nat.{_≤_, _/_};
+ghost use Prim.Native.Nat.{_*_, _<_, _≤_, _/_, min};
 ghost use lib.ListN.{length};
 ghost use Rattle.definitions.specs.Ledger.{plainNumber};
 ghost use Rattle.contents.specs.Contents.{contentsOf};
 ghost use Rattle.addresses.specs.Addresses.{AddressRoom, Addressed};
 ghost use Rattle.ledgers.specs.Ledgers.{ledgerOf};
-ghost use Rattle.calls.specs.Calls.{doneLedger, failedLedger, Held};
+ghost use Rattle.definitions.specs.ContractFile.{nodesAt};
+ghost use Rattle.definitions.specs.Calls.{publicOf, callWith};
+ghost use Rattle.context.specs.Context.{parametersIn};
+ghost use Rattle.evaluation.specs.Evaluation.{stateOf};
+ghost use Rattle.function_room.specs.Functions.{FunctionRoom};
+ghost use Rattle.call_parameters.specs.Parameters.{PublicRoom};
+ghost use Rattle.calls.specs.Calls.{doneLedger, failedLedger, Held, Callable, Walked};
 
 fn done_ledger(
     l: Ledger,
@@ -71,4 +83,123 @@ fn call_addresses(
         &numbers[..many],
         out,
     );
+}
+
+// The memory that a walk needs is made here.
+fn walk_called(
+    file: &[u8],
+    function_at: usize,
+    nodes_at: usize,
+    addresses: &[u32],
+    parameters: &[u32],
+    places: &mut [u32],
+    variables: &mut [u32],
+) -> bool
+    requires { ⌜ («nodes_at» ≡ nodesAt (now file)) × (FunctionRoom (now file) «function_at» 0 0) ⌝ }
+    ensures { λ r. ⌜ Walked (now (file .entry)) «function_at» (now (addresses .entry)) (now (parameters .entry)) (stateOf (now (places .entry)) (now (variables .entry))) (stateOf (now (places .exit)) (now (variables .exit))) r ⌝ }
+{
+    let mut log = [0u16; 7680];
+    let mut numbers = [0u16; 6176];
+    let mut scratch = [0u16; 7680];
+    let mut roots = [0u16; 1544];
+    let mut nodes = [0u8; 49152];
+    walk_function(
+        file,
+        function_at,
+        nodes_at,
+        addresses,
+        &mut log[..],
+        &mut numbers[..],
+        &mut scratch[..],
+        &mut roots[..],
+        &mut nodes[..],
+        parameters,
+        places,
+        variables,
+    )
+}
+
+// What a failed call shows: its public parameters.
+fn failed_call(
+    l: Ledger,
+    file: &[u8],
+    function_at: usize,
+    function: u8,
+    caller: u8,
+    parameters: &[u32],
+) -> Ledger
+    requires { ⌜ (PublicRoom (now file) «function_at» (now parameters) (now parameters)) × ((ledgerOf l) .call < 65535) ⌝ }
+    ensures { λ r. ⌜ ledgerOf r ≡ failedLedger (ledgerOf l) function caller (publicOf (parametersIn (now (file .entry)) «function_at») (contentsOf (now (parameters .entry)))) ⌝ }
+{
+    let mut shown = [0u32; 40];
+    let count = put_public(file, function_at, parameters, &mut shown[..]);
+    let end = 5 * count;
+    failed_ledger(l, function, caller, &shown[..end])
+}
+
+// The call on the ledger's file, and on its places, for which there is room.
+fn call_on(
+    l: Ledger,
+    file: &[u8],
+    function: u8,
+    caller: u8,
+    parameters: &[u32],
+    variables: &mut [u32],
+    places: &mut [u32],
+) -> Ledger
+    requires { ⌜ ((now file ≡ (ledgerOf l) .file) × (Callable (ledgerOf l) function (now parameters) (now variables))) × (length (now places) ≡ 5 * min (l .«place_count») 1024) ⌝ }
+    ensures { λ r. ⌜ ledgerOf r ≡ callWith (ledgerOf l) function caller (contentsOf (now (parameters .entry))) (contentsOf (now (variables .entry))) ⌝ }
+{
+    let function_at = function_start(file, function);
+    let layout = read_layout(file);
+    let nodes_at = layout.nodes_at;
+    flat_places(l, places);
+    let mut addresses = [0u32; 136];
+    call_addresses(
+        file,
+        function_at,
+        caller,
+        parameters,
+        places,
+        &mut addresses[..],
+    );
+    if walk_called(
+        file,
+        function_at,
+        nodes_at,
+        &addresses[..],
+        parameters,
+        places,
+        variables,
+    ) {
+        done_ledger(l, function, caller, parameters, variables, places)
+    } else {
+        failed_call(l, file, function_at, function, caller, parameters)
+    }
+}
+
+// "A call walks the function's written body on the ledger's plain values and cells", with these parameters and supplied values.
+pub fn call_with(
+    l: Ledger,
+    function: u8,
+    caller: u8,
+    parameters: &[u32],
+    variables: &mut [u32],
+) -> Ledger
+    requires { ⌜ Callable (ledgerOf l) function (now parameters) (now variables) ⌝ }
+    ensures { λ r. ⌜ ledgerOf r ≡ callWith (ledgerOf l) function caller (contentsOf (now (parameters .entry))) (contentsOf (now (variables .entry))) ⌝ }
+{
+    let bytes = l.file;
+    let length = at_most(l.file_length, 4596);
+    let mut places = [0u32; 5120];
+    let many = 5 * at_most(l.place_count, 1024);
+    call_on(
+        l,
+        &bytes[..length],
+        function,
+        caller,
+        parameters,
+        variables,
+        &mut places[..many],
+    )
 }

@@ -6,16 +6,13 @@ use native.Mathlib.Omega.{arith}
 use native.Mathlib.Numerals.{add-one}
 use lib.ListN.{length}
 use Rattle.definitions.specs.Basics.{flatMap}
-use Rattle.definitions.specs.WrittenFile.{Tree, size, sizes, numbered, numberedAll, nodeBytes}
+use Rattle.definitions.specs.WrittenFile.{size, sizes, numbered, numberedAll, nodeBytes}
 use Rattle.buffer.specs.Buffer.{stored}
 use Rattle.buffer.proofs.Laws.{stored-nothing, stored-length}
 use Rattle.node_output.specs.Numbering.{treeBytes, Room, Numbered}
 use Rattle.node_output.proofs.Laws.{nodes-append, bytes-length, size-positive, run-then, numbered-keeps}
 use Rattle.circuit_output.specs.declared.Circuits.{Circuits}
 use Rattle.circuit_output.specs.Circuits.{LoggedClaim, treesOf, four, fourOf, foursOf, CircuitsRoom, CircuitPut, CircuitsPut}
-
-pub some-nodes : (out after : List ℕ) (at base : ℕ) (tree : Tree) (nodes : ℕ) → Numbered out after at base tree nodes → 1 ≤ nodes
-some-nodes out after at base tree nodes w = omega (arith, w .nodes, size-positive tree)
 
 module _ (out fours : List ℕ) (at base place : ℕ) where
   pub room-same : (claims others : List LoggedClaim) → claims ≡ others → CircuitsRoom out fours at base place claims → CircuitsRoom out fours at base place others
@@ -37,10 +34,10 @@ module _ (out fours : List ℕ) (at base place : ℕ) where
     pub room-four : place + 4 ≤ length fours
     room-four = omega (arith, room .space)
 
-    module _ (between foursBetween : List ℕ) (nodes : ℕ) (w : CircuitPut out between fours foursBetween at base place c nodes) where
-      pub root-fits : (1 ≤ nodes) × (base + nodes ≤ 65535)
-      root-fits = (omega (arith, w .circuit .nodes, size-positive (c .tree)), omega (arith, w .circuit .nodes, room-circuit .numbers))
+    pub root-fits : (between : List ℕ) (nodes : ℕ) → Numbered out between at base (c .tree) nodes → (1 ≤ nodes) × (base + nodes ≤ 65535)
+    root-fits between nodes w = (omega (arith, w .nodes, size-positive (c .tree)), omega (arith, w .nodes, room-circuit .numbers))
 
+    module _ (between foursBetween : List ℕ) (nodes : ℕ) (w : CircuitPut out between fours foursBetween at base place c nodes) where
       pub room-circuits : CircuitsRoom between foursBetween (at + 8 * nodes) (base + nodes) (place + 4) claims
       unfolding sizes
       room-circuits =

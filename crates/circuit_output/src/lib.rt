@@ -51,7 +51,14 @@ fn put_claim(log: &[u16], from: usize, root: u16, numbers: &mut [u16], noted: us
     requires { ⌜ (from + 5 ≤ length (now log)) × (noted + 4 ≤ length (now numbers)) ⌝ }
     ensures { λ _. ⌜ now (numbers .exit) ≡ stored (now (numbers .entry)) noted (four (getD (now (log .entry)) (from + 4) 0) (getD (now (log .entry)) (from + 1) 0) (getD (now (log .entry)) (from + 2) 0) root) ⌝ }
 {
-    put_four(numbers, noted, log[from + 4], log[from + 1], log[from + 2], root);
+    put_four(
+        numbers,
+        noted,
+        log[from + 4],
+        log[from + 1],
+        log[from + 2],
+        root,
+    );
 }
 
 // The circuits of the claims among `left` entries of a log, with the claims' numbers noted from place `noted` on.

@@ -1,9 +1,10 @@
-// Compares what checking gives for each contract on standard input with the number recorded beside it, and prints how many records were
-// read and how many differ. A record is: length of the file (2), the file, its number (1), length of the written file (2), that file.
+// Checks and writes each contract on standard input, compares every number and byte with those recorded beside it, and prints how many
+// records were read and how many differ. A record is: length of the file (2), the file, its number (1), length of the written file (2), that file.
 use file::two_bytes_at;
 use libc::STDIN_FILENO;
 use libc::STDOUT_FILENO;
 ghost use mathlib.Core.Path.{_≡_};
+ghost use Prim.Native.Nat.{_≤_};
 ghost use lib.ListN.{length};
 
 struct Tally {
@@ -11,8 +12,82 @@ struct Tally {
     different: usize,
 }
 
+// What stands in the output before a file is written, and must stand there still where nothing is.
+const BEFORE: u8 = 170;
+
+fn fill(out: &mut [u8]) {
+    let mut i = 0;
+    while i < out.len() {
+        out[i] = BEFORE;
+        i += 1;
+    }
+}
+
+// The bytes are at the front, and behind them nothing was written.
+fn holds(out: &[u8], bytes: &[u8]) -> bool {
+    if out.len() < bytes.len() {
+        return false;
+    }
+    let mut i = 0;
+    while i < bytes.len() {
+        if out[i] != bytes[i] {
+            return false;
+        }
+        i += 1;
+    }
+    while i < out.len() {
+        if out[i] != BEFORE {
+            return false;
+        }
+        i += 1;
+    }
+    true
+}
+
+// The file is written as recorded into the front of the output, of so many bytes.
+fn agrees_in(file: &[u8], number: u8, written: &[u8], out: &mut [u8], room: usize) -> bool
+    requires { ⌜ room ≤ length (now out) ⌝ }
+{
+    fill(out);
+    let answer = writing::write(file, &mut out[..room]);
+    if number == 0 {
+        if room < written.len() {
+            answer.number == 16 && answer.length == 0 && holds(out, b"")
+        } else {
+            answer.number == 0 && answer.length == written.len() && holds(out, written)
+        }
+    } else {
+        answer.number == number && answer.length == 0 && holds(out, b"")
+    }
+}
+
+// In ample room, in room for just the written file, and in one byte less.
+fn agrees(file: &[u8], number: u8, written: &[u8], out: &mut [u8]) -> bool
+    requires { ⌜ 49152 ≤ length (now out) ⌝ }
+{
+    let length = written.len();
+    if 49152 < length {
+        return false;
+    }
+    if checking::check(file) != number {
+        return false;
+    }
+    if !agrees_in(file, number, written, out, 49152) {
+        return false;
+    }
+    if !agrees_in(file, number, written, out, length) {
+        return false;
+    }
+    if length == 0 {
+        return true;
+    }
+    agrees_in(file, number, written, out, length - 1)
+}
+
 // A record that is cut short counts as different, and ends the reading.
-fn compare(input: &[u8]) -> Tally {
+fn compare(input: &[u8], out: &mut [u8]) -> Tally
+    requires { ⌜ 49152 ≤ length (now out) ⌝ }
+{
     let mut records: usize = 0;
     let mut different: usize = 0;
     let mut at: usize = 0;
@@ -32,11 +107,12 @@ fn compare(input: &[u8]) -> Tally {
                 different: different + 1,
             };
         }
-        if checking::check(&input[at + 2..end]) != input[end] {
+        let next = end + 3 + written;
+        if !agrees(&input[at + 2..end], input[end], &input[end + 3..next], out) {
             different += 1;
         }
         records += 1;
-        at = end + 3 + written;
+        at = next;
     }
     Tally {
         records: records,
@@ -51,10 +127,17 @@ fn room() -> [u8; 700000]
     [0; 700000]
 }
 
+fn output_room() -> [u8; 49152]
+    ensures { λ r. ⌜ 49152 ≡ length r ⌝ }
+{
+    [0; 49152]
+}
+
 fn main() {
     let mut input = room();
+    let mut out = output_room();
     let length = io::read_full(STDIN_FILENO, &mut input);
-    print(compare(&input[..length]));
+    print(compare(&input[..length], &mut out));
 }
 
 fn print(tally: Tally) {

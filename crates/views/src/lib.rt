@@ -64,7 +64,7 @@ fn refusal() -> Answer
 }
 
 // The view that a request gives, where it is known whether the ledger is well formed.
-pub fn view(l: Ledger, party: u8, out: &mut [u8], well_formed: bool) -> Answer
+pub fn tested_view(l: Ledger, party: u8, out: &mut [u8], well_formed: bool) -> Answer
     requires { ⌜ «well_formed» ≡ isWellFormed (ledgerOf l) ⌝ }
     ensures { λ r. ⌜ Viewed party (ledgerOf l) (now (out .entry)) (now (out .exit)) r ⌝ }
 {

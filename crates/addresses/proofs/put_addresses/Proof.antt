@@ -1,7 +1,7 @@
 -- The loop's invariant: the codes passed have their addresses.
 use Prim.Native.Nat.{_-_}
 use Rattle.addresses.proofs.Laws.{Placed, placed-none, placed-more, placed-all}
-use mathlib.Core.Path.{refl, sym, _∙_}
+use mathlib.Core.Path.{sym, _∙_}
 use native.Mathlib.Omega.{arith}
 use borrow.Author.Needs.{needs}
 use Rattle.addresses.proofs.put_addresses.Statement.{statement}

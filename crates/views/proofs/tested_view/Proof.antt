@@ -4,10 +4,10 @@ use native.Mathlib.Omega.{arith}
 use borrow.Author.Tests.{not-true, not-false}
 use Rattle.views.proofs.Requests.{refused-form, refused-party, refused-room, accepted}
 use borrow.Author.Needs.{needs}
-use Rattle.views.proofs.view.Statement.{statement}
-use Rattle.views.proofs.view.Tie as tie
-use Rattle.views.proofs.view.Reads as reads
-use Rattle.views.proofs.view.Lts as lts
+use Rattle.views.proofs.tested_view.Statement.{statement}
+use Rattle.views.proofs.tested_view.Tie as tie
+use Rattle.views.proofs.tested_view.Reads as reads
+use Rattle.views.proofs.tested_view.Lts as lts
 use Rattle.views.proofs.refusal.Reads as refusal-reads
 use Rattle.views.proofs.view_bytes.Reads as view-bytes-reads
 use Rattle.views.proofs.view_length.Reads as view-length-reads
@@ -56,8 +56,8 @@ returns-4 c =
     accepted _ _ _ _ _ (sym (c .before .before .before .before .before .before .before .before .before .pre) ∙ not-false _ (c .before .before .before .before .before .before .before .if1 .left)) (c .before .before .before .before .before .before .if2 .left) (c .before .before .before .before .before .view-length .ensures) (c .before .before .before .before .if3 .left)
     (c .before .before .view-bytes .ensures)
 
-pub view-spec : {M : Type 1} → statement M
-view-spec =
+pub tested-view-spec : {M : Type 1} → statement M
+tested-view-spec =
     tie.close
     (tie.spec
     refusal-requires

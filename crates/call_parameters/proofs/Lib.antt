@@ -1,0 +1,3 @@
+pub mod Honest
+pub mod Public
+pub mod Call

@@ -1,0 +1,3 @@
+pub mod Addresses
+pub mod Bounds
+pub mod Answers

@@ -1,0 +1,30 @@
+-- The file's own number stands before that of the addresses.
+use Rattle.deploy.proofs.Addresses.{own-first}
+use borrow.Author.Needs.{needs}
+use Rattle.deploy.proofs.deploy_number.Statement.{statement}
+use Rattle.deploy.proofs.deploy_number.Tie as tie
+use Rattle.deploy.proofs.deploy_number.Reads as reads
+use Rattle.deploy.proofs.deploy_number.Lts as lts
+use Rattle.checking.proofs.check.Reads as check-reads
+use Rattle.deploy.proofs.addresses_number.Reads as addresses-number-reads
+use Rattle.deploy.proofs.first_number.Reads as first-number-reads
+
+-- src/lib.rt:82:9
+check-requires : tie.Need-check-requires
+check-requires c κs = search needs
+
+-- src/lib.rt:83:9
+addresses-number-requires : tie.Need-addresses-number-requires
+addresses-number-requires c κs = search needs
+
+-- src/lib.rt:84:5
+first-number-requires : tie.Need-first-number-requires
+first-number-requires c κs = search needs
+
+-- src/lib.rt:79:1
+returns : tie.Need-returns
+returns c = own-first _ _ _ _ _ (c .before .before .check .ensures) (c .before .addresses-number .ensures) (c .first-number .ensures)
+
+pub deploy-number-spec : {M : Type 1} → statement M
+deploy-number-spec =
+    tie.close (tie.spec check-requires addresses-number-requires first-number-requires returns)

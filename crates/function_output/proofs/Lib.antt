@@ -1,0 +1,4 @@
+pub mod Written
+pub mod Logs
+pub mod Heading
+pub mod Functions

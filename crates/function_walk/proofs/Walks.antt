@@ -1,0 +1,137 @@
+-- The steps of walking a function: its log, its nodes and constraints, and the walk of what is written there.
+use mathlib.Core.Path.{_≡_, ap, _∙_}
+use mathlib.Core.Bool.{Bool}
+use mathlib.Core.List.{List}
+use Prim.Native.Nat.{ℕ, _+_, _*_, _-_, _/_}
+use native.Mathlib.Omega.{arith}
+use lib.ListN.{length, take}
+use Rattle.definitions.specs.ContractFile.{byteAt}
+use Rattle.definitions.specs.Written.{WrittenFunction}
+use Rattle.definitions.specs.WrittenFile.{sizes, numberedAll, commandTree, functionTrees}
+use Rattle.definitions.specs.Ledger as ledger
+use Rattle.buffer.proofs.Laws.{stored-length}
+use Rattle.context.specs.Context.{Context, nodesIn, fieldsIn}
+use Rattle.context.specs.Functions.{rootAt}
+use Rattle.contents.specs.Contents.{contentsOf}
+use Rattle.node_output.proofs.Laws.{nodes-length, size-positive}
+use Rattle.entries.specs.declared.Position.{Position}
+use Rattle.entries.specs.Logs.{Logged}
+use Rattle.logged_steps.proofs.Held.{stored-holds}
+use Rattle.parameter_output.specs.Parameters.{privateCount}
+use Rattle.log.specs.Translations.{Ready, statementOf}
+use Rattle.statement_log.specs.Placing.{startingAt}
+use Rattle.written_trees.specs.Trees.{commandIn}
+use Rattle.written_trees.specs.Table.{tableOf}
+use Rattle.written_trees.proofs.Functions.{all-length}
+use Rattle.circuits.specs.Circuits.{addressFrom, constraintsFrom}
+use Rattle.circuit_output.specs.Numbers as written
+use Rattle.constraints.specs.Numbers as read
+use Rattle.walk.specs.Walk.{afterFrom, completesFrom, Ran}
+use Rattle.function_room.specs.Functions.{writtenIn, privateIn, eventsIn}
+use Rattle.narrow_trees.specs.Narrow.{Bytes, functionNodes, WrittenBack}
+use Rattle.narrow_trees.proofs.Functions.{function-back}
+use Rattle.function_nodes.specs.declared.Extent.{Extent}
+use Rattle.function_nodes.specs.Functions.{FunctionReady, FunctionPut}
+use Rattle.function_nodes.proofs.Parts.{sizes-are, constraints-bound}
+use Rattle.function_walk.specs.Walks.{LastReady, WalkReady}
+use Rattle.function_walk.proofs.Fronts.{front-is, numbers-same, numbers-length}
+
+pub private-counted : (file : List ℕ) (at count private : ℕ) → count ≡ byteAt file at → private ≡ privateCount count file (at + 1) → private ≡ privateIn file at
+private-counted file at count private e h = h ∙ ap (λ (n : ℕ). privateCount n file (at + 1)) e
+
+module _ (file : List ℕ) (at nodesStart : ℕ) (log numbers scratch roots nodes : List ℕ) (ready : WalkReady file at nodesStart log numbers scratch roots nodes) where
+  context-here : Context file at nodesStart
+  context-here = rw (ready .place) (ready .room .context)
+
+  module _ (private : ℕ) (counted : private ≡ privateIn file at) where
+    pub log-ready : Ready file at nodesStart (rootAt file at) log (startingAt private) (statementOf file at 0 (rootAt file at))
+    log-ready =
+        rw counted
+        (record {
+          inside = ready .room .root;
+          context = context-here;
+          room = record { space = omega (arith, ready .room .events, ready .logSpace); few = omega (arith, ready .room .variables) };
+        })
+
+    module _ (logAfter : List ℕ) (end : Position) (logged : Logged (nodesIn file) log logAfter (startingAt private) end (statementOf file at 0 (rootAt file at) private)) where
+      events-logged : Logged (nodesIn file) log logAfter (startingAt (privateIn file at)) end (eventsIn file at)
+      events-logged = rw counted at logged
+
+      entries-are : end .at / 5 ≡ length (eventsIn file at)
+      entries-are = omega (arith, events-logged .next)
+
+      pub function-ready : FunctionReady file at nodesStart logAfter (end .at / 5) private numbers scratch roots nodes
+      function-ready =
+          record {
+            constraints =
+                record {
+                  logged =
+                      record {
+                        place = ready .place;
+                        room = ready .room;
+                        privateIs = counted;
+                        numbers = events-logged .numbers;
+                        told = events-logged .entries;
+                        held = stored-holds log logAfter (events-logged .numbers) 0 (omega arith) (events-logged .held);
+                        count = entries-are;
+                      };
+                  space = omega (arith, entries-are, ready .room .events, ready .numbersSpace);
+                  bytes = omega (arith, ready .room .nodes, ready .nodesSpace);
+                };
+            scratchSpace = omega (arith, entries-are, ready .room .events, ready .scratchSpace);
+            rootsSpace = omega (arith, entries-are, ready .room .events, ready .rootsSpace);
+          }
+
+  module _ (bytes : Bytes file) (numbersAfter nodesAfter : List ℕ) (r : Extent) (put : FunctionPut (writtenIn file at) numbers numbersAfter nodes nodesAfter r) where
+    abbrev function : WrittenFunction
+    function = writtenIn file at
+
+    back : WrittenBack function
+    back = function-back file at 0 0 bytes (ready .room)
+
+    node-count : length (functionNodes function) ≡ 8 * sizes (functionTrees function)
+    node-count = nodes-length (numberedAll 0 (functionTrees function)) ∙ ap (λ (n : ℕ). 8 * n) (all-length (functionTrees function) 0)
+
+    nodes-front : take (8 * r .nodes) nodesAfter ≡ functionNodes function
+    nodes-front = front-is nodes nodesAfter (functionNodes function) (8 * r .nodes) (put .contents) (omega (arith, put .nodes, node-count))
+
+    numbers-front : take (4 * r .constraints) numbersAfter ≡ read.constraintNumbers 0 (function .constraints)
+    numbers-front =
+        front-is numbers numbersAfter (written.constraintNumbers 0 (function .constraints)) (4 * r .constraints) (put .noted)
+        (omega (arith, put .constraints, numbers-length 0 (function .constraints)))
+        ∙ numbers-same 0 (function .constraints)
+
+    nodes-kept : length nodesAfter ≡ length nodes
+    nodes-kept = ap length (put .contents) ∙ stored-length nodes 0 (functionNodes function) (omega (arith, node-count, ready .room .nodes, ready .nodesSpace))
+
+    numbers-kept : length numbersAfter ≡ length numbers
+    numbers-kept =
+        ap length (put .noted)
+        ∙ stored-length numbers 0 (written.constraintNumbers 0 (function .constraints))
+        (omega (arith, numbers-length 0 (function .constraints), constraints-bound file at (ready .room), ready .numbersSpace))
+
+    pub last-ready : LastReady nodesAfter (r .nodes) numbersAfter (r .constraints) file
+    last-ready =
+        record {
+          some = omega (arith, put .nodes, sizes-are file at, size-positive (commandTree (function .body)));
+          bytes = omega (arith, nodes-kept, put .nodes, ready .room .nodes, ready .nodesSpace);
+          space = omega (arith, numbers-kept, put .constraints, constraints-bound file at (ready .room), ready .numbersSpace);
+          readable = rw nodes-front (back .readable);
+          fewFields = context-here .fewFields;
+        }
+
+    constraints-are : constraintsFrom (tableOf (take (8 * r .nodes) nodesAfter)) (take (4 * r .constraints) numbersAfter) ≡ function .constraints
+    constraints-are = rw (nodes-front, numbers-front) (back .constraints)
+
+    body-is : commandIn (tableOf (take (8 * r .nodes) nodesAfter)) (r .nodes - 1) ≡ function .body
+    body-is = rw (nodes-front, put .nodes) (back .body)
+
+    pub function-walked : (addresses parameters : List ℕ) (s end : ledger.State) (answer : Bool)
+        → Ran
+        (completesFrom file addresses parameters (constraintsFrom (tableOf (take (8 * r .nodes) nodesAfter)) (take (4 * r .constraints) numbersAfter)) s
+        (commandIn (tableOf (take (8 * r .nodes) nodesAfter)) (r .nodes - 1)))
+        (afterFrom file addresses parameters s (commandIn (tableOf (take (8 * r .nodes) nodesAfter)) (r .nodes - 1))) end answer
+        → Ran (ledger.walkCompletes (addressFrom addresses) (fieldsIn file) (contentsOf parameters) (function .constraints) s (function .body))
+        (ledger.stateAfter (addressFrom addresses) (fieldsIn file) (contentsOf parameters) s (function .body)) end answer
+    unfolding completesFrom afterFrom
+    function-walked addresses parameters s end answer ran = rw (constraints-are, body-is) at ran

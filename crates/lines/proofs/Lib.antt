@@ -1,0 +1,4 @@
+pub mod Hex
+pub mod Decimals
+pub mod Written
+pub mod Cases

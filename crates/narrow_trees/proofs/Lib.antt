@@ -1,0 +1,4 @@
+pub mod Pieces
+pub mod Rewritten
+pub mod Nodes
+pub mod Functions

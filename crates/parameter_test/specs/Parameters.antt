@@ -1,0 +1,15 @@
+-- The forms of a call's parameters, as the view lists them.
+use mathlib.Core.Bool.{Bool, _&&_, not, cond}
+use mathlib.Core.List.{List, [], _∷_, map}
+use Prim.Native.Nat.{ℕ}
+use Rattle.definitions.specs.Syntax.{Parameter}
+use Rattle.definitions.specs.Calls.{Form, publicOf, parameterForm}
+
+-- A done call shows all parameters, a failed one the public ones.
+abbrev pub formsOfParameters : Bool → ℕ → List Parameter → List Form
+formsOfParameters all caller ps = cond all (map (parameterForm caller) ps) (publicOf ps (map (parameterForm caller) ps))
+
+-- The same, one parameter after another.
+unfoldable pub shownForms : Bool → ℕ → List Parameter → List Form
+shownForms all caller [] = []
+shownForms all caller (p ∷ ps) = cond (p .private && not all) (shownForms all caller ps) (parameterForm caller p ∷ shownForms all caller ps)

@@ -1,0 +1,4 @@
+pub mod Openings
+pub mod Log
+pub mod Forms
+pub mod Room

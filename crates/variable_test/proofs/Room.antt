@@ -1,0 +1,68 @@
+-- The log of a function's events has room, and what it holds is tested.
+use mathlib.Core.Path.{_≡_, refl, ap, ap₂, sym, _∙_, subst}
+use mathlib.Core.Bool.{Bool, true, false, _&&_}
+use mathlib.Core.List.{List, map}
+use Prim.Native.Nat.{ℕ, _+_, _*_, _<_, _≤_}
+use native.Mathlib.Omega.{arith}
+use lib.ListN.{length, drop, take, getD}
+use lib.Seq.{length-take-le}
+use Rattle.definitions.specs.ContractFile.{byteAt, nodesAt}
+use Rattle.definitions.specs.Calls.{Form, allFit}
+use Rattle.context.specs.Context.{Context, nodesIn, parametersIn, scopeIn}
+use Rattle.context.specs.Functions.{rootAt}
+use Rattle.contents.specs.Contents.{contentsOf}
+use Rattle.circuits.specs.Circuits.{addressFrom}
+use Rattle.entries.specs.declared.Position.{Position}
+use Rattle.entries.specs.Logs.{Logged}
+use Rattle.entries.proofs.Laws.{entries-length}
+use Rattle.buffer.proofs.Laws.{stored-length}
+use Rattle.log.specs.Translations.{Ready, statementOf}
+use Rattle.statement_log.specs.Placing.{startingAt}
+use Rattle.parameter_output.specs.Parameters.{privateCount}
+use Rattle.function_room.specs.Functions.{writtenIn, eventsIn, privateIn, FunctionRoom}
+use Rattle.forms_test.specs.Forms.{fitsOrZero, frontFits}
+use Rattle.variable_test.specs.Variables.{variableForm, openingForms, loggedForms}
+use Rattle.variable_test.proofs.Forms.{variables-split, log-front}
+
+pub private-counted : (file : List ℕ) (at count private : ℕ) → count ≡ byteAt file at → private ≡ privateCount count file (at + 1) → private ≡ privateIn file at
+private-counted file at count private c e = e ∙ ap (λ (n : ℕ). privateCount n file (at + 1)) c
+
+module _ (file : List ℕ) (at : ℕ) (room : FunctionRoom file at 0 0) (private : ℕ) (same : private ≡ privateIn file at) where
+  pub private-few : private ≤ 1024
+  private-few = omega (arith, room .variables)
+
+  pub context-at : (start : ℕ) → start ≡ nodesAt file → Context file at start
+  context-at start s = rw s (room .context)
+
+  pub log-ready : (start : ℕ) (log : List ℕ) → start ≡ nodesAt file → length log ≡ 7680 → Ready file at start (rootAt file at) log (startingAt private) (statementOf file at 0 (rootAt file at))
+  log-ready start log s l =
+      record {
+        inside = room .root;
+        context = context-at start s;
+        room = record { space = rw same (omega (arith, room .events)); few = rw same (omega (arith, room .variables)) };
+      }
+
+  module _ (before after : List ℕ) (end : Position) (logged : Logged (nodesIn file) before after (startingAt private) end (statementOf file at 0 (rootAt file at) private)) where
+    known : Logged (nodesIn file) before after (startingAt (privateIn file at)) end (eventsIn file at)
+    known = rw same at logged
+
+    pub log-short : end .at ≤ 7680
+    log-short = omega (arith, known .next, room .events)
+
+    pub log-long : length before ≡ 7680 → length after ≡ 7680
+    log-long l =
+        let size = entries-length (nodesIn file) (known .entries) in
+        ap length (known .held) ∙ stored-length before 0 (known .numbers) (omega (arith, room .events)) ∙ l
+
+    pub log-cut : length before ≡ 7680 → length (take (end .at) after) ≡ end .at
+    log-cut l = length-take-le (end .at) after (omega (arith, log-short, log-long l))
+
+    pub variables-told : (addresses flat : List ℕ) (a r : Bool)
+        → a ≡ frontFits fitsOrZero (openingForms (parametersIn file at) (getD addresses 1 0) 0) (contentsOf flat) → a ≡ true
+        → r ≡ allFit fitsOrZero (loggedForms file at addresses (take (end .at) after)) (drop private (contentsOf flat))
+        → r ≡ allFit fitsOrZero (map (variableForm (scopeIn file at) (addressFrom addresses)) ((writtenIn file at) .variables)) (contentsOf flat)
+    variables-told addresses flat a r opened t e =
+        let front : take (end .at) after ≡ known .numbers = log-front file before after (known .numbers) (eventsIn file at) (end .at) (known .entries) (known .held) (known .next) in
+        e ∙ ap₂ (λ (log : List ℕ) (n : ℕ). allFit fitsOrZero (loggedForms file at addresses log) (drop n (contentsOf flat))) front same
+        ∙ ap (λ (b : Bool). b && allFit fitsOrZero (loggedForms file at addresses (known .numbers)) (drop (privateIn file at) (contentsOf flat))) (sym t ∙ opened)
+        ∙ variables-split file at addresses (known .numbers) (known .entries) (room .context) (contentsOf flat)

@@ -1,0 +1,20 @@
+-- 01, Numbers: what an accepted file's answer is, and what the lent output holds then.
+use mathlib.Core.Path.{_≡_}
+use mathlib.Core.Bool.{cond}
+use mathlib.Core.List.{List, [], _∷_, _++_}
+use Prim.Native.Nat.{ℕ}
+use lib.Dec.{ltb}
+use lib.ListN.{length, drop}
+use Rattle.definitions.specs.Basics.{firstThatHolds}
+use Rattle.definitions.specs.WrittenFile.{writeNumber, writtenLength, outputAfterWriting}
+
+-- What the entry promises of a file, the output before and after, the number and the length.
+abbrev pub Promised : List ℕ → List ℕ → List ℕ → ℕ → ℕ → Type 0
+Promised file held after number long =
+    (number ≡ writeNumber file (length held)) × ((long ≡ writtenLength file (length held)) × (after ≡ outputAfterWriting file held))
+
+-- The written bytes stand at the front of the output, or it is too short for them and keeps its contents.
+pub record HandedOut (whole held after : List ℕ) (n l : ℕ) : Type 0 where
+  pub number : n ≡ firstThatHolds 16 (ltb (length held) (length whole) ∷ [])
+  pub long : l ≡ cond (ltb (length held) (length whole)) 0 (length whole)
+  pub output : after ≡ cond (ltb (length held) (length whole)) held (whole ++ drop (length whole) held)
