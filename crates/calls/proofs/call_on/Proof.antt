@@ -20,7 +20,7 @@ slice-aggregate-call-addresses : tie.Need-slice-aggregate-call-addresses
 slice-aggregate-call-addresses c = search needs
 
 call-addresses-requires : tie.Need-call-addresses-requires
-call-addresses-requires c κs = 
+call-addresses-requires c κs =
     let p = c .before .before .before .before .before .before .before .before .before .before .before .before .pre in
     (addresses-here _ _ _ _ _ _ (p .0 .0) (p .0 .1) (c .before .before .before .before .before .before .before .function-start .ensures .0) _ refl, (p .0 .1 .held .parameterRoom, omega arith))
 
@@ -28,17 +28,17 @@ slice-aggregate-walk-called : tie.Need-slice-aggregate-walk-called
 slice-aggregate-walk-called c = search needs
 
 walk-called-requires : tie.Need-walk-called-requires
-walk-called-requires c κs = 
+walk-called-requires c κs =
     let p = c .before .before .before .before .before .before .before .before .before .before .before .before .before .before .before .before .before .pre in
     (c .before .before .before .before .before .before .before .before .before .before .before .read-layout .ensures .nodesStart, room-here _ _ _ _ _ _ (p .0 .0) (p .0 .1) (c .before .before .before .before .before .before .before .before .before .before .before .before .function-start .ensures .0))
 
 done-ledger-requires : tie.Need-done-ledger-requires
-done-ledger-requires c κs = 
+done-ledger-requires c κs =
     let p = c .before .before .before .before .before .before .before .before .before .before .before .before .before .before .before .before .before .before .before .before .before .before .before .before .before .pre in
     (held-still _ _ _ _ (p .0 .1 .held) (search needs), omega arith)
 
 failed-call-requires : tie.Need-failed-call-requires
-failed-call-requires c κs = 
+failed-call-requires c κs =
     let p = c .before .before .before .before .before .before .before .before .before .before .before .before .before .before .before .before .before .before .before .before .before .before .before .pre in
     (public-here _ _ _ _ _ _ (p .0 .0) (p .0 .1) (c .before .before .before .before .before .before .before .before .before .before .before .before .before .before .before .before .before .before .function-start .ensures .0), p .0 .1 .held .callLeft)
 
@@ -49,7 +49,7 @@ same-length-2 : tie.Need-same-length-2
 same-length-2 c = omega (arith, c .before .before .before .before .before .before .before .before .walk-called .kept, c .before .before .before .before .before .before .before .before .before .before .before .before .before .before .before .before .before .before .flat-places .kept)
 
 returns : tie.Need-returns
-returns c = 
+returns c =
     let p = c .before .before .before .before .before .before .before .before .before .before .before .before .before .before .before .before .before .before .before .before .before .before .before .before .before .before .pre in
     call-done _ _ _ _ _ _ _ _ _ (p .0 .1 .inside) (p .0 .0) (c .before .before .before .before .before .before .before .before .before .before .before .before .before .before .before .before .before .before .before .before .before .function-start .ensures .0) (c .before .before .before .before .before .before .before .before .before .before .before .before .before .before .before .before .before .before .flat-places .ensures) (c .before .before .before .before .before .before .before .before .before .before .before .before .before .call-addresses .ensures .addresses) _ _ (c .before .before .before .before .before .before .before .before .walk-called .ensures .ran) (c .before .before .before .if1 .taken) _ (c .done-ledger .ensures)
 
@@ -60,7 +60,7 @@ same-length-4 : tie.Need-same-length-4
 same-length-4 c = search needs
 
 returns-2 : tie.Need-returns-2
-returns-2 c = 
+returns-2 c =
     let p = c .before .before .before .before .before .before .before .before .before .before .before .before .before .before .before .before .before .before .before .before .before .before .before .before .pre in
     call-failed _ _ _ _ _ _ _ _ _ (p .0 .1 .inside) (p .0 .0) (c .before .before .before .before .before .before .before .before .before .before .before .before .before .before .before .before .before .before .before .function-start .ensures .0) (c .before .before .before .before .before .before .before .before .before .before .before .before .before .before .before .before .flat-places .ensures) (c .before .before .before .before .before .before .before .before .before .before .before .call-addresses .ensures .addresses) _ _ (c .before .before .before .before .before .before .walk-called .ensures .ran) (c .before .if1 .left) _ (c .failed-call .ensures)
 

@@ -27,7 +27,7 @@ array-share-prefix-bytes : tie.Need-array-share-prefix-bytes
 array-share-prefix-bytes c = omega (arith, c .before .at-most .ensures, bytes (c .before .before .before .before .before))
 
 slice-aggregate-call-on : tie.Need-slice-aggregate-call-on
-slice-aggregate-call-on c = 
+slice-aggregate-call-on c =
     let k = c .before .before in
     sym (length-take-le (k .at-most .result) (c .before .before .before .before .before .before .args .l .file) (omega (arith, k .at-most .ensures, bytes (c .before .before .before .before .before .before))))
 
@@ -39,7 +39,7 @@ slice-aggregate-call-on-2 c = taken-length _ _ (omega arith)
 
 call-on-requires : tie.Need-call-on-requires
 unfolding ledgerOf
-call-on-requires c κs = 
+call-on-requires c κs =
     let k = c .before .before .before .before in
     let s = c .before .before .before .before .before .before .before .before in
     let l = s .args .l in
