@@ -16,6 +16,9 @@ use Rattle.definitions.specs.WrittenFile.{Tree, leaf, constantTree}
 use Rattle.context.specs.Context.{Context}
 use Rattle.context.proofs.Nodes.{listed-is, both-left}
 
+pub kind-as : (r q : NodeRecord) (kind : ℕ) → r ≡ q → r .kind ≡ kind → q .kind ≡ kind
+kind-as r q kind e h = ap (λ (x : NodeRecord). x .kind) (sym e) ∙ h
+
 operator-code : (code : ℕ) → code ≤ 10 → operatorCode (operatorOf code) ≡ code
 operator-code zero h = refl
 operator-code (suc zero) h = refl

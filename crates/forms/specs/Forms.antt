@@ -1,7 +1,9 @@
 -- The trees of an expression's rewritten form, given the number of its first variable.
 use mathlib.Core.Bool.{Bool, cond}
-use Prim.Native.Nat.{ℕ}
+use mathlib.Core.List.{List}
+use Prim.Native.Nat.{ℕ, _+_, _*_}
 use Rattle.definitions.specs.Syntax.{Expression, Scope}
+use Rattle.definitions.specs.ContractFile.{nodeRecord}
 use Rattle.definitions.specs.Rewriting.{inBody, inCircuit}
 use Rattle.definitions.specs.WrittenFile.{Tree, bodyTree, circuitTree}
 
@@ -14,3 +16,7 @@ circuitForm scope e i = circuitTree ((inCircuit scope e i) .form)
 -- "9 variable first, 10 variable first opened"
 abbrev pub readKind : Bool → ℕ
 readKind public = cond public 9 10
+
+-- The kind of node n, where the nodes begin at a place.
+abbrev pub kindAt : List ℕ → ℕ → ℕ → ℕ
+kindAt file nodesStart n = (nodeRecord file (nodesStart + 2 + 8 * n)) .kind

@@ -17,7 +17,7 @@ ghost use Rattle.context.specs.Context.{Context, nodesIn, scopeIn};
 ghost use Rattle.buffer.specs.Buffer.{stored};
 ghost use Rattle.node_output.specs.Numbering.{Room, Numbered};
 ghost use Rattle.variable_counts.specs.Counts.{bodyCount, circuitCount};
-ghost use Rattle.forms.specs.Forms.{bodyForm, circuitForm, readKind};
+ghost use Rattle.forms.specs.Forms.{bodyForm, circuitForm, readKind, kindAt};
 
 // "9 variable first, 10 variable first opened"
 fn put_read(public: bool, variable: usize, out: &mut [u8], at: usize) -> usize
@@ -56,53 +56,61 @@ pub fn write_body_form(
             put_above_one(4, arg, key, out, at, base)
         }
         5 => put_leaf(5, arg, 0, 0, out, at),
-        6 => {
-            if is_public(file, function_at, nodes_at, n) {
-                let j = i + body_count(file, function_at, nodes_at, node.first);
-                let left = write_body_form(
-                    file,
-                    function_at,
-                    nodes_at,
-                    node.first,
-                    i,
-                    out,
-                    at,
-                    base,
-                );
-                let right = write_body_form(
-                    file,
-                    function_at,
-                    nodes_at,
-                    node.second,
-                    j,
-                    out,
-                    at + 8 * left,
-                    base + left,
-                );
-                put_above_two(6, arg, left, right, out, at, base)
-            } else {
-                put_leaf(9, 0, i, 0, out, at)
-            }
-        }
-        7 => {
-            if is_public(file, function_at, nodes_at, n) {
-                let part = write_body_form(
-                    file,
-                    function_at,
-                    nodes_at,
-                    node.first,
-                    i,
-                    out,
-                    at,
-                    base,
-                );
-                put_above_one(7, 0, part, out, at, base)
-            } else {
-                put_leaf(9, 0, i, 0, out, at)
-            }
-        }
+        6 => write_body_operator(file, function_at, nodes_at, n, i, out, at, base),
+        7 => write_body_negation(file, function_at, nodes_at, n, i, out, at, base),
         8 => put_leaf(9, 0, i, 0, out, at),
         _ => put_leaf(2, 0, 0, 0, out, at),
+    }
+}
+
+// An operator on public operands is kept above them; any other is a variable.
+fn write_body_operator(
+    file: &[u8],
+    function_at: usize,
+    nodes_at: usize,
+    n: usize,
+    i: usize,
+    out: &mut [u8],
+    at: usize,
+    base: usize,
+) -> usize
+    requires { ⌜ (kindAt (now file) «nodes_at» n ≡ 6) × ((n < nodeCount (now file)) × ((Context (now file) «function_at» «nodes_at») × ((i + bodyCount (scopeIn (now file) «function_at») (expressionIn (nodesIn (now file)) n) ≤ 65535) × (Room (now out) at base (bodyForm (scopeIn (now file) «function_at») (expressionIn (nodesIn (now file)) n) i))))) ⌝ }
+    ensures { λ r. ⌜ Numbered (now (out .entry)) (now (out .exit)) at base (bodyForm (scopeIn (now (file .entry)) «function_at») (expressionIn (nodesIn (now (file .entry))) n) i) r ⌝ }
+{
+    let node = node_at(file, nodes_at, n);
+    let arg = node.arg as u8;
+    if is_public(file, function_at, nodes_at, n) {
+        let j = i + body_count(file, function_at, nodes_at, node.first);
+        let left = write_body_form(file, function_at, nodes_at, node.first, i, out, at, base);
+        let a = at + 8 * left;
+        let b = base + left;
+        let right = write_body_form(file, function_at, nodes_at, node.second, j, out, a, b);
+        put_above_two(6, arg, left, right, out, at, base)
+    } else {
+        put_leaf(9, 0, i, 0, out, at)
+    }
+}
+
+// A negation of a public part is kept above it; any other is a variable.
+fn write_body_negation(
+    file: &[u8],
+    function_at: usize,
+    nodes_at: usize,
+    n: usize,
+    i: usize,
+    out: &mut [u8],
+    at: usize,
+    base: usize,
+) -> usize
+    requires { ⌜ (kindAt (now file) «nodes_at» n ≡ 7) × ((n < nodeCount (now file)) × ((Context (now file) «function_at» «nodes_at») × ((i + bodyCount (scopeIn (now file) «function_at») (expressionIn (nodesIn (now file)) n) ≤ 65535) × (Room (now out) at base (bodyForm (scopeIn (now file) «function_at») (expressionIn (nodesIn (now file)) n) i))))) ⌝ }
+    ensures { λ r. ⌜ Numbered (now (out .entry)) (now (out .exit)) at base (bodyForm (scopeIn (now (file .entry)) «function_at») (expressionIn (nodesIn (now (file .entry))) n) i) r ⌝ }
+{
+    let node = node_at(file, nodes_at, n);
+    if is_public(file, function_at, nodes_at, n) {
+        let part = write_body_form(file, function_at, nodes_at, node.first, i, out, at, base);
+        put_above_one(7, 0, part, out, at, base)
+    } else {
+        put_leaf(9, 0, i, 0, out, at)
     }
 }
 
@@ -131,36 +139,7 @@ pub fn write_circuit_form(
             put_read(is_public(file, function_at, nodes_at, n), j, out, at)
         }
         5 => put_read(is_public(file, function_at, nodes_at, n), i, out, at),
-        6 => {
-            if is_public_division(file, function_at, nodes_at, n, node.arg) {
-                let j = i + body_count(file, function_at, nodes_at, node.first);
-                let k = j + body_count(file, function_at, nodes_at, node.second);
-                put_leaf(9, 0, k, 0, out, at)
-            } else {
-                let j = i + circuit_count(file, function_at, nodes_at, node.first);
-                let left = write_circuit_form(
-                    file,
-                    function_at,
-                    nodes_at,
-                    node.first,
-                    i,
-                    out,
-                    at,
-                    base,
-                );
-                let right = write_circuit_form(
-                    file,
-                    function_at,
-                    nodes_at,
-                    node.second,
-                    j,
-                    out,
-                    at + 8 * left,
-                    base + left,
-                );
-                put_above_two(6, arg, left, right, out, at, base)
-            }
-        }
+        6 => write_circuit_operator(file, function_at, nodes_at, n, i, out, at, base),
         7 => {
             let part = write_circuit_form(
                 file,
@@ -176,5 +155,35 @@ pub fn write_circuit_form(
         }
         8 => write_circuit_form(file, function_at, nodes_at, node.first, i, out, at, base),
         _ => put_leaf(2, 0, 0, 0, out, at),
+    }
+}
+
+// A public division is a variable; any other operator stands above its operands.
+fn write_circuit_operator(
+    file: &[u8],
+    function_at: usize,
+    nodes_at: usize,
+    n: usize,
+    i: usize,
+    out: &mut [u8],
+    at: usize,
+    base: usize,
+) -> usize
+    requires { ⌜ (kindAt (now file) «nodes_at» n ≡ 6) × ((n < nodeCount (now file)) × ((Context (now file) «function_at» «nodes_at») × ((i + circuitCount (scopeIn (now file) «function_at») (expressionIn (nodesIn (now file)) n) ≤ 65535) × (Room (now out) at base (circuitForm (scopeIn (now file) «function_at») (expressionIn (nodesIn (now file)) n) i))))) ⌝ }
+    ensures { λ r. ⌜ Numbered (now (out .entry)) (now (out .exit)) at base (circuitForm (scopeIn (now (file .entry)) «function_at») (expressionIn (nodesIn (now (file .entry))) n) i) r ⌝ }
+{
+    let node = node_at(file, nodes_at, n);
+    let arg = node.arg as u8;
+    if is_public_division(file, function_at, nodes_at, n, node.arg) {
+        let j = i + body_count(file, function_at, nodes_at, node.first);
+        let k = j + body_count(file, function_at, nodes_at, node.second);
+        put_leaf(9, 0, k, 0, out, at)
+    } else {
+        let j = i + circuit_count(file, function_at, nodes_at, node.first);
+        let left = write_circuit_form(file, function_at, nodes_at, node.first, i, out, at, base);
+        let a = at + 8 * left;
+        let b = base + left;
+        let right = write_circuit_form(file, function_at, nodes_at, node.second, j, out, a, b);
+        put_above_two(6, arg, left, right, out, at, base)
     }
 }

@@ -14,6 +14,7 @@ ghost use Rattle.definitions.specs.ContractFile.{nodeCount};
 ghost use Rattle.trees.specs.Trees.{expressionIn, statementIn};
 ghost use Rattle.context.specs.Context.{Context, nodesIn, scopeIn};
 ghost use Rattle.owners.specs.Codes.{FieldsListed};
+ghost use Rattle.forms.specs.Forms.{kindAt};
 ghost use Rattle.node_output.specs.Numbering.{Room, Numbered};
 ghost use Rattle.statement_forms.specs.Places.{placedForm, placedCount, PrivatePlace};
 ghost use Rattle.statement_forms.specs.Statements.{simpleForm, simpleCount};
@@ -98,6 +99,91 @@ pub fn statement_count(file: &[u8], function_at: usize, nodes_at: usize, n: usiz
     }
 }
 
+// An assignment to a field: the value as the place asks for it, and the statement above it.
+fn write_field_form(
+    file: &[u8],
+    function_at: usize,
+    nodes_at: usize,
+    n: usize,
+    i: usize,
+    out: &mut [u8],
+    at: usize,
+    base: usize,
+) -> usize
+    requires { ⌜ (kindAt (now file) «nodes_at» n ≡ 18) × ((n < nodeCount (now file)) × ((Context (now file) «function_at» «nodes_at») × ((i + simpleCount (scopeIn (now file) «function_at») (statementIn (nodesIn (now file)) n) ≤ 65535) × (Room (now out) at base (simpleForm (scopeIn (now file) «function_at») (statementIn (nodesIn (now file)) n) i))))) ⌝ }
+    ensures { λ r. ⌜ Numbered (now (out .entry)) (now (out .exit)) at base (simpleForm (scopeIn (now (file .entry)) «function_at») (statementIn (nodesIn (now (file .entry))) n) i) r ⌝ }
+{
+    let node = node_at(file, nodes_at, n);
+    let arg = node.arg as u8;
+    let private = is_private_place(file, node.arg);
+    let value = write_placed_form(
+        file,
+        function_at,
+        nodes_at,
+        private,
+        node.first,
+        i,
+        out,
+        at,
+        base,
+    );
+    put_above_one(18, arg, value, out, at, base)
+}
+
+// An assignment to an entry: key and value, and the statement above them.
+fn write_entry_form(
+    file: &[u8],
+    function_at: usize,
+    nodes_at: usize,
+    n: usize,
+    i: usize,
+    out: &mut [u8],
+    at: usize,
+    base: usize,
+) -> usize
+    requires { ⌜ (kindAt (now file) «nodes_at» n ≡ 19) × ((n < nodeCount (now file)) × ((Context (now file) «function_at» «nodes_at») × ((i + simpleCount (scopeIn (now file) «function_at») (statementIn (nodesIn (now file)) n) ≤ 65535) × (Room (now out) at base (simpleForm (scopeIn (now file) «function_at») (statementIn (nodesIn (now file)) n) i))))) ⌝ }
+    ensures { λ r. ⌜ Numbered (now (out .entry)) (now (out .exit)) at base (simpleForm (scopeIn (now (file .entry)) «function_at») (statementIn (nodesIn (now (file .entry))) n) i) r ⌝ }
+{
+    let node = node_at(file, nodes_at, n);
+    let arg = node.arg as u8;
+    let private = is_private_place(file, node.arg);
+    let j = i + body_count(file, function_at, nodes_at, node.first);
+    let key = write_body_form(file, function_at, nodes_at, node.first, i, out, at, base);
+    let a = at + 8 * key;
+    let b = base + key;
+    let value = write_placed_form(
+        file,
+        function_at,
+        nodes_at,
+        private,
+        node.second,
+        j,
+        out,
+        a,
+        b,
+    );
+    put_above_two(19, arg, key, value, out, at, base)
+}
+
+// A requirement: the condition and the statement above it.
+fn write_require_form(
+    file: &[u8],
+    function_at: usize,
+    nodes_at: usize,
+    n: usize,
+    i: usize,
+    out: &mut [u8],
+    at: usize,
+    base: usize,
+) -> usize
+    requires { ⌜ (kindAt (now file) «nodes_at» n ≡ 20) × ((n < nodeCount (now file)) × ((Context (now file) «function_at» «nodes_at») × ((i + simpleCount (scopeIn (now file) «function_at») (statementIn (nodesIn (now file)) n) ≤ 65535) × (Room (now out) at base (simpleForm (scopeIn (now file) «function_at») (statementIn (nodesIn (now file)) n) i))))) ⌝ }
+    ensures { λ r. ⌜ Numbered (now (out .entry)) (now (out .exit)) at base (simpleForm (scopeIn (now (file .entry)) «function_at») (statementIn (nodesIn (now (file .entry))) n) i) r ⌝ }
+{
+    let node = node_at(file, nodes_at, n);
+    let condition = write_body_form(file, function_at, nodes_at, node.first, i, out, at, base);
+    put_above_one(20, 0, condition, out, at, base)
+}
+
 // The form of node n, a statement that holds no other, whose first variable is number i; the answer is how many nodes it has.
 pub fn write_statement_form(
     file: &[u8],
@@ -114,54 +200,11 @@ pub fn write_statement_form(
 {
     let node = node_at(file, nodes_at, n);
     let kind = node.kind;
-    let arg = node.arg as u8;
     match kind {
         17 => put_leaf(16, 0, 0, 0, out, at),
-        18 => {
-            let private = is_private_place(file, node.arg);
-            let value = write_placed_form(
-                file,
-                function_at,
-                nodes_at,
-                private,
-                node.first,
-                i,
-                out,
-                at,
-                base,
-            );
-            put_above_one(18, arg, value, out, at, base)
-        }
-        19 => {
-            let private = is_private_place(file, node.arg);
-            let j = i + body_count(file, function_at, nodes_at, node.first);
-            let key = write_body_form(file, function_at, nodes_at, node.first, i, out, at, base);
-            let value = write_placed_form(
-                file,
-                function_at,
-                nodes_at,
-                private,
-                node.second,
-                j,
-                out,
-                at + 8 * key,
-                base + key,
-            );
-            put_above_two(19, arg, key, value, out, at, base)
-        }
-        20 => {
-            let condition = write_body_form(
-                file,
-                function_at,
-                nodes_at,
-                node.first,
-                i,
-                out,
-                at,
-                base,
-            );
-            put_above_one(20, 0, condition, out, at, base)
-        }
+        18 => write_field_form(file, function_at, nodes_at, n, i, out, at, base),
+        19 => write_entry_form(file, function_at, nodes_at, n, i, out, at, base),
+        20 => write_require_form(file, function_at, nodes_at, n, i, out, at, base),
         21 => put_leaf(16, 0, 0, 0, out, at),
         _ => put_leaf(16, 0, 0, 0, out, at),
     }

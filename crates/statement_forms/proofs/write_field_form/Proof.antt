@@ -1,0 +1,49 @@
+-- `statement_forms::write_field_form` meets its contract.
+use mathlib.Core.Path.{sym, _∙_}
+use native.Mathlib.Omega.{arith}
+use Rattle.context.proofs.Statements.{value-below}
+use Rattle.node_output.proofs.Laws.{room-as, room-one, room-above-one, numbered-as, numbered-one}
+use Rattle.forms.proofs.Listed.{kind-as}
+use Rattle.statement_forms.proofs.Nodes.{field-form, field-count}
+use Rattle.statement_forms.proofs.write_field_form.Statement.{statement}
+use Rattle.statement_forms.proofs.write_field_form.Tie as tie
+
+node-at-requires : tie.Need-node-at-requires
+node-at-requires c κs = (c .before .before .pre .1 .1 .0 .nearNodes, omega (arith, c .before .before .pre .1 .1 .0 .fewNodes))
+
+cast-arg : tie.Need-cast-arg
+cast-arg c = omega (arith, c .before .node-at .ensures .smallArg)
+
+is-private-place-requires : tie.Need-is-private-place-requires
+is-private-place-requires c κs =
+    (c .before .node-at .ensures .smallArg, record { at = c .before .before .before .before .pre .1 .1 .0 .fieldListed })
+
+write-placed-form-requires : tie.Need-write-placed-form-requires
+write-placed-form-requires c κs =
+    let less = value-below _ _ _ (c .before .before .before .before .before .before .pre .1 .1 .0) _ (c .before .before .before .before .before .before .pre .1 .0) _ (c .before .before .before .node-at .ensures .same) (kind-as _ _ 18 (sym (c .before .before .before .node-at .ensures .same)) (c .before .before .before .before .before .before .pre .0)) in
+    let h = field-count _ _ _ (c .before .before .before .before .before .before .pre .1 .1 .0) _ (c .before .before .before .before .before .before .pre .1 .0) _ (c .before .before .before .node-at .ensures .same) _ (c .before .is-private-place .ensures) (kind-as _ _ 18 (sym (c .before .before .before .node-at .ensures .same)) (c .before .before .before .before .before .before .pre .0)) in
+    (omega arith, (c .before .before .before .before .before .before .pre .1 .1 .0, (omega (arith, (c .before .before .before .before .before .before .pre .1 .1 .1 .0)), room-one _ _ _ _ _ _ (room-as _ _ _ _ _ (field-form _ _ _ (c .before .before .before .before .before .before .pre .1 .1 .0) _ (c .before .before .before .before .before .before .pre .1 .0) _ (c .before .before .before .node-at .ensures .same) _ (c .before .is-private-place .ensures) _ (kind-as _ _ 18 (sym (c .before .before .before .node-at .ensures .same)) (c .before .before .before .before .before .before .pre .0))) (c .before .before .before .before .before .before .pre .1 .1 .1 .1)))))
+
+put-above-one-requires : tie.Need-put-above-one-requires
+put-above-one-requires c κs =
+    room-above-one _ _ _ _ _ _ (room-as _ _ _ _ _ (field-form _ _ _ (c .before .before .before .before .before .before .before .before .before .before .pre .1 .1 .0) _ (c .before .before .before .before .before .before .before .before .before .before .pre .1 .0) _ (c .before .before .before .before .before .before .before .node-at .ensures .same) _ (c .before .before .before .before .before .is-private-place .ensures) _ (kind-as _ _ 18 (sym (c .before .before .before .before .before .before .before .node-at .ensures .same)) (c .before .before .before .before .before .before .before .before .before .before .pre .0))) (c .before .before .before .before .before .before .before .before .before .before .pre .1 .1 .1 .1)) _ _ (c .before .before .before .write-placed-form .ensures)
+
+same-length : tie.Need-same-length
+same-length c =
+    c .before .before .put-above-one .kept .1 .1 .1 .0 ∙ c .before .before .before .before .before .before .write-placed-form .kept .1 .1 .1 .1 .1 .1 .0
+
+returns : tie.Need-returns
+returns c =
+    numbered-as _ _ _ _ _ _ _ _ (field-form _ _ _ (c .before .before .before .before .before .before .before .before .before .before .before .before .before .pre .1 .1 .0) _ (c .before .before .before .before .before .before .before .before .before .before .before .before .before .pre .1 .0) _ (c .before .before .before .before .before .before .before .before .before .before .node-at .ensures .same) _ (c .before .before .before .before .before .before .before .before .is-private-place .ensures) _ (kind-as _ _ 18 (sym (c .before .before .before .before .before .before .before .before .before .before .node-at .ensures .same)) (c .before .before .before .before .before .before .before .before .before .before .before .before .before .pre .0))) (c .before .before .put-above-one .ensures .1) (numbered-one _ _ _ _ _ _ (room-as _ _ _ _ _ (field-form _ _ _ (c .before .before .before .before .before .before .before .before .before .before .before .before .before .pre .1 .1 .0) _ (c .before .before .before .before .before .before .before .before .before .before .before .before .before .pre .1 .0) _ (c .before .before .before .before .before .before .before .before .before .before .node-at .ensures .same) _ (c .before .before .before .before .before .before .before .before .is-private-place .ensures) _ (kind-as _ _ 18 (sym (c .before .before .before .before .before .before .before .before .before .before .node-at .ensures .same)) (c .before .before .before .before .before .before .before .before .before .before .before .before .before .pre .0))) (c .before .before .before .before .before .before .before .before .before .before .before .before .before .pre .1 .1 .1 .1)) _ _ _ (c .before .before .before .before .before .before .write-placed-form .ensures) (c .before .before .put-above-one .ensures .0))
+
+pub write-field-form-spec : {M : Type 1} → statement M
+write-field-form-spec =
+    tie.close
+    (tie.spec
+    node-at-requires
+    cast-arg
+    is-private-place-requires
+    write-placed-form-requires
+    put-above-one-requires
+    same-length
+    returns)
