@@ -8,6 +8,7 @@ use native.Mathlib.Omega.{arith}
 use lib.ListN.{length, set}
 use Rattle.definitions.specs.Basics.{isTrue}
 use Rattle.definitions.specs.Syntax.{Name, Expression, Statement, fieldAt}
+use Rattle.definitions.specs.ContractFile.{NodeRecord}
 use Rattle.definitions.specs.Owners.{nameOf, placeOwner}
 use Rattle.definitions.specs.Places.{position}
 use Rattle.definitions.specs.Original.{value, placesAfter}
@@ -17,8 +18,12 @@ use Rattle.context.specs.Context.{fieldsIn, scopeIn}
 use Rattle.events.specs.Events.{Event, Events, variablesOf, inTurn, placeEvents, bodyEvents, statementEvents}
 use Rattle.values.specs.Values.{valueOf, numbersAfter}
 use Rattle.supplies.specs.Supplies.{suppliedNumber, Room, Wrote}
-use Rattle.honest.specs.Honest.{Numbering, inOrder, branchNumbers, afterIf, numbersFor, isTaken, honestNumbers, nodeStatement, Space, Put, Startable, Honest, BranchHonest}
+use Rattle.honest.specs.Honest.{Numbering, inOrder, branchNumbers, afterIf, numbersFor, isTaken, honestNumbers, branchesNumbers, nodeStatement, SimpleKind, Space, Put, Startable, Honest, BranchHonest, BranchesHonest}
 use Rattle.honest.proofs.Putting.{put-same, space-same, put-nothing, put-order, put-branch, space-first, space-second, events-put, events-room}
+
+-- A node as it is read has the kind that its record in the file has.
+pub simple-as : (r s : NodeRecord) → r ≡ s → SimpleKind (s .kind) → SimpleKind (r .kind)
+simple-as r s e h = rw e h
 
 module _ (file : List ℕ) (functionStart : ℕ) (arguments : List ℕ) (caller : ℕ) where
   -- In a branch that is not taken the numbers of places do not matter.
@@ -190,28 +195,39 @@ module _ (file : List ℕ) (functionStart : ℕ) (arguments : List ℕ) (caller 
             })
 
     -- A condition, and then both branches, of which at most one is taken.
-    module _ (c : Expression) (a b : Statement) (h : s ≡ Statement.conditional c a b) (out : List ℕ) (i : ℕ)
-        (space : Space out i (honestNumbers file functionStart arguments caller s live numbers)) where
+    module _ (c : Expression) (a b : Statement) (h : s ≡ Statement.conditional c a b) where
       abbrev T : Bool
       T = isTaken file functionStart arguments caller numbers c
 
-      conditional-space : Space out i (inOrder (numbersFor file functionStart arguments caller (bodyEvents (scopeIn file functionStart) always c) live numbers)
-          (inOrder (branchNumbers (honestNumbers file functionStart arguments caller a (live && T) numbers))
-          (branchNumbers (honestNumbers file functionStart arguments caller b (live && not T) numbers))))
-      unfolding honestNumbers
-      conditional-space = rw h at space
+      module _ (out : List ℕ) (i : ℕ) (space : Space out i (honestNumbers file functionStart arguments caller s live numbers)) where
+        conditional-space : Space out i (inOrder (numbersFor file functionStart arguments caller (bodyEvents (scopeIn file functionStart) always c) live numbers)
+            (branchesNumbers file functionStart arguments caller (Statement.conditional c a b) live numbers))
+        unfolding honestNumbers branchesNumbers
+        conditional-space = rw h at space
 
-      pub condition-room : Room out i (bodyEvents (scopeIn file functionStart) always c)
-      condition-room = events-room file functionStart arguments caller (bodyEvents (scopeIn file functionStart) always c) live numbers out i (space-first out i _ _ conditional-space)
+        pub condition-room : Room out i (bodyEvents (scopeIn file functionStart) always c)
+        condition-room = events-room file functionStart arguments caller (bodyEvents (scopeIn file functionStart) always c) live numbers out i (space-first out i _ _ conditional-space)
 
-      module _ (mid : List ℕ) (j : ℕ) (w : Wrote (suppliedNumber file arguments caller live numbers) out mid i j (bodyEvents (scopeIn file functionStart) always c))
+        module _ (mid : List ℕ) (j : ℕ) (w : Wrote (suppliedNumber file arguments caller live numbers) out mid i j (bodyEvents (scopeIn file functionStart) always c)) where
+          condition-put : Put out mid i j (numbersFor file functionStart arguments caller (bodyEvents (scopeIn file functionStart) always c) live numbers)
+          condition-put = events-put file functionStart arguments caller (bodyEvents (scopeIn file functionStart) always c) live numbers out mid i j w
+
+          pub branches-space : Space mid j (branchesNumbers file functionStart arguments caller s live numbers)
+          branches-space = rw h (space-second out mid i j _ _ conditional-space condition-put)
+
+          pub conditional-honest : (numbers′ last : List ℕ) (r : ℕ) → BranchesHonest file functionStart arguments caller live s numbers numbers′ mid last j r
+              → Honest file functionStart arguments caller live s numbers numbers′ out last i r
+          unfolding honestNumbers branchesNumbers
+          conditional-honest numbers′ last r two =
+              let both = rw h at two in
+              rw h (record { places = both .places; slots = put-order out mid last i j r _ _ conditional-space condition-put (both .slots) })
+
+      module _ (mid : List ℕ) (j : ℕ) (space : Space mid j (branchesNumbers file functionStart arguments caller s live numbers))
           (taken first : Bool) (t : taken ≡ T) (y : first ≡ (live && taken)) where
-        condition-put : Put out mid i j (numbersFor file functionStart arguments caller (bodyEvents (scopeIn file functionStart) always c) live numbers)
-        condition-put = events-put file functionStart arguments caller (bodyEvents (scopeIn file functionStart) always c) live numbers out mid i j w
-
-        branches-space : Space mid j (inOrder (branchNumbers (honestNumbers file functionStart arguments caller a (live && T) numbers))
+        both-space : Space mid j (inOrder (branchNumbers (honestNumbers file functionStart arguments caller a (live && T) numbers))
             (branchNumbers (honestNumbers file functionStart arguments caller b (live && not T) numbers)))
-        branches-space = space-second out mid i j _ _ conditional-space condition-put
+        unfolding branchesNumbers
+        both-space = rw h at space
 
         first-is : first ≡ (live && T)
         first-is = y ∙ ap (λ (q : Bool). live && q) t
@@ -220,7 +236,7 @@ module _ (file : List ℕ) (functionStart : ℕ) (arguments : List ℕ) (caller 
         then-numbers m = ap (λ (q : Bool). honestNumbers file functionStart arguments caller a q numbers m) (sym first-is)
 
         pub then-space : Space mid j (branchNumbers (honestNumbers file functionStart arguments caller a first numbers))
-        then-space = space-same mid j _ _ (branch-same _ _ then-numbers j) (space-first mid j _ _ branches-space)
+        then-space = space-same mid j _ _ (branch-same _ _ then-numbers j) (space-first mid j _ _ both-space)
 
         module _ (numbers′ after : List ℕ) (k : ℕ) (one : BranchHonest file functionStart arguments caller first a numbers numbers′ mid after j k)
             (second : Bool) (z : second ≡ (live && not taken)) where
@@ -238,12 +254,12 @@ module _ (file : List ℕ) (functionStart : ℕ) (arguments : List ℕ) (caller 
               ∙ ap (λ (q : Bool). honestNumbers file functionStart arguments caller b q numbers′ m) (sym second-is)
 
           pub else-space : Space after k (branchNumbers (honestNumbers file functionStart arguments caller b second numbers′))
-          else-space = space-same after k _ _ (branch-same _ _ else-numbers k) (space-second mid after j k _ _ branches-space then-put)
+          else-space = space-same after k _ _ (branch-same _ _ else-numbers k) (space-second mid after j k _ _ both-space then-put)
 
-          pub conditional-honest : (numbers″ last : List ℕ) (r : ℕ) → BranchHonest file functionStart arguments caller second b numbers′ numbers″ after last k r
-              → Honest file functionStart arguments caller live s numbers numbers″ out last i r
-          unfolding honestNumbers
-          conditional-honest numbers″ last r two =
+          pub branches-honest : (numbers″ last : List ℕ) (r : ℕ) → BranchHonest file functionStart arguments caller second b numbers′ numbers″ after last k r
+              → BranchesHonest file functionStart arguments caller live s numbers numbers″ mid last j r
+          unfolding branchesNumbers
+          branches-honest numbers″ last r two =
               rw h
               (record {
                 places =
@@ -251,9 +267,7 @@ module _ (file : List ℕ) (functionStart : ℕ) (arguments : List ℕ) (caller 
                     ∙ ap (λ (l : List ℕ). afterIf file functionStart arguments caller (live && not T) l b)
                     (one .places ∙ ap (λ (q : Bool). afterIf file functionStart arguments caller q numbers a) first-is)
                     ∙ conditional-after live numbers c a b;
-                slots =
-                    put-order out mid last i j r _ _ conditional-space condition-put
-                    (put-order mid after last j k r _ _ branches-space then-put (put-same after last k r _ _ (sym (branch-same _ _ else-numbers k)) (two .slots)));
+                slots = put-order mid after last j k r _ _ both-space then-put (put-same after last k r _ _ (sym (branch-same _ _ else-numbers k)) (two .slots));
               })
 
   -- A branch is its guard and a statement.

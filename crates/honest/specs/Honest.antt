@@ -53,6 +53,17 @@ module _ (file : List ℕ) (functionStart : ℕ) (arguments : List ℕ) (caller 
       (inOrder (branchNumbers (honestNumbers then (live && isTaken numbers condition) numbers))
       (branchNumbers (honestNumbers else (live && not (isTaken numbers condition)) numbers)))
 
+  -- What a conditional has behind its condition.
+  unfoldable pub branchesNumbers : Statement → Bool → List ℕ → Numbering
+  branchesNumbers (Statement.conditional condition then else) live numbers =
+      inOrder (branchNumbers (honestNumbers then (live && isTaken numbers condition) numbers))
+      (branchNumbers (honestNumbers else (live && not (isTaken numbers condition)) numbers))
+  branchesNumbers Statement.skip live numbers = λ (i : ℕ). []
+  branchesNumbers (Statement.sequence first second) live numbers = λ (i : ℕ). []
+  branchesNumbers (Statement.assignField f e) live numbers = λ (i : ℕ). []
+  branchesNumbers (Statement.assignEntry f key e) live numbers = λ (i : ℕ). []
+  branchesNumbers (Statement.require condition) live numbers = λ (i : ℕ). []
+
 pub record Space (out : List ℕ) (i : ℕ) (numbering : Numbering) : Type 0 where
   pub fits : i + length (numbering i) ≤ length out
 
@@ -62,6 +73,11 @@ pub record Put (before after : List ℕ) (i next : ℕ) (numbering : Numbering) 
 
 abbrev pub nodeStatement : List ℕ → ℕ → Statement
 nodeStatement file n = statementIn (nodesIn file) n
+
+-- The kinds of the statements that hold no other.
+pub record SimpleKind (kind : ℕ) : Type 0 where
+  pub sequence : kind ≡ 17 → ⊥
+  pub conditional : kind ≡ 21 → ⊥
 
 pub record Startable (file : List ℕ) (functionStart nodesStart n : ℕ) (out : List ℕ) (i : ℕ) (numbering : Numbering) : Type 0 where
   pub inside : n < nodeCount file
@@ -76,6 +92,10 @@ pub record Honest (file : List ℕ) (functionStart : ℕ) (arguments : List ℕ)
 pub record BranchHonest (file : List ℕ) (functionStart : ℕ) (arguments : List ℕ) (caller : ℕ) (live : Bool) (s : Statement) (numbers numbers′ before after : List ℕ) (i next : ℕ) : Type 0 where
   pub places : numbers′ ≡ afterIf file functionStart arguments caller live numbers s
   pub slots : Put before after i next (branchNumbers (honestNumbers file functionStart arguments caller s live numbers))
+
+pub record BranchesHonest (file : List ℕ) (functionStart : ℕ) (arguments : List ℕ) (caller : ℕ) (live : Bool) (s : Statement) (numbers numbers′ before after : List ℕ) (i next : ℕ) : Type 0 where
+  pub places : numbers′ ≡ afterIf file functionStart arguments caller live numbers s
+  pub slots : Put before after i next (branchesNumbers file functionStart arguments caller s live numbers)
 
 -- The contents that the numbers stand for, with their variables' owners and serials: 0 is plain 0, and one more than a value that value.
 module _ (address : Name → ℕ) (call : ℕ) where

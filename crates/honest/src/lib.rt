@@ -12,7 +12,8 @@ ghost use Prim.Native.Nat.{_<_};
 ghost use Rattle.definitions.specs.ContractFile.{nodeCount};
 ghost use Rattle.context.specs.Context.{Context};
 ghost use Rattle.plans.specs.Plans.{nodeExpression};
-ghost use Rattle.honest.specs.Honest.{isTaken, branchNumbers, honestNumbers, nodeStatement, Startable, Honest, BranchHonest};
+ghost use Rattle.values.specs.Values.{kindAt};
+ghost use Rattle.honest.specs.Honest.{isTaken, branchNumbers, honestNumbers, branchesNumbers, nodeStatement, SimpleKind, Startable, Honest, BranchHonest, BranchesHonest};
 
 fn both(live: bool, taken: bool) -> bool
     ensures { λ r. ⌜ r ≡ (live && taken) ⌝ }
@@ -42,8 +43,8 @@ fn is_taken(
     value(file, function_at, nodes_at, numbers, arguments, caller, n) != 0
 }
 
-// Statement n, worked out where it is live.
-pub fn statement_slots(
+// A statement that holds no other: an assignment, a require or a skip.
+fn simple_slots(
     file: &[u8],
     function_at: usize,
     nodes_at: usize,
@@ -55,38 +56,12 @@ pub fn statement_slots(
     out: &mut [u64],
     i: usize,
 ) -> usize
-    requires { ⌜ Startable (now file) «function_at» «nodes_at» n (now out) i (honestNumbers (now file) «function_at» (now arguments) caller (nodeStatement (now file) n) live (now numbers)) ⌝ }
+    requires { ⌜ (SimpleKind (kindAt (now file) «nodes_at» n)) × (Startable (now file) «function_at» «nodes_at» n (now out) i (honestNumbers (now file) «function_at» (now arguments) caller (nodeStatement (now file) n) live (now numbers))) ⌝ }
     ensures { λ r. ⌜ Honest (now (file .entry)) «function_at» (now (arguments .entry)) caller live (nodeStatement (now (file .entry)) n) (now (numbers .entry)) (now (numbers .exit)) (now (out .entry)) (now (out .exit)) i r ⌝ }
 {
     let node = node_at(file, nodes_at, n);
     let kind = node.kind;
     match kind {
-        17 => {
-            let j = statement_slots(
-                file,
-                function_at,
-                nodes_at,
-                numbers,
-                arguments,
-                caller,
-                live,
-                node.first,
-                out,
-                i,
-            );
-            statement_slots(
-                file,
-                function_at,
-                nodes_at,
-                numbers,
-                arguments,
-                caller,
-                live,
-                node.second,
-                out,
-                j,
-            )
-        }
         18 => field_slots(
             file,
             function_at,
@@ -126,55 +101,203 @@ pub fn statement_slots(
             out,
             i,
         ),
-        21 => {
-            let taken = is_taken(
-                file,
-                function_at,
-                nodes_at,
-                numbers,
-                arguments,
-                caller,
-                node.first,
-            );
-            let j = body_slots(
-                file,
-                function_at,
-                nodes_at,
-                numbers,
-                arguments,
-                caller,
-                live,
-                node.first,
-                out,
-                i,
-            );
-            let k = branch_slots(
-                file,
-                function_at,
-                nodes_at,
-                numbers,
-                arguments,
-                caller,
-                both(live, taken),
-                node.second,
-                out,
-                j,
-            );
-            branch_slots(
-                file,
-                function_at,
-                nodes_at,
-                numbers,
-                arguments,
-                caller,
-                only(live, taken),
-                node.third,
-                out,
-                k,
-            )
-        }
         _ => i,
     }
+}
+
+// Statement n, worked out where it is live.
+pub fn statement_slots(
+    file: &[u8],
+    function_at: usize,
+    nodes_at: usize,
+    numbers: &mut [u32],
+    arguments: &[u32],
+    caller: u8,
+    live: bool,
+    n: usize,
+    out: &mut [u64],
+    i: usize,
+) -> usize
+    requires { ⌜ Startable (now file) «function_at» «nodes_at» n (now out) i (honestNumbers (now file) «function_at» (now arguments) caller (nodeStatement (now file) n) live (now numbers)) ⌝ }
+    ensures { λ r. ⌜ Honest (now (file .entry)) «function_at» (now (arguments .entry)) caller live (nodeStatement (now (file .entry)) n) (now (numbers .entry)) (now (numbers .exit)) (now (out .entry)) (now (out .exit)) i r ⌝ }
+{
+    let kind = node_at(file, nodes_at, n).kind;
+    match kind {
+        17 => sequence_slots(
+            file,
+            function_at,
+            nodes_at,
+            numbers,
+            arguments,
+            caller,
+            live,
+            n,
+            out,
+            i,
+        ),
+        21 => conditional_slots(
+            file,
+            function_at,
+            nodes_at,
+            numbers,
+            arguments,
+            caller,
+            live,
+            n,
+            out,
+            i,
+        ),
+        _ => simple_slots(
+            file,
+            function_at,
+            nodes_at,
+            numbers,
+            arguments,
+            caller,
+            live,
+            n,
+            out,
+            i,
+        ),
+    }
+}
+
+// The second of two statements is worked out on what the first left.
+fn sequence_slots(
+    file: &[u8],
+    function_at: usize,
+    nodes_at: usize,
+    numbers: &mut [u32],
+    arguments: &[u32],
+    caller: u8,
+    live: bool,
+    n: usize,
+    out: &mut [u64],
+    i: usize,
+) -> usize
+    requires { ⌜ (kindAt (now file) «nodes_at» n ≡ 17) × (Startable (now file) «function_at» «nodes_at» n (now out) i (honestNumbers (now file) «function_at» (now arguments) caller (nodeStatement (now file) n) live (now numbers))) ⌝ }
+    ensures { λ r. ⌜ Honest (now (file .entry)) «function_at» (now (arguments .entry)) caller live (nodeStatement (now (file .entry)) n) (now (numbers .entry)) (now (numbers .exit)) (now (out .entry)) (now (out .exit)) i r ⌝ }
+{
+    let node = node_at(file, nodes_at, n);
+    let j = statement_slots(
+        file,
+        function_at,
+        nodes_at,
+        numbers,
+        arguments,
+        caller,
+        live,
+        node.first,
+        out,
+        i,
+    );
+    statement_slots(
+        file,
+        function_at,
+        nodes_at,
+        numbers,
+        arguments,
+        caller,
+        live,
+        node.second,
+        out,
+        j,
+    )
+}
+
+// A condition, and then both branches.
+fn conditional_slots(
+    file: &[u8],
+    function_at: usize,
+    nodes_at: usize,
+    numbers: &mut [u32],
+    arguments: &[u32],
+    caller: u8,
+    live: bool,
+    n: usize,
+    out: &mut [u64],
+    i: usize,
+) -> usize
+    requires { ⌜ (kindAt (now file) «nodes_at» n ≡ 21) × (Startable (now file) «function_at» «nodes_at» n (now out) i (honestNumbers (now file) «function_at» (now arguments) caller (nodeStatement (now file) n) live (now numbers))) ⌝ }
+    ensures { λ r. ⌜ Honest (now (file .entry)) «function_at» (now (arguments .entry)) caller live (nodeStatement (now (file .entry)) n) (now (numbers .entry)) (now (numbers .exit)) (now (out .entry)) (now (out .exit)) i r ⌝ }
+{
+    let first = node_at(file, nodes_at, n).first;
+    let j = body_slots(
+        file,
+        function_at,
+        nodes_at,
+        numbers,
+        arguments,
+        caller,
+        live,
+        first,
+        out,
+        i,
+    );
+    branches_slots(
+        file,
+        function_at,
+        nodes_at,
+        numbers,
+        arguments,
+        caller,
+        live,
+        n,
+        out,
+        j,
+    )
+}
+
+// Of the two branches of conditional n at most one is taken.
+fn branches_slots(
+    file: &[u8],
+    function_at: usize,
+    nodes_at: usize,
+    numbers: &mut [u32],
+    arguments: &[u32],
+    caller: u8,
+    live: bool,
+    n: usize,
+    out: &mut [u64],
+    i: usize,
+) -> usize
+    requires { ⌜ (kindAt (now file) «nodes_at» n ≡ 21) × (Startable (now file) «function_at» «nodes_at» n (now out) i (branchesNumbers (now file) «function_at» (now arguments) caller (nodeStatement (now file) n) live (now numbers))) ⌝ }
+    ensures { λ r. ⌜ BranchesHonest (now (file .entry)) «function_at» (now (arguments .entry)) caller live (nodeStatement (now (file .entry)) n) (now (numbers .entry)) (now (numbers .exit)) (now (out .entry)) (now (out .exit)) i r ⌝ }
+{
+    let node = node_at(file, nodes_at, n);
+    let taken = is_taken(
+        file,
+        function_at,
+        nodes_at,
+        numbers,
+        arguments,
+        caller,
+        node.first,
+    );
+    let k = branch_slots(
+        file,
+        function_at,
+        nodes_at,
+        numbers,
+        arguments,
+        caller,
+        both(live, taken),
+        node.second,
+        out,
+        i,
+    );
+    branch_slots(
+        file,
+        function_at,
+        nodes_at,
+        numbers,
+        arguments,
+        caller,
+        only(live, taken),
+        node.third,
+        out,
+        k,
+    )
 }
 
 // A branch begins with its guard.

@@ -1,13 +1,18 @@
 -- The value of an expression by its kind, as code learns it.
-use mathlib.Core.Path.{_≡_, refl, sym, _∙_}
+use mathlib.Core.Path.{_≡_, refl, ap, sym, _∙_}
 use mathlib.Core.List.{List}
 use Prim.Native.Nat.{ℕ}
 use lib.ListN.{getD}
 use Rattle.definitions.specs.Syntax.{DataType, Owner, Operator, Expression}
+use Rattle.definitions.specs.ContractFile.{NodeRecord}
 use Rattle.definitions.specs.Places.{position}
 use Rattle.definitions.specs.Original.{value, operate, negate}
 use Rattle.context.specs.Context.{fieldsIn}
 use Rattle.values.specs.Values.{valueOf}
+
+-- A node as it is read has the kind that its record in the file has.
+pub kind-as : (r s : NodeRecord) (k : ℕ) → r ≡ s → s .kind ≡ k → r .kind ≡ k
+kind-as r s k e h = ap (λ (q : NodeRecord). q .kind) e ∙ h
 
 module _ (file arguments : List ℕ) (caller : ℕ) (numbers : List ℕ) (e : Expression) (r : ℕ) where
   pub constant-value : (t : DataType) (v : ℕ) → e ≡ Expression.constant t v → r ≡ v → r ≡ valueOf file arguments caller numbers e

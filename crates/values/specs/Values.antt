@@ -1,7 +1,8 @@
 -- What the original works out on numbers. Of the addresses that names stand for it asks only the caller's.
 use mathlib.Core.List.{List}
-use Prim.Native.Nat.{ℕ}
+use Prim.Native.Nat.{ℕ, _+_, _*_}
 use Rattle.definitions.specs.Syntax.{Name, Expression, Statement}
+use Rattle.definitions.specs.ContractFile.{nodeRecord}
 use Rattle.definitions.specs.Original.{value, placesAfter}
 use Rattle.context.specs.Context.{fieldsIn}
 
@@ -10,3 +11,6 @@ valueOf file arguments caller numbers e = value (fieldsIn file) (λ (n : Name). 
 
 unfoldable pub numbersAfter : List ℕ → List ℕ → ℕ → List ℕ → Statement → List ℕ
 numbersAfter file arguments caller numbers s = placesAfter (fieldsIn file) (λ (n : Name). caller) arguments numbers s
+
+abbrev pub kindAt : List ℕ → ℕ → ℕ → ℕ
+kindAt file nodesStart n = (nodeRecord file (nodesStart + 2 + 8 * n)) .kind

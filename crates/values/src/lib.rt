@@ -9,7 +9,7 @@ ghost use Prim.Native.Nat.{_+_, _*_, _<_, _≤_};
 ghost use Rattle.definitions.specs.ContractFile.{nodeCount};
 ghost use Rattle.trees.specs.Trees.{expressionIn};
 ghost use Rattle.context.specs.Context.{Context, nodesIn};
-ghost use Rattle.values.specs.Values.{valueOf};
+ghost use Rattle.values.specs.Values.{valueOf, kindAt};
 
 // "value first + 65,536 × second"
 fn constant_of(first: usize, second: usize) -> u32
@@ -37,49 +37,10 @@ pub fn value(
     match kind {
         1 => constant_of(node.first, node.second),
         3 => number_at(numbers, position(file, node.arg, 0)),
-        4 => {
-            let key = value(
-                file,
-                function_at,
-                nodes_at,
-                numbers,
-                arguments,
-                caller,
-                node.first,
-            );
-            number_at(numbers, position(file, node.arg, key as usize))
-        }
+        4 => entry_value(file, function_at, nodes_at, numbers, arguments, caller, n),
         5 => number_at(arguments, node.arg),
-        6 => {
-            let left = value(
-                file,
-                function_at,
-                nodes_at,
-                numbers,
-                arguments,
-                caller,
-                node.first,
-            );
-            let right = value(
-                file,
-                function_at,
-                nodes_at,
-                numbers,
-                arguments,
-                caller,
-                node.second,
-            );
-            operated(node.arg, left, right)
-        }
-        7 => negated(value(
-            file,
-            function_at,
-            nodes_at,
-            numbers,
-            arguments,
-            caller,
-            node.first,
-        )),
+        6 => operator_value(file, function_at, nodes_at, numbers, arguments, caller, n),
+        7 => negation_value(file, function_at, nodes_at, numbers, arguments, caller, n),
         8 => value(
             file,
             function_at,
@@ -91,4 +52,91 @@ pub fn value(
         ),
         _ => caller as u32,
     }
+}
+
+// A mapping's entry, under the value of its key.
+fn entry_value(
+    file: &[u8],
+    function_at: usize,
+    nodes_at: usize,
+    numbers: &[u32],
+    arguments: &[u32],
+    caller: u8,
+    n: usize,
+) -> u32
+    requires { ⌜ (kindAt (now file) «nodes_at» n ≡ 4) × ((n < nodeCount (now file)) × (Context (now file) «function_at» «nodes_at»)) ⌝ }
+    ensures { λ r. ⌜ r ≡ valueOf (now (file .entry)) (now (arguments .entry)) caller (now (numbers .entry)) (expressionIn (nodesIn (now (file .entry))) n) ⌝ }
+{
+    let node = node_at(file, nodes_at, n);
+    let key = value(
+        file,
+        function_at,
+        nodes_at,
+        numbers,
+        arguments,
+        caller,
+        node.first,
+    );
+    number_at(numbers, position(file, node.arg, key as usize))
+}
+
+// An operator, on the values of its operands.
+fn operator_value(
+    file: &[u8],
+    function_at: usize,
+    nodes_at: usize,
+    numbers: &[u32],
+    arguments: &[u32],
+    caller: u8,
+    n: usize,
+) -> u32
+    requires { ⌜ (kindAt (now file) «nodes_at» n ≡ 6) × ((n < nodeCount (now file)) × (Context (now file) «function_at» «nodes_at»)) ⌝ }
+    ensures { λ r. ⌜ r ≡ valueOf (now (file .entry)) (now (arguments .entry)) caller (now (numbers .entry)) (expressionIn (nodesIn (now (file .entry))) n) ⌝ }
+{
+    let node = node_at(file, nodes_at, n);
+    let left = value(
+        file,
+        function_at,
+        nodes_at,
+        numbers,
+        arguments,
+        caller,
+        node.first,
+    );
+    let right = value(
+        file,
+        function_at,
+        nodes_at,
+        numbers,
+        arguments,
+        caller,
+        node.second,
+    );
+    operated(node.arg, left, right)
+}
+
+// A negation, of the value of its part.
+fn negation_value(
+    file: &[u8],
+    function_at: usize,
+    nodes_at: usize,
+    numbers: &[u32],
+    arguments: &[u32],
+    caller: u8,
+    n: usize,
+) -> u32
+    requires { ⌜ (kindAt (now file) «nodes_at» n ≡ 7) × ((n < nodeCount (now file)) × (Context (now file) «function_at» «nodes_at»)) ⌝ }
+    ensures { λ r. ⌜ r ≡ valueOf (now (file .entry)) (now (arguments .entry)) caller (now (numbers .entry)) (expressionIn (nodesIn (now (file .entry))) n) ⌝ }
+{
+    let node = node_at(file, nodes_at, n);
+    let part = value(
+        file,
+        function_at,
+        nodes_at,
+        numbers,
+        arguments,
+        caller,
+        node.first,
+    );
+    negated(part)
 }
