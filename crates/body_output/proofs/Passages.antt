@@ -9,10 +9,10 @@ use lib.Dec.{ltb}
 use lib.ListN.{length, take, length-map}
 use Rattle.definitions.specs.Basics.{flatMap}
 use Rattle.definitions.specs.Syntax.{Parameter}
-use Rattle.definitions.specs.ContractFile.{byteAt, twoBytesAt, functionEnd, parameterRecords, parameterOf}
+use Rattle.definitions.specs.ContractFile.{byteAt, twoBytesAt, functionEnd, parameterRecords, parameterOf, node}
 use Rattle.definitions.specs.Written.{Command, Constraint}
 use Rattle.definitions.specs.Rewriting.{Step, privateParameters, openings, stepsBefore, withVerify, rewriteFunction}
-use Rattle.definitions.specs.WrittenFile.{Tree, leaf, twoChildren, node, nodeBytes, commandTree}
+use Rattle.definitions.specs.WrittenFile.{Tree, leaf, twoChildren, nodeBytes, commandTree}
 use Rattle.trees.specs.Trees.{statementIn}
 use Rattle.buffer.specs.Buffer.{stored}
 use Rattle.context.specs.Context.{nodesIn, parametersIn, scopeIn}

@@ -5,9 +5,9 @@ use Prim.Native.Nat.{ℕ, _+_, _*_, _-_, _<_, _≤_}
 use native.Mathlib.Omega.{arith}
 use lib.ListN.{length}
 use Rattle.definitions.specs.Syntax.{Statement}
-use Rattle.definitions.specs.ContractFile.{NodeRecord}
+use Rattle.definitions.specs.ContractFile.{NodeRecord, node}
 use Rattle.definitions.specs.Written.{always}
-use Rattle.definitions.specs.WrittenFile.{twoChildren, node, nodeBytes, commandTree}
+use Rattle.definitions.specs.WrittenFile.{twoChildren, nodeBytes, commandTree}
 use Rattle.trees.specs.Trees.{statementIn}
 use Rattle.buffer.specs.Buffer.{stored}
 use Rattle.context.specs.Context.{nodesIn, scopeIn}

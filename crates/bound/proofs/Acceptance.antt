@@ -14,6 +14,7 @@ use Rattle.definitions.specs.ContractFile.{FieldRecord, FunctionRecord, NodeRec
 use Rattle.definitions.specs.Nodes.{kindOf, nodeOfKind, Node, unknownNode, nodeOf, nodeAt, children, expressionParts, statementParts, fieldsNamed, functionOf, contractOf}
 use Rattle.definitions.specs.Numbers.{endsWrongly, countOffLimits, outsideTables, namesNothing, fieldOfDeclaredOwner, usesOf, usedOtherThanOnce, tooDeep, wrongSort, contractSentences, checkNumber}
 use Rattle.trees.specs.Trees.{Falling}
+use Rattle.trees.proofs.Falls.{nodes-fall}
 use Rattle.bound.specs.Sizes.{fewParameters}
 use Rattle.bound.specs.Counting.{Below}
 use Rattle.bound.proofs.Counting.{count-append}
@@ -64,11 +65,6 @@ nodes-length zero file at = refl
 nodes-length (suc n) file at = ap suc (nodes-length n file (at + 8))
 
 -- None at or above k: all below k.
-none-above : (k : ℕ) (xs : List ℕ) → any (leb k) xs ≡ false → all (λ x. ltb x k) xs ≡ true
-unfolding any all
-none-above k [] h = refl
-none-above k (x ∷ xs) h = rw (lt-ltb x k (leb-false k x (or-left (leb k x) _ h)), none-above k xs (or-right (leb k x) _ h))
-
 roots-below : (k : ℕ) (rs : List FunctionRecord) → any (λ r. leb k (r .root)) rs ≡ false → Below k (map (λ r. r .root) rs)
 unfolding any Below
 roots-below k [] h = tt
@@ -167,31 +163,8 @@ module _ (file : List ℕ) (accepted : checkNumber file ≡ 0) where
       roots-below (length (sections .nodes)) (sections .functions)
       (or-right ownersOff rootsOff (or-left (ownersOff || rootsOff) (anyNumbered nodeOff 0 (sections .nodes)) (no-sentence 3)))
 
-  child-below : (n : ℕ) (d : NodeRecord) → n < length (sections .nodes) → any (leb n) (children (nodeOf (getD (sections .nodes) n d))) ≡ false
-  unfolding namesNothing
-  child-below n d l =
-      let r = getD (sections .nodes) n d in
-      let off = none-numbered nodeOff 0 (sections .nodes) (or-right (ownersOff || rootsOff) (anyNumbered nodeOff 0 (sections .nodes)) (no-sentence 3)) n d l in
-      let e : 0 + n ≡ n = omega arith in
-      or-right (any (leb (length (sections .fields))) (fieldsNamed (nodeOf r))) (any (leb n) (children (nodeOf r))) (rw e at off)
-
-  node-at : (n : ℕ) → nodeAt nodes n ≡ nodeOf (getD (sections .nodes) n noRecord)
-  unfolding kindOf nodeOfKind
-  node-at n = List·getD-map nodeOf (sections .nodes) n noRecord
-
-  fall : (n : ℕ) (inside : Bool) → ltb n (length (sections .nodes)) ≡ inside → all (λ child. ltb child n) (children (nodeAt nodes n)) ≡ true
-  unfolding all expressionParts statementParts
-  fall n true e =
-      let h = none-above n _ (child-below n noRecord (ltb-true n (length (sections .nodes)) e)) in
-      rw (node-at n) h
-  fall n false e =
-      let m = length-map (sections .nodes) nodeOf in
-      let l = ltb-false n (length (sections .nodes)) e in
-      let past : length nodes ≤ n = omega arith in
-      rw (List·getD-eq-default nodes unknownNode past)
-
-  pub nodes-fall : Falling nodes
-  nodes-fall = record { below = λ n. fall n (ltb n (length (sections .nodes))) refl }
+  pub falling : Falling nodes
+  falling = nodes-fall sections (no-sentence 3)
 
   -- Number 5.
   pub used-once : (n : ℕ) → n < length (sections .nodes)

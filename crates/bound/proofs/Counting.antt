@@ -11,8 +11,9 @@ use lib.ListN.{length, take}
 use lib.Seq.{take-suc, take-length}
 use Rattle.definitions.specs.Basics.{all, countIf, flatMap}
 use Rattle.definitions.specs.Syntax.{Expression, Statement}
-use Rattle.definitions.specs.Nodes.{ExpressionNode, StatementNode, Node, expressionNode, statementNode, unknownNode, nodeAt, expressionParts, statementParts, children, expressionOf, statementOf}
-use Rattle.trees.specs.Trees.{expressionIn, statementIn, Falling}
+use Rattle.definitions.specs.ContractFile.{NodeRecord}
+use Rattle.definitions.specs.Nodes.{Kind, constantKind, meKind, fieldKind, entryKind, parameterKind, operatorKind, negationKind, revealKind, skipKind, sequenceKind, assignFieldKind, assignEntryKind, requireKind, conditionalKind, noKind, kindOf, Node, unknownNode, nodeOfKind, nodeAt, expressionParts, statementParts, children, expressionOf, statementOf}
+use Rattle.trees.specs.Trees.{expressionIn, statementIn, IsRead, Falling}
 use Rattle.trees.proofs.Unfolding.{expression-unfolds, statement-unfolds}
 use Rattle.bound.specs.Sizes.{expressionSize, statementSize}
 use Rattle.bound.specs.Counting.{sumOf, Below, without}
@@ -125,34 +126,53 @@ module _ (nodes : List Node) (falling : Falling nodes) where
   abbrev pub treeSize : ℕ → ℕ
   treeSize n = max (expressionSize (expressionIn nodes n)) (statementSize (statementIn nodes n))
 
-  expression-grows : (node : Node) → expressionSize (expressionOf node (expressionIn nodes)) ≤ 1 + sumOf treeSize (children node)
-  unfolding expressionSize expressionOf sumOf expressionParts statementParts
-  expression-grows (expressionNode (ExpressionNode.constant t v)) = omega arith
-  expression-grows (expressionNode ExpressionNode.me) = omega arith
-  expression-grows (expressionNode (ExpressionNode.field f)) = omega arith
-  expression-grows (expressionNode (ExpressionNode.entry f key)) = omega arith
-  expression-grows (expressionNode (ExpressionNode.parameter k)) = omega arith
-  expression-grows (expressionNode (ExpressionNode.operator o left right)) = omega arith
-  expression-grows (expressionNode (ExpressionNode.negation part)) = omega arith
-  expression-grows (expressionNode (ExpressionNode.reveal part o)) = omega arith
-  expression-grows (statementNode s) = omega arith
-  expression-grows unknownNode = omega arith
+  expression-grows : (k : Kind) (r : NodeRecord) → expressionSize (expressionOf (nodeOfKind k r) (expressionIn nodes)) ≤ 1 + sumOf treeSize (children (nodeOfKind k r))
+  unfolding nodeOfKind expressionSize expressionOf sumOf expressionParts statementParts
+  expression-grows constantKind r = omega arith
+  expression-grows meKind r = omega arith
+  expression-grows fieldKind r = omega arith
+  expression-grows entryKind r = omega arith
+  expression-grows parameterKind r = omega arith
+  expression-grows operatorKind r = omega arith
+  expression-grows negationKind r = omega arith
+  expression-grows revealKind r = omega arith
+  expression-grows skipKind r = omega arith
+  expression-grows sequenceKind r = omega arith
+  expression-grows assignFieldKind r = omega arith
+  expression-grows assignEntryKind r = omega arith
+  expression-grows requireKind r = omega arith
+  expression-grows conditionalKind r = omega arith
+  expression-grows noKind r = omega arith
 
-  statement-grows : (node : Node) → statementSize (statementOf node (expressionIn nodes) (statementIn nodes)) ≤ 1 + sumOf treeSize (children node)
-  unfolding statementSize statementOf sumOf expressionParts statementParts
-  statement-grows (expressionNode e) = omega arith
-  statement-grows (statementNode StatementNode.skip) = omega arith
-  statement-grows (statementNode (StatementNode.sequence first second)) = omega arith
-  statement-grows (statementNode (StatementNode.assignField f value)) = omega arith
-  statement-grows (statementNode (StatementNode.assignEntry f key value)) = omega arith
-  statement-grows (statementNode (StatementNode.require condition)) = omega arith
-  statement-grows (statementNode (StatementNode.conditional condition then else)) = omega arith
-  statement-grows unknownNode = omega arith
+  statement-grows : (k : Kind) (r : NodeRecord)
+      → statementSize (statementOf (nodeOfKind k r) (expressionIn nodes) (statementIn nodes)) ≤ 1 + sumOf treeSize (children (nodeOfKind k r))
+  unfolding nodeOfKind statementSize statementOf sumOf expressionParts statementParts
+  statement-grows constantKind r = omega arith
+  statement-grows meKind r = omega arith
+  statement-grows fieldKind r = omega arith
+  statement-grows entryKind r = omega arith
+  statement-grows parameterKind r = omega arith
+  statement-grows operatorKind r = omega arith
+  statement-grows negationKind r = omega arith
+  statement-grows revealKind r = omega arith
+  statement-grows skipKind r = omega arith
+  statement-grows sequenceKind r = omega arith
+  statement-grows assignFieldKind r = omega arith
+  statement-grows assignEntryKind r = omega arith
+  statement-grows requireKind r = omega arith
+  statement-grows conditionalKind r = omega arith
+  statement-grows noKind r = omega arith
+
+  node-grows : (x : Node) → IsRead x
+      → (expressionSize (expressionOf x (expressionIn nodes)) ≤ 1 + sumOf treeSize (children x))
+      × (statementSize (statementOf x (expressionIn nodes) (statementIn nodes)) ≤ 1 + sumOf treeSize (children x))
+  node-grows x (r, e) = rw e (expression-grows (kindOf (r .kind)) r, statement-grows (kindOf (r .kind)) r)
 
   pub tree-grows : (n : ℕ) → treeSize n ≤ 1 + sumOf treeSize (children (nodeAt nodes n))
   tree-grows n =
-      let a = expression-grows (nodeAt nodes n) in
-      let b = statement-grows (nodeAt nodes n) in
+      let grown = node-grows (nodeAt nodes n) (falling .read n) in
+      let a = grown .0 in
+      let b = grown .1 in
       let c = ap expressionSize (expression-unfolds nodes falling n) in
       let d = ap statementSize (statement-unfolds nodes falling n) in
       omega arith

@@ -13,7 +13,7 @@ use Rattle.bound.specs.Sizes.{bodiesSize}
 use Rattle.bound.specs.Counting.{sumOf}
 use Rattle.bound.proofs.Functions.{contract-length}
 use Rattle.bound.proofs.Counting.{treeSize, trees-covered}
-use Rattle.bound.proofs.Acceptance.{few-parameters, counts, roots-inside, nodes-fall, used-once}
+use Rattle.bound.proofs.Acceptance.{few-parameters, counts, roots-inside, falling, used-once}
 
 bodies-within : (nodes : List Node) (falling : Falling nodes) (rs : List FunctionRecord)
     → bodiesSize (map (functionOf nodes) rs) ≤ sumOf (treeSize nodes falling) (map (λ r. r .root) rs)
@@ -26,7 +26,7 @@ pub nodes-suffice : (file : List ℕ) → checkNumber file ≡ 0 → bodiesSize 
 unfolding contractOf
 nodes-suffice file accepted =
     let nodes = map nodeOf ((sectionsOf file) .nodes) in
-    let falling = nodes-fall file accepted in
+    let falling = falling file accepted in
     let m = length-map ((sectionsOf file) .nodes) nodeOf in
     let roots = map (λ r. r .root) ((sectionsOf file) .functions) in
     let within = bodies-within nodes falling ((sectionsOf file) .functions) in

@@ -11,7 +11,7 @@ use lib.ListN.{getD}
 use Rattle.definitions.specs.Basics.{isZero}
 use Rattle.definitions.specs.Syntax.{DataType, boolean, uint, address, Name, meName, finalName, parameterName, Owner, everyone, ownedBy, FieldOwner, toEveryone, toKey, toFinal, Operator, dataTypeCode, isDivision, isEveryone}
 use Rattle.definitions.specs.ContractFile.{isFinalCode, isParameterCode, ownerOfCode, fieldOwnerOfCode, operatorOf, dataTypeOf}
-use Rattle.definitions.specs.DataTypes.{OperatorClass, arithmetic, order, equality, logic, classOf, operandsFit, resultType}
+use Rattle.definitions.specs.DataTypes.{operandsFit, resultType}
 use Rattle.definitions.specs.Owners.{Links, isReader, placeOwner, ownerOfParts}
 use Rattle.definitions.specs.Numbers.{targetInTables, isTagged, isNone, mayBePut, fault}
 use Rattle.links.specs.Names.{nameOfCode, nameWith, linkedBy}
@@ -21,14 +21,11 @@ use Rattle.faults.proofs.Faults.{least-none, least-one, counted-11, counted-15}
 use Rattle.links.proofs.Joining.{linked-codes}
 use Rattle.codes.specs.Codes.{fitCodes, isFieldCode, placeCode, partsCode}
 
-pub fit-codes : (c : OperatorClass) (left right : DataType) → operandsFit c left right ≡ fitCodes c (dataTypeCode left) (dataTypeCode right)
-fit-codes arithmetic left right = refl
-fit-codes order left right = refl
-fit-codes equality left right = refl
-fit-codes logic left right = refl
+pub fit-codes : (o : Operator) (left right : DataType) → operandsFit o left right ≡ fitCodes o (dataTypeCode left) (dataTypeCode right)
+fit-codes o left right = refl
 
 pub fit-rest : (code left right : ℕ) → (code ≡ 7 → ⊥) → (code ≡ 8 → ⊥) → (code ≡ 9 → ⊥) → (code ≡ 10 → ⊥)
-    → fitCodes (classOf (operatorOf code)) left right ≡ (eqb left 1 && eqb right 1)
+    → fitCodes (operatorOf code) left right ≡ (eqb left 1 && eqb right 1)
 fit-rest zero l r a b c d = refl
 fit-rest (suc zero) l r a b c d = refl
 fit-rest (suc (suc zero)) l r a b c d = refl
@@ -43,7 +40,7 @@ fit-rest (suc (suc (suc (suc (suc (suc (suc (suc (suc (suc zero)))))))))) l r a 
 fit-rest (suc (suc (suc (suc (suc (suc (suc (suc (suc (suc (suc n))))))))))) l r a b c d = refl
 
 pub result-rest : (code : ℕ) → (code ≡ 5 → ⊥) → (code ≡ 6 → ⊥) → (code ≡ 7 → ⊥) → (code ≡ 8 → ⊥) → (code ≡ 9 → ⊥) → (code ≡ 10 → ⊥)
-    → dataTypeCode (resultType (classOf (operatorOf code))) ≡ 1
+    → dataTypeCode (resultType (operatorOf code)) ≡ 1
 result-rest zero a b c d e f = refl
 result-rest (suc zero) a b c d e f = refl
 result-rest (suc (suc zero)) a b c d e f = refl

@@ -1,16 +1,14 @@
 -- Rules on data types and owners, told of their codes.
 use mathlib.Core.Bool.{Bool, _&&_, _||_, cond}
 use Prim.Native.Nat.{ℕ}
-use lib.Dec.{eqb}
+use lib.Dec.{eqb, leb}
 use Rattle.definitions.specs.Basics.{isZero}
+use Rattle.definitions.specs.Syntax.{Operator, operatorCode}
 use Rattle.definitions.specs.ContractFile.{isFinalCode}
-use Rattle.definitions.specs.DataTypes.{OperatorClass, arithmetic, order, equality, logic}
 
-abbrev pub fitCodes : OperatorClass → ℕ → ℕ → Bool
-fitCodes arithmetic left right = eqb left 1 && eqb right 1
-fitCodes order left right = eqb left 1 && eqb right 1
-fitCodes equality left right = eqb left right
-fitCodes logic left right = eqb left 0 && eqb right 0
+abbrev pub fitCodes : Operator → ℕ → ℕ → Bool
+fitCodes o left right =
+    cond (leb (operatorCode o) 6) (eqb left 1 && eqb right 1) (cond (leb (operatorCode o) 8) (eqb left right) (eqb left 0 && eqb right 0))
 
 -- A field's owner code: 0, 16+f or 2.
 abbrev pub isFieldCode : ℕ → Bool

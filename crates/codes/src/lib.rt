@@ -9,7 +9,7 @@ ghost use mathlib.Core.Bool.{true, not, cond};
 ghost use Rattle.definitions.specs.Owners.{isReader};
 ghost use Rattle.definitions.specs.ContractFile.{ownerOfCode, operatorOf, dataTypeOf};
 ghost use Rattle.definitions.specs.Syntax.{dataTypeCode, isDivision};
-ghost use Rattle.definitions.specs.DataTypes.{classOf, resultType};
+ghost use Rattle.definitions.specs.DataTypes.{resultType};
 ghost use Rattle.definitions.specs.Numbers.{targetInTables, fault, mayBePut};
 ghost use Rattle.faults.specs.Faults.{leastFault};
 ghost use Rattle.links.specs.Names.{linkedBy};
@@ -51,7 +51,7 @@ pub fn data_type(code: u8) -> u8
 }
 
 pub fn operands_fit(code: u8, left: u8, right: u8) -> bool
-    ensures { λ r. ⌜ r ≡ fitCodes (classOf (operatorOf code)) left right ⌝ }
+    ensures { λ r. ⌜ r ≡ fitCodes (operatorOf code) left right ⌝ }
 {
     match code {
         7 => left == right,
@@ -63,7 +63,7 @@ pub fn operands_fit(code: u8, left: u8, right: u8) -> bool
 }
 
 pub fn result_type(code: u8) -> u8
-    ensures { λ r. ⌜ r ≡ dataTypeCode (resultType (classOf (operatorOf code))) ⌝ }
+    ensures { λ r. ⌜ r ≡ dataTypeCode (resultType (operatorOf code)) ⌝ }
 {
     match code {
         5 => 0,

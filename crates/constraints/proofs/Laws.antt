@@ -74,7 +74,7 @@ past-value bytes readable addresses variables root r h k =
 
 pub public-equals : (addresses : List ℕ) (owner value v : ℕ) (content content′ : Content) (r : Bool) → owner ≡ 0 → value ≡ v → content ≡ content′
     → r ≡ isContentOf anyone value content → r ≡ isContentOf (readerOf (addressFrom addresses) (ownerOfCode owner)) v content′
-public-equals addresses owner value v content content′ r z e c k = rw (z, ← e, ← c) k
+public-equals addresses owner value v content content′ r z e c k = rw (← e, ← c, z) k
 
 pub owned-equals : (addresses : List ℕ) (owner address value v : ℕ) (content content′ : Content) (r : Bool)
     → readerOf (addressFrom addresses) (ownerOfCode owner) ≡ only address → value ≡ v → content ≡ content′

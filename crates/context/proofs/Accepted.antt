@@ -13,6 +13,7 @@ use Rattle.definitions.specs.ContractFile.{FieldRecord, FunctionRecord, NodeRec
 use Rattle.definitions.specs.Nodes.{kindOf, Node, unknownNode, nodeOfKind, nodeOf, nodeAt, children, expressionParts, statementParts, isExpression, isStatement, fieldsNamed}
 use Rattle.definitions.specs.Numbers.{countOffLimits, fieldInTables, parameterInTables, nodeInTables, outsideTables, fieldOfDeclaredOwner, namesNothing, wrongSort}
 use Rattle.trees.specs.Trees.{Falling}
+use Rattle.trees.proofs.Falls.{nodes-fall}
 use Rattle.file.proofs.Laws.{force-is}
 use Rattle.file.proofs.Sections.{fields-are, functions-are, count-of-nodes, node-of}
 use Rattle.context.specs.Context.{nodesIn, fieldRecordAt, Context}
@@ -41,11 +42,6 @@ none-numbered test n (x ∷ xs) h (suc i) d l =
     rw e (none-numbered test (suc n) xs (or-right (test n x) (anyNumbered test (suc n) xs) h) i d (omega arith))
 
 -- None at or above k: all below k. None that fails a test: all pass it.
-none-above : (k : ℕ) (xs : List ℕ) → any (leb k) xs ≡ false → all (λ x. ltb x k) xs ≡ true
-unfolding any all
-none-above k [] h = refl
-none-above k (x ∷ xs) h = rw (lt-ltb x k (leb-false k x (or-left (leb k x) _ h)), none-above k xs (or-right (leb k x) _ h))
-
 none-fails : (test : ℕ → Bool) (xs : List ℕ) → any (λ x. not (test x)) xs ≡ false → all test xs ≡ true
 unfolding any all
 none-fails test [] h = refl
@@ -181,23 +177,9 @@ module _ (file : List ℕ) (names : namesNothing (sectionsOf file) ≡ false) wh
   abbrev nodeOff : ℕ → NodeRecord → Bool
   nodeOff n r = any (leb (length ((sectionsOf file) .fields))) (fieldsNamed (nodeOf r)) || any (leb n) (children (nodeOf r))
 
-  child-below : (n : ℕ) → n < length ((sectionsOf file) .nodes) → any (leb n) (children (nodeOf (getD ((sectionsOf file) .nodes) n noRecord))) ≡ false
-  unfolding namesNothing
-  child-below n l =
-      let r = getD ((sectionsOf file) .nodes) n noRecord in
-      let off = none-numbered nodeOff 0 ((sectionsOf file) .nodes) (or-right (ownersOff || rootsOff) (anyNumbered nodeOff 0 ((sectionsOf file) .nodes)) names) n noRecord l in
-      let e : 0 + n ≡ n = omega arith in
-      or-right (any (leb (length ((sectionsOf file) .fields))) (fieldsNamed (nodeOf r))) (any (leb n) (children (nodeOf r))) (rw e at off)
-
-  fall : (n : ℕ) (inside : Bool) → ltb n (length ((sectionsOf file) .nodes)) ≡ inside → all (λ child. ltb child n) (children (nodeAt (nodesIn file) n)) ≡ true
-  unfolding all expressionParts statementParts
-  fall n true e =
-      let h = none-above n _ (child-below n (ltb-true n (length ((sectionsOf file) .nodes)) e)) in
-      rw (node-in file n) h
-  fall n false e = rw (node-past file n (ltb-false n (length ((sectionsOf file) .nodes)) e))
-
-  pub nodes-fall : Falling (nodesIn file)
-  nodes-fall = record { below = λ n. fall n (ltb n (length ((sectionsOf file) .nodes))) refl }
+  falling : Falling (nodesIn file)
+  unfolding nodesIn
+  falling = nodes-fall (sectionsOf file) names
 
   pub root-inside : (f : ℕ) (other : FunctionRecord) → f < length ((sectionsOf file) .functions) → (getD ((sectionsOf file) .functions) f other) .root < length ((sectionsOf file) .nodes)
   unfolding namesNothing
@@ -248,7 +230,7 @@ context-of file f counts tables names sorts h =
       fewNodes = few-nodes file counts;
       fieldListed = fields-listed file tables;
       nodeListed = nodes-listed file tables;
-      falling = nodes-fall file names;
+      falling = falling file names;
       expressionsDue = expressions-due file sorts;
       statementsDue = statements-due file sorts;
     }

@@ -1,19 +1,21 @@
 -- What the expression of a node is, by the kind of its record, and that its children's numbers are below its own.
-use mathlib.Core.Path.{_≡_, refl, ap, sym, _∙_}
+use mathlib.Core.Path.{_≡_, refl, ap, sym, subst, _∙_}
 use mathlib.Core.Bool.{Bool, true, false, _&&_, cond, false≢true}
 use mathlib.Core.List.{List, [], _∷_, map}
-use Prim.Native.Nat.{ℕ, _+_, _*_, _<_}
-use borrow.Author.Tests.{ne-eqb, ltb-true}
+use Prim.Native.Nat.{ℕ, _+_, _*_, _<_, _≤_}
+use native.Mathlib.Omega.{arith}
+use borrow.Author.Tests.{ne-eqb, ltb-true, ltb-false}
 use lib.Dec.{eqb, ltb}
-use lib.ListN.{getD, List·getD-map}
+use lib.ListN.{getD, length-map, List·getD-map, List·getD-eq-default}
 use Rattle.definitions.specs.Basics.{all}
-use Rattle.definitions.specs.Syntax.{Expression}
+use Rattle.definitions.specs.Syntax.{Expression, Statement}
 use Rattle.definitions.specs.ContractFile.{NodeRecord, nodesAt, nodeCount, nodeRecord, sectionsOf, dataTypeOf, ownerOfCode, operatorOf}
 use Rattle.definitions.specs.Nodes.{Kind, constantKind, meKind, fieldKind, entryKind, parameterKind, operatorKind, negationKind, revealKind, skipKind, sequenceKind, assignFieldKind, assignEntryKind, requireKind, conditionalKind, noKind, kindOf, Node, unknownNode, nodeOfKind, nodeOf, nodeAt, children, expressionParts, statementParts, expressionOf}
 use Rattle.definitions.specs.Numbers.{kindInTables, nodeInTables}
-use Rattle.trees.specs.Trees.{expressionIn, Falling}
+use Rattle.trees.specs.Trees.{expressionIn, Falling, Keeps}
 use Rattle.trees.proofs.Unfolding.{expression-unfolds}
-use Rattle.file.proofs.Sections.{node-of}
+use Rattle.trees.proofs.Kept.{unknown-keeps}
+use Rattle.file.proofs.Sections.{node-of, count-of-nodes}
 use Rattle.context.specs.Context.{nodesIn, Context}
 
 pub both-left : (a b : Bool) → a && b ≡ true → a ≡ true
@@ -98,6 +100,19 @@ unfolding nodesIn
 node-read file n inside =
     ap (getD (map nodeOf ((sectionsOf file) .nodes)) n) (sym nothing-unknown) ∙ List·getD-map nodeOf ((sectionsOf file) .nodes) n nothingAt
     ∙ ap nodeOf (node-of file n nothingAt inside)
+
+node-past : (file : List ℕ) (n : ℕ) → nodeCount file ≤ n → nodeAt (nodesIn file) n ≡ unknownNode
+unfolding nodesIn
+node-past file n h = List·getD-eq-default (map nodeOf ((sectionsOf file) .nodes)) unknownNode (omega (arith, length-map ((sectionsOf file) .nodes) nodeOf, count-of-nodes file))
+
+-- What the nodes of a file keep, its whole table keeps.
+pub nodes-keep : (P : Expression → Type 0) (Q : Statement → Type 0) → P Expression.me → Q Statement.skip → (file : List ℕ)
+    → ((n : ℕ) → n < nodeCount file → Keeps P Q (nodeOf (nodeRecord file (nodesAt file + 2 + 8 * n)))) → (n : ℕ) → Keeps P Q (nodeAt (nodesIn file) n)
+nodes-keep P Q leaf nothing file keep n = go (ltb n (nodeCount file)) refl
+  where
+    go : (inside : Bool) → ltb n (nodeCount file) ≡ inside → Keeps P Q (nodeAt (nodesIn file) n)
+    go true e = let h = ltb-true n (nodeCount file) e in subst (Keeps P Q) (sym (node-read file n h)) (keep n h)
+    go false e = subst (Keeps P Q) (sym (node-past file n (ltb-false n (nodeCount file) e))) (unknown-keeps P Q leaf nothing)
 
 module _ (file : List ℕ) (functionStart nodesStart : ℕ) (context : Context file functionStart nodesStart) (n : ℕ) (inside : n < nodeCount file) (r : NodeRecord)
     (same : r ≡ nodeRecord file (nodesStart + 2 + 8 * n)) where

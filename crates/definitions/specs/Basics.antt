@@ -2,14 +2,14 @@
 pub use mathlib.Core.Path.{_≡_}
 pub use mathlib.Core.Bool.{Bool, true, false, _&&_, _||_, cond, not}
 pub use mathlib.Core.List.{List, [], _∷_, _++_, map, zipWith}
+unfoldable pub use mathlib.Core.List.{flatMap}
 pub use mathlib.Core.Option.{Option, none, some}
 pub use Prim.Native.Nat.{ℕ, zero, suc, _+_, _/_, _%_, max, _*_, _-_}
 pub use lib.Dec.{eqb, leb, ltb}
 pub use lib.ListN.{length, replicate, getD, drop, set}
 pub use lib.Seq.{slice}
 
--- f at n, with n worked out first. A definition computes by name: a number that a recursion names twice would be worked
--- out twice at each level.
+-- f at n, with n worked out first: a definition computes by name, so a number that a recursion names twice is worked out twice.
 abbrev pub force {ℓ} : {A : Type ℓ} → ℕ → (ℕ → A) → A
 force zero f = f zero
 force (suc n) f = f (suc n)
@@ -35,17 +35,12 @@ unfoldable pub largest : List ℕ → ℕ
 largest [] = 0
 largest (n ∷ ns) = max n (largest ns)
 
-unfoldable pub flatMap : {A B : Type 0} → (A → List B) → List A → List B
-flatMap f [] = []
-flatMap f (x ∷ xs) = f x ++ flatMap f xs
-
 abbrev pub isZero : ℕ → Bool
 isZero n = eqb n 0
 
 -- A bool's value: 1 for true, 0 for false.
 abbrev pub bit : Bool → ℕ
-bit true = 1
-bit false = 0
+bit b = cond b 1 0
 
 abbrev pub isTrue : ℕ → Bool
 isTrue n = not (isZero n)

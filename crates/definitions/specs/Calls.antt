@@ -30,16 +30,8 @@ deployedPlaces fields addresses =
 
 unfoldable pub deployed : List ℕ → List ℕ → Ledger
 deployed file addresses =
-    record {
-      file = file;
-      call = 0;
-      function = 0;
-      caller = 0;
-      outcome = 0;
-      parameters = [];
-      variables = [];
-      places = deployedPlaces ((contractIn file) .fields) addresses;
-    }
+    let places = deployedPlaces ((contractIn file) .fields) addresses in
+    record { file = file; call = 0; function = 0; caller = 0; outcome = 0; parameters = []; variables = []; places = places }
 
 -- What the file asks of an item: its type, and plain or a cell of one address.
 pub record Form : Type 0 where
@@ -50,15 +42,12 @@ abbrev pub fits : Form → Content → Bool
 fits form content = isContent (form .reader) content && isOfType (form .type) (openedNumber content)
   where
     isContent : Reader → Content → Bool
-    isContent anyone (plain v) = true
-    isContent anyone (cell c) = false
-    isContent (only x) (plain v) = false
-    isContent (only x) (cell c) = eqb (c .owner) x
+    isContent anyone = elim [ plain v ↦ true | cell c ↦ false ]
+    isContent (only x) = elim [ plain v ↦ false | cell c ↦ eqb (c .owner) x ]
 
 -- "a variable may be plain 0"
 abbrev pub isPlainZero : Content → Bool
-isPlainZero (plain v) = isZero v
-isPlainZero (cell c) = false
+isPlainZero = elim [ plain v ↦ isZero v | cell c ↦ false ]
 
 unfoldable pub allFit : (Form → Content → Bool) → List Form → List Content → Bool
 allFit test [] [] = true
@@ -68,9 +57,7 @@ allFit test (f ∷ fs) (c ∷ cs) = test f c && allFit test fs cs
 
 -- A variable's type is that of the expression that it is supplied for or read from; a guard is a bool.
 abbrev pub variableType : Scope → Variable → DataType
-variableType scope (supplied o e) = typeOf scope e
-variableType scope (readFrom o e) = typeOf scope e
-variableType scope guard = boolean
+variableType scope = elim [ supplied o e ↦ typeOf scope e | readFrom o e ↦ typeOf scope e | guard ↦ boolean ]
 
 unfoldable pub publicOf : {A : Type 0} → List Parameter → List A → List A
 publicOf [] items = []
@@ -162,16 +149,7 @@ module _ (l : Ledger) (function caller : ℕ) where
 
     abbrev pub afterCall : ℕ → List Content → State → Ledger
     afterCall outcome shown end =
-        record {
-          file = l .file;
-          call = suc (l .call);
-          function = function;
-          caller = caller;
-          outcome = outcome;
-          parameters = shown;
-          variables = end .variables;
-          places = end .places;
-        }
+        record { file = l .file; call = suc (l .call); function = function; caller = caller; outcome = outcome; parameters = shown; variables = end .variables; places = end .places }
 
     abbrev pub afterDone : Ledger
     afterDone = afterCall 0 parameters (stateAfter addressInCall ((contractOfLedger l) .fields) parameters startOfCall (writtenFunction .body))
@@ -190,9 +168,7 @@ module _ (scope : Scope) (address : Name → ℕ) (call : ℕ) (arguments : List
 
   -- "A supplied cell's serial is the call and 8 + variable"
   abbrev pub honestContent : List ℕ → ℕ → Variable → Content
-  honestContent places i (supplied o e) = contentFor (readerOf address o) call (8 + i) (valueIn places e)
-  honestContent places i (readFrom o e) = plain 0
-  honestContent places i guard = plain 0
+  honestContent places i = elim [ supplied o e ↦ contentFor (readerOf address o) call (8 + i) (valueIn places e) | readFrom o e ↦ plain 0 | guard ↦ plain 0 ]
 
   unfoldable pub honestContents : List ℕ → ℕ → List Variable → List Content
   honestContents places i [] = []

@@ -81,15 +81,11 @@ unfoldable pub functionRecords : ℕ → List ℕ → ℕ → List FunctionRecor
 functionRecords zero file at = []
 functionRecords (suc n) file at = functionRecord file at ∷ force (functionEnd file at) (functionRecords n file)
 
+abbrev pub node : ℕ → ℕ → ℕ → ℕ → ℕ → NodeRecord
+node kind arg first second third = record { kind = kind; arg = arg; first = first; second = second; third = third }
+
 abbrev pub nodeRecord : List ℕ → ℕ → NodeRecord
-nodeRecord file at =
-    record {
-      kind = byteAt file at;
-      arg = byteAt file (at + 1);
-      first = twoBytesAt file (at + 2);
-      second = twoBytesAt file (at + 4);
-      third = twoBytesAt file (at + 6);
-    }
+nodeRecord file at = node (byteAt file at) (byteAt file (at + 1)) (twoBytesAt file (at + 2)) (twoBytesAt file (at + 4)) (twoBytesAt file (at + 6))
 
 unfoldable pub nodeRecords : ℕ → List ℕ → ℕ → List NodeRecord
 nodeRecords zero file at = []
@@ -105,10 +101,7 @@ sectionsOf file =
 
 -- "Each section, count included, is handed back on request as that part of the caller's file (0 fields, 1 functions, 2 nodes)."
 unfoldable pub sectionPart : List ℕ → ℕ → List ℕ
-sectionPart file zero = slice 0 (functionsAt file) file
-sectionPart file (suc zero) = slice (functionsAt file) (nodesAt file) file
-sectionPart file (suc (suc zero)) = drop (nodesAt file) file
-sectionPart file (suc (suc (suc n))) = []
+sectionPart file n = getD (slice 0 (functionsAt file) file ∷ slice (functionsAt file) (nodesAt file) file ∷ drop (nodesAt file) file ∷ []) n []
 
 -- The codes, as what they mean. Which codes are in the tables is number 3's to say; others read as the last of the list.
 
@@ -135,14 +128,10 @@ fieldOwnerOfCode code = cond (eqb code 0) toEveryone (cond (eqb code 2) toKey (t
 
 abbrev pub ownerCode : Owner → ℕ
 ownerCode everyone = 0
-ownerCode (ownedBy meName) = 1
-ownerCode (ownedBy (finalName f)) = 16 + f
-ownerCode (ownedBy (parameterName k)) = 128 + k
+ownerCode (ownedBy n) = elim n [ meName ↦ 1 | finalName f ↦ 16 + f | parameterName k ↦ 128 + k ]
 
 abbrev pub fieldOwnerCode : FieldOwner → ℕ
-fieldOwnerCode toEveryone = 0
-fieldOwnerCode toKey = 2
-fieldOwnerCode (toFinal f) = 16 + f
+fieldOwnerCode = elim [ toEveryone ↦ 0 | toKey ↦ 2 | toFinal f ↦ 16 + f ]
 
 -- "Operators: 0 +, 1 −, 2 ×, 3 /, 4 %, 5 <, 6 ≤, 7 ==, 8 !=, 9 and, 10 or."
 abbrev pub operators : List Operator

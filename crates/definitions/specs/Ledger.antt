@@ -30,17 +30,14 @@ pub record Ledger : Type 0 where
 
 -- The number that the walk may use: a cell's content is not to be had there.
 abbrev pub plainNumber : Content → ℕ
-plainNumber (plain v) = v
-plainNumber (cell c) = 0
+plainNumber = elim [ plain v ↦ v | cell c ↦ 0 ]
 
 abbrev pub openedNumber : Content → ℕ
-openedNumber (plain v) = v
-openedNumber (cell c) = c .value
+openedNumber = elim [ plain v ↦ v | cell c ↦ c .value ]
 
 -- A value for its readers: plain for all, or a cell of one address with a serial.
 abbrev pub contentFor : Reader → ℕ → ℕ → ℕ → Content
-contentFor anyone call index v = plain v
-contentFor (only x) call index v = cell (record { owner = x; call = call; index = index; value = v })
+contentFor reader call index v = elim reader [ anyone ↦ plain v | only x ↦ cell (record { owner = x; call = call; index = index; value = v }) ]
 
 pub record State : Type 0 where
   pub places : List Content
@@ -51,18 +48,14 @@ contentAt contents i = getD contents i (plain 0)
 
 -- "A constraint holds when its guard isn't set, or its variable is the root's value, as a cell of its owner code's address if a cell."
 abbrev pub isContentOf : Reader → ℕ → Content → Bool
-isContentOf anyone n (plain v) = eqb v n
-isContentOf anyone n (cell c) = false
-isContentOf (only x) n (plain v) = false
-isContentOf (only x) n (cell c) = eqb (c .owner) x && eqb (c .value) n
+isContentOf anyone n = elim [ plain v ↦ eqb v n | cell c ↦ false ]
+isContentOf (only x) n = elim [ plain v ↦ false | cell c ↦ eqb (c .owner) x && eqb (c .value) n ]
 
 abbrev pub opensFor : ℕ → Content → Bool
-opensFor x (plain v) = false
-opensFor x (cell c) = eqb (c .owner) x
+opensFor x = elim [ plain v ↦ false | cell c ↦ eqb (c .owner) x ]
 
 abbrev pub isSet : List Content → Guard → Bool
-isSet variables always = true
-isSet variables (under i) = isTrue (plainNumber (contentAt variables i))
+isSet variables = elim [ always ↦ true | under i ↦ isTrue (plainNumber (contentAt variables i)) ]
 
 module _ (address : Name → ℕ) where
   unfoldable pub circuitValue : List Content → Circuit → ℕ

@@ -4,7 +4,7 @@ use Rattle.definitions.specs.Syntax.{boolean, address, Name, meName, fin
 use Rattle.definitions.specs.ContractFile.{FieldRecord, ParameterRecord, NodeRecord, Sections, fieldCount, functionCount, nodeCount, fileEnd, sectionsOf, sectionPart, isFinalCode, isParameterCode, dataTypeOf, fieldOf}
 use Rattle.definitions.specs.Nodes.{Kind, constantKind, meKind, fieldKind, entryKind, parameterKind, operatorKind, negationKind, revealKind, skipKind, sequenceKind, assignFieldKind, assignEntryKind, requireKind, conditionalKind, noKind, kindOf, nodeOf, nodeAt, constantValue, expressionParts, statementParts, children, isExpression, isStatement, fieldsNamed, chainLength, contractOf}
 use Rattle.definitions.specs.Owners.{Links, noLinks, isReader, isPublicAddress, placeOwner, nameOf, ownerOf, isPublic, linksAfter}
-use Rattle.definitions.specs.DataTypes.{isOfType, classOf, operandsFit, typeOf}
+use Rattle.definitions.specs.DataTypes.{isOfType, operandsFit, typeOf}
 
 -- "1. The file ends too early for its counts, or bytes remain."
 unfoldable pub endsWrongly : List ℕ → Bool
@@ -59,9 +59,7 @@ outsideTables s =
 
 -- "4. A field number, in owner codes too, names nothing, a root is no node, or a child's number isn't below its parent's."
 abbrev pub fieldOfDeclaredOwner : FieldOwner → List ℕ
-fieldOfDeclaredOwner toEveryone = []
-fieldOfDeclaredOwner toKey = []
-fieldOfDeclaredOwner (toFinal f) = f ∷ []
+fieldOfDeclaredOwner = elim [ toEveryone ↦ [] | toKey ↦ [] | toFinal f ↦ f ∷ [] ]
 
 unfoldable pub namesNothing : Sections → Bool
 namesNothing s =
@@ -86,30 +84,22 @@ unfoldable pub wrongSort : Sections → Bool
 wrongSort s =
     let nodes = map nodeOf (s .nodes) in
     any (λ r. not (isStatement (nodeAt nodes (r .root)))) (s .functions)
-    || any
-    (λ node. any (λ n. not (isExpression (nodeAt nodes n))) (expressionParts node)
-    || any (λ n. not (isStatement (nodeAt nodes n))) (statementParts node))
-    nodes
+    || any (λ node. any (λ n. not (isExpression (nodeAt nodes n))) (expressionParts node) || any (λ n. not (isStatement (nodeAt nodes n))) (statementParts node)) nodes
 
 -- Numbers 8 to 15 are told of trees. A tree's faults are the numbers of the sentences that hold somewhere in it.
 abbrev pub fault : Bool → ℕ → List ℕ
-fault true n = n ∷ []
-fault false n = []
+fault holds n = cond holds (n ∷ []) []
 
 -- "15. An assigned value's owner is neither all nor linked to the place's owner (the same name counts)."
 abbrev pub mayBePut : Links → Owner → Owner → Bool
 mayBePut linked everyone place = true
-mayBePut linked (ownedBy n) everyone = false
-mayBePut linked (ownedBy n) (ownedBy m) = linked n m
+mayBePut linked (ownedBy n) place = elim place [ everyone ↦ false | ownedBy m ↦ linked n m ]
 
 abbrev pub isTagged : FieldOwner → Bool
-isTagged toEveryone = false
-isTagged toKey = true
-isTagged (toFinal f) = false
+isTagged = elim [ toEveryone ↦ false | toKey ↦ true | toFinal f ↦ false ]
 
 abbrev pub isNone : Option Name → Bool
-isNone none = true
-isNone (some n) = false
+isNone = elim [ none ↦ true | some n ↦ false ]
 
 module _ (scope : Scope) where
   abbrev pub declared : ℕ → Field
@@ -118,9 +108,7 @@ module _ (scope : Scope) where
   -- "8. .. an owner code's field isn't final, .. or an owner code's parameter isn't a public address."
   abbrev pub ownerFits : Owner → Bool
   ownerFits everyone = true
-  ownerFits (ownedBy meName) = true
-  ownerFits (ownedBy (finalName f)) = isFinal ((declared f) .shape)
-  ownerFits (ownedBy (parameterName k)) = isPublicAddress (parameterAt (scope .parameters) k)
+  ownerFits (ownedBy n) = elim n [ meName ↦ true | finalName f ↦ isFinal ((declared f) .shape) | parameterName k ↦ isPublicAddress (parameterAt (scope .parameters) k) ]
 
   -- "10. A key isn't public, or a tagged mapping's key isn't a name."; "9. .. keys are addresses"; "8. .. (.. 4 and 19 take 2)"
   abbrev pub entryFaults : ℕ → Expression → List ℕ
@@ -143,7 +131,7 @@ module _ (scope : Scope) where
     expressionFaults (parameter k) = fault (leb (length (scope .parameters)) k) 8 ++ readFault (parameter k)
     -- "9. A data type doesn't fit"; "12. Operator 3 or 4 has a private operand."
     expressionFaults (operator o left right) =
-        expressionFaults left ++ expressionFaults right ++ fault (not (operandsFit (classOf o) (typeOf scope left) (typeOf scope right))) 9
+        expressionFaults left ++ expressionFaults right ++ fault (not (operandsFit o (typeOf scope left) (typeOf scope right))) 9
         ++ readFault left ++ readFault right ++ fault (isDivision o && (not (isPublic scope left) || not (isPublic scope right))) 12
     expressionFaults (negation part) = expressionFaults part ++ fault (not (sameType (typeOf scope part) boolean)) 9 ++ readFault part
     -- "13. A reveal's operand belongs to all."

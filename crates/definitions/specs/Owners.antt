@@ -16,32 +16,27 @@ withLink x y linked a b = linked a b || (linked a x && linked y b) || (linked a 
 
 abbrev pub withLinkOf : Option Name → Option Name → Links → Links
 withLinkOf none right linked = linked
-withLinkOf (some x) none linked = linked
-withLinkOf (some x) (some y) linked = withLink x y linked
+withLinkOf (some x) right linked = elim right [ none ↦ linked | some y ↦ withLink x y linked ]
 
 abbrev pub isPublicAddress : Parameter → Bool
 isPublicAddress p = sameType (p .type) address && not (p .private)
 
 -- "An operator or not belongs to all when its operands do, otherwise to the caller."
 abbrev pub ownerOfParts : Owner → Owner → Owner
-ownerOfParts everyone everyone = everyone
-ownerOfParts everyone (ownedBy n) = ownedBy meName
-ownerOfParts (ownedBy n) right = ownedBy meName
+ownerOfParts left right = cond (isEveryone left && isEveryone right) everyone (ownedBy meName)
 
 -- "a place (kinds 3 to 5) to its declared owner (tag: the name used as key)". A tag with no name is number 10.
 abbrev pub placeOwner : FieldOwner → Option Name → Owner
 placeOwner toEveryone key = everyone
 placeOwner (toFinal f) key = ownedBy (finalName f)
-placeOwner toKey none = ownedBy meName
-placeOwner toKey (some n) = ownedBy n
+placeOwner toKey key = ownedBy (elim key [ none ↦ meName | some n ↦ n ])
 
 abbrev pub parameterOwner : Parameter → Owner
 parameterOwner p = cond (p .private) (ownedBy meName) everyone
 
 -- "A name linked to me is the caller": an owner that is all or the caller.
 abbrev pub isReader : Links → Owner → Bool
-isReader linked everyone = true
-isReader linked (ownedBy n) = linked n meName
+isReader linked = elim [ everyone ↦ true | ownedBy n ↦ linked n meName ]
 
 module _ (scope : Scope) where
   -- "A name is me, a final, or a public address parameter."

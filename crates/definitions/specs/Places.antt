@@ -39,18 +39,14 @@ pub data Reader : Type 0 where
   only : ℕ → Reader
 
 abbrev pub mayRead : ℕ → Reader → Bool
-mayRead party anyone = true
-mayRead party (only x) = eqb x party
+mayRead party = elim [ anyone ↦ true | only x ↦ eqb x party ]
 
 abbrev pub readerOf : (Name → ℕ) → Owner → Reader
-readerOf address everyone = anyone
-readerOf address (ownedBy n) = only (address n)
+readerOf address = elim [ everyone ↦ anyone | ownedBy n ↦ only (address n) ]
 
 -- The reader of a place, by its declared owner and its key: "0 all, .. 2 the mapping's key, 16+f final field f".
 abbrev pub placeReader : (ℕ → ℕ) → FieldOwner → ℕ → Reader
-placeReader final toEveryone key = anyone
-placeReader final toKey key = only key
-placeReader final (toFinal f) key = only (final f)
+placeReader final owner key = elim owner [ toEveryone ↦ anyone | toKey ↦ only key | toFinal f ↦ only (final f) ]
 
 abbrev pub placeReaders : List Field → List ℕ → List Reader
 placeReaders fields places = perPlace (λ d key. placeReader (finalAddress fields places) (d .owner) key) fields

@@ -44,8 +44,7 @@ supplying o e circuit i =
 
 -- A read variable in a circuit: as it stands where plain, opened where a cell.
 abbrev pub readForm : Owner → ℕ → Circuit
-readForm everyone i = Circuit.variable i
-readForm (ownedBy n) i = Circuit.opened i
+readForm o i = elim o [ everyone ↦ Circuit.variable i | ownedBy n ↦ Circuit.opened i ]
 
 -- "The read's own key or operands follow the body rule, and come before its variable."
 unfoldable pub reading : Owner → Expression → Generator BodyExpression → Generator Circuit
@@ -175,8 +174,7 @@ openings (k ∷ ks) i =
 
 -- "A verify ends the body if any constraint exists."
 abbrev pub withVerify : List Constraint → Command → Command
-withVerify [] body = body
-withVerify (c ∷ cs) body = Command.sequence body Command.verify
+withVerify constraints body = elim constraints [ [] ↦ body | c ∷ cs ↦ Command.sequence body Command.verify ]
 
 -- ".. where the function's rest is (body, verify)"
 unfoldable pub rewriteFunction : List Field → Function → WrittenFunction
@@ -184,12 +182,8 @@ rewriteFunction fields g =
     let opening = openings (privateParameters 0 (g .parameters)) 0 in
     let inside = rewriteStatement (record { fields = fields; parameters = g .parameters }) (g .body) always (length (opening .variables)) in
     let constraints = heldUnder always (opening .claims) ++ inside .constraints in
-    record {
-      parameters = g .parameters;
-      variables = opening .variables ++ inside .variables;
-      constraints = constraints;
-      body = stepsBefore (opening .steps) (withVerify constraints (inside .command));
-    }
+    let body = stepsBefore (opening .steps) (withVerify constraints (inside .command)) in
+    record { parameters = g .parameters; variables = opening .variables ++ inside .variables; constraints = constraints; body = body }
 
 unfoldable pub rewrite : Contract → WrittenContract
 rewrite c = record { fields = c .fields; functions = map (rewriteFunction (c .fields)) (c .functions) }

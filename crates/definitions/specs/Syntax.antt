@@ -84,17 +84,13 @@ scopeOf contract f = record { fields = contract .fields; parameters = (functionA
 
 -- A type's and a shape's number.
 abbrev pub dataTypeCode : DataType → ℕ
-dataTypeCode boolean = 0
-dataTypeCode uint = 1
-dataTypeCode address = 2
+dataTypeCode = elim [ boolean ↦ 0 | uint ↦ 1 | address ↦ 2 ]
 
 abbrev pub sameType : DataType → DataType → Bool
 sameType a b = eqb (dataTypeCode a) (dataTypeCode b)
 
 abbrev pub shapeCode : Shape → ℕ
-shapeCode plainField = 0
-shapeCode finalField = 1
-shapeCode mapping = 2
+shapeCode = elim [ plainField ↦ 0 | finalField ↦ 1 | mapping ↦ 2 ]
 
 abbrev pub isPlainField : Shape → Bool
 isPlainField s = eqb (shapeCode s) 0
@@ -106,33 +102,17 @@ abbrev pub isMapping : Shape → Bool
 isMapping s = eqb (shapeCode s) 2
 
 unfoldable pub sameName : Name → Name → Bool
-sameName meName meName = true
-sameName meName (finalName g) = false
-sameName meName (parameterName j) = false
-sameName (finalName f) meName = false
-sameName (finalName f) (finalName g) = eqb f g
-sameName (finalName f) (parameterName j) = false
-sameName (parameterName k) meName = false
-sameName (parameterName k) (finalName g) = false
-sameName (parameterName k) (parameterName j) = eqb k j
+sameName meName = elim [ meName ↦ true | finalName g ↦ false | parameterName j ↦ false ]
+sameName (finalName f) = elim [ meName ↦ false | finalName g ↦ eqb f g | parameterName j ↦ false ]
+sameName (parameterName k) = elim [ meName ↦ false | finalName g ↦ false | parameterName j ↦ eqb k j ]
 
 abbrev pub isEveryone : Owner → Bool
-isEveryone everyone = true
-isEveryone (ownedBy n) = false
+isEveryone = elim [ everyone ↦ true | ownedBy n ↦ false ]
 
 -- An operator's number.
 abbrev pub operatorCode : Operator → ℕ
-operatorCode plus = 0
-operatorCode minus = 1
-operatorCode times = 2
-operatorCode divide = 3
-operatorCode remainder = 4
-operatorCode less = 5
-operatorCode lessOrEqual = 6
-operatorCode equal = 7
-operatorCode unequal = 8
-operatorCode conjunction = 9
-operatorCode disjunction = 10
+operatorCode =
+    elim [ plus ↦ 0 | minus ↦ 1 | times ↦ 2 | divide ↦ 3 | remainder ↦ 4 | less ↦ 5 | lessOrEqual ↦ 6 | equal ↦ 7 | unequal ↦ 8 | conjunction ↦ 9 | disjunction ↦ 10 ]
 
 abbrev pub isOperator : Operator → Operator → Bool
 isOperator o p = eqb (operatorCode o) (operatorCode p)

@@ -1,6 +1,6 @@
 -- 01, Rewriting: the rewritten contract as trees.
-use Rattle.definitions.specs.Basics.{List, ℕ}
-use Rattle.definitions.specs.Syntax.{DataType, Owner, everyone, ownedBy, Operator, Expression, Parameter, Field}
+use Rattle.definitions.specs.Basics.{cond, List, ℕ}
+use Rattle.definitions.specs.Syntax.{DataType, Owner, everyone, isEveryone, Operator, Expression, Parameter, Field}
 
 -- An expression of a written body: "Nodes follow as in input, with 9 variable first".
 pub data BodyExpression : Type 0 where
@@ -61,13 +61,7 @@ pub record WrittenContract : Type 0 where
 
 -- A variable's origin, and its owner, which is everyone unless it holds a cell.
 abbrev pub origin : Variable → ℕ
-origin (supplied everyone e) = 0
-origin (supplied (ownedBy n) e) = 1
-origin (readFrom everyone e) = 2
-origin (readFrom (ownedBy n) e) = 3
-origin guard = 4
+origin = elim [ supplied o e ↦ cond (isEveryone o) 0 1 | readFrom o e ↦ cond (isEveryone o) 2 3 | guard ↦ 4 ]
 
 abbrev pub variableOwner : Variable → Owner
-variableOwner (supplied o e) = o
-variableOwner (readFrom o e) = o
-variableOwner guard = everyone
+variableOwner = elim [ supplied o e ↦ o | readFrom o e ↦ o | guard ↦ everyone ]

@@ -1,7 +1,7 @@
 -- 01, Rewriting: the written file, to the byte, and what writing does with the lent output.
 use Rattle.definitions.specs.Basics.{cond, List, [], _∷_, _++_, ℕ, _+_, _-_, _/_, _%_, eqb, ltb, length, drop, any, flatMap, twoBytes, firstThatHolds}
-use Rattle.definitions.specs.Syntax.{DataType, everyone, ownedBy, Field, Parameter, dataTypeCode, shapeCode, operatorCode}
-use Rattle.definitions.specs.ContractFile.{NodeRecord, sectionsOf, ownerCode, fieldOwnerCode}
+use Rattle.definitions.specs.Syntax.{DataType, isEveryone, Field, Parameter, dataTypeCode, shapeCode, operatorCode}
+use Rattle.definitions.specs.ContractFile.{NodeRecord, node, sectionsOf, ownerCode, fieldOwnerCode}
 use Rattle.definitions.specs.Nodes.{contractOf}
 use Rattle.definitions.specs.Numbers.{checkNumber, orElse}
 use Rattle.definitions.specs.Written.{BodyExpression, Circuit, Command, Variable, supplied, readFrom, guard, origin, variableOwner, Claim, equals, opensForCaller, Guard, always, under, Constraint, WrittenFunction, WrittenContract}
@@ -21,9 +21,6 @@ size (oneChild kind arg first) = size first + 1
 size (twoChildren kind arg first second) = size first + size second + 1
 size (threeChildren kind first second third) = size first + size second + size third + 1
 size (setting variable value) = size value + 1
-
-abbrev pub node : ℕ → ℕ → ℕ → ℕ → ℕ → NodeRecord
-node kind arg first second third = record { kind = kind; arg = arg; first = first; second = second; third = third }
 
 -- "Numbering is children first, left to right": the nodes of a tree whose first node has number n. A tree's root is its last node.
 unfoldable pub numbered : ℕ → Tree → List NodeRecord
@@ -70,8 +67,7 @@ commandTree (Command.setVariable i value) = setting i (bodyTree value)
 commandTree Command.verify = leaf 23 0 0 0
 
 abbrev pub claimTrees : Claim → List Tree
-claimTrees (equals i o circuit) = circuitTree circuit ∷ []
-claimTrees (opensForCaller i) = []
+claimTrees = elim [ equals i o circuit ↦ circuitTree circuit ∷ [] | opensForCaller i ↦ [] ]
 
 -- "per function circuits, in constraint order, come before the body"
 abbrev pub functionTrees : WrittenFunction → List Tree
@@ -89,11 +85,8 @@ abbrev pub nodeBytes : NodeRecord → List ℕ
 nodeBytes r = r .kind ∷ r .arg ∷ twoBytes (r .first) ++ twoBytes (r .second) ++ twoBytes (r .third)
 
 -- "Fields keep their layout; private ones get type 3 (cell), and so do private parameters."
-abbrev pub fieldTypeCode : Field → ℕ
-fieldTypeCode d = cond (eqb (fieldOwnerCode (d .owner)) 0) (dataTypeCode (d .type)) 3
-
 abbrev pub fieldBytes : Field → List ℕ
-fieldBytes d = shapeCode (d .shape) ∷ fieldTypeCode d ∷ fieldOwnerCode (d .owner) ∷ []
+fieldBytes d = shapeCode (d .shape) ∷ cond (eqb (fieldOwnerCode (d .owner)) 0) (dataTypeCode (d .type)) 3 ∷ fieldOwnerCode (d .owner) ∷ []
 
 abbrev pub parameterBytes : Parameter → List ℕ
 parameterBytes p = cond (p .private) (3 ∷ 1 ∷ []) (dataTypeCode (p .type) ∷ 0 ∷ [])
@@ -104,10 +97,7 @@ variableBytes v = origin v ∷ ownerCode (variableOwner v) ∷ []
 
 -- "owner codes needing keys (those of supplied cells), each once by first use"
 abbrev pub keyOf : Variable → List ℕ
-keyOf (supplied everyone e) = []
-keyOf (supplied (ownedBy n) e) = ownerCode (ownedBy n) ∷ []
-keyOf (readFrom o e) = []
-keyOf guard = []
+keyOf = elim [ supplied o e ↦ cond (isEveryone o) [] (ownerCode o ∷ []) | readFrom o e ↦ [] | guard ↦ [] ]
 
 unfoldable pub eachOnce : List ℕ → List ℕ → List ℕ
 eachOnce seen [] = []
@@ -118,8 +108,7 @@ keysOf vs = eachOnce [] (flatMap keyOf vs)
 
 -- "each guard (0, or 1 + variable), variable, root (65,535 for "opens"), two bytes each"
 abbrev pub guardNumber : Guard → ℕ
-guardNumber always = 0
-guardNumber (under i) = 1 + i
+guardNumber = elim [ always ↦ 0 | under i ↦ 1 + i ]
 
 abbrev pub claimBytes : ℕ → Claim → List ℕ
 claimBytes n (equals i o circuit) = twoBytes i ++ twoBytes (n + size (circuitTree circuit) - 1)

@@ -29,8 +29,8 @@ use Rattle.bound.proofs.Functions.{rewritten-weight}
 use Rattle.bound.proofs.Room.{nodes-suffice, room-suffices}
 use Rattle.function_room.specs.Functions.{functionIn, privateIn, eventsIn, headingsBefore, nodesBefore, FunctionRoom}
 use Rattle.function_room.proofs.Sparse.{variables-sparse}
+use Rattle.event_owners.proofs.Files.{owners-listed}
 use Rattle.function_room.proofs.Owners.{owners-fit}
-use Rattle.function_room.proofs.Tables.{scope-small, targets-small}
 use Rattle.function_room.proofs.Written.{before-step, headings-before-step, written-length}
 
 -- "0 means accepted": none of the sentences holds.
@@ -146,8 +146,7 @@ module _ (file : List ℕ) (accepted : checkNumber file ≡ 0) where
 
     owners-small : ownersFit (eventsIn file start)
     owners-small =
-        owners-fit (scopeIn file start) (scope-small file start function-context) body always (privateIn file start)
-        (targets-small file start function-context (suc (rootAt file start)) (rootAt file start))
+        owners-fit (eventsIn file start) (owners-listed file start function-context (rootAt file start) always (privateIn file start))
 
     pub function-room : FunctionRoom file start (headingsBefore file f) (nodesBefore file f)
     function-room =

@@ -171,7 +171,7 @@ module _ (w : WrittenFunction) (narrow : NarrowFunction w) (few : sizes (functio
       }
 
 -- The function at a place of an accepted file.
-module _ (file : List ℕ) (at nodesStart : ℕ) where
+module _ (file : List ℕ) (at : ℕ) where
   opening-variables : length ((openings (privateParameters 0 (parametersIn file at)) 0) .variables) ≡ privateIn file at
   unfolding parametersIn privateCount
   opening-variables = opening-count (privateParameters 0 (parametersIn file at)) 0
@@ -187,13 +187,13 @@ module _ (file : List ℕ) (at nodesStart : ℕ) where
   unfolding parametersIn
   parameters-count = length-map (parameterRecords (byteAt file at) file (at + 1)) parameterOf ∙ parameters-length (byteAt file at) file (at + 1)
 
-  pub function-is-narrow : Context file at nodesStart → Bytes file → privateIn file at + variableCount (eventsIn file at) ≤ 65536 → NarrowFunction (writtenIn file at)
+  pub function-is-narrow : Context file at (nodesAt file) → Bytes file → privateIn file at + variableCount (eventsIn file at) ≤ 65536 → NarrowFunction (writtenIn file at)
   function-is-narrow context bytes few =
       let counted = variables-are in
-      function-narrow (fieldsIn file) (functionIn file at) (files.scope-coded file at nodesStart context)
-      (files.statement-narrow file at nodesStart context bytes (suc (rootAt file at)) (rootAt file at)) (omega (arith, parameters-count, context .fewParameters)) (omega arith)
+      function-narrow (fieldsIn file) (functionIn file at) (files.scope-coded file at context)
+      (files.statement-narrow file at context bytes (suc (rootAt file at)) (rootAt file at)) (omega (arith, parameters-count, context .fewParameters)) (omega arith)
 
 -- "A call walks the function's written body": what is written of a function reads back.
 pub function-back : (file : List ℕ) (at from base : ℕ) → Bytes file → FunctionRoom file at from base → WrittenBack (writtenIn file at)
 function-back file at from base bytes room =
-    written-back (writtenIn file at) (function-is-narrow file at (nodesAt file) (room .context) bytes (omega (arith, room .variables))) (omega (arith, room .nodes))
+    written-back (writtenIn file at) (function-is-narrow file at (room .context) bytes (omega (arith, room .variables))) (omega (arith, room .nodes))

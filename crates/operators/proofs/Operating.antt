@@ -5,7 +5,7 @@ use Prim.Native.Nat.{ℕ, min}
 use lib.Dec.{eqb}
 use Rattle.definitions.specs.Syntax.{Expression, operator, negation, reveal, Scope, dataTypeCode, isDivision, isEveryone}
 use Rattle.definitions.specs.ContractFile.{ownerOfCode, operatorOf}
-use Rattle.definitions.specs.DataTypes.{typeOf, classOf, operandsFit}
+use Rattle.definitions.specs.DataTypes.{typeOf, operandsFit}
 use Rattle.definitions.specs.Owners.{Links, ownerOf, nameOf, isReader, isPublic}
 use Rattle.definitions.specs.Numbers.{targetInTables, expressionFaults, fault, readFault, ownerFits}
 use Rattle.faults.specs.Faults.{leastFault}
@@ -27,7 +27,7 @@ module _ (scope : Scope) (linked : Links) where
         name = refl;
         fault = simp least-append
             (rw (
-              fit-codes (classOf (operatorOf code)) (typeOf scope e) (typeOf scope f),
+              fit-codes (operatorOf code) (typeOf scope e) (typeOf scope f),
               h .type,
               k .type,
               h .owner,
@@ -36,7 +36,7 @@ module _ (scope : Scope) (linked : Links) where
               k .fault,
               public-code (left .owner),
               public-code (right .owner),
-              least-one (not (fitCodes (classOf (operatorOf code)) (left .kind) (right .kind))) 9 counted-9,
+              least-one (not (fitCodes (operatorOf code) (left .kind) (right .kind))) 9 counted-9,
               least-one (isDivision (operatorOf code) && (not (eqb (left .owner) 0) || not (eqb (right .owner) 0))) 12 counted-12,
             ));
         ownerListed = parts-listed (left .owner) (right .owner);

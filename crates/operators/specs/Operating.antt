@@ -4,7 +4,7 @@ use Prim.Native.Nat.{ℕ, min}
 use lib.Dec.{eqb}
 use Rattle.definitions.specs.Syntax.{dataTypeCode, isDivision}
 use Rattle.definitions.specs.ContractFile.{operatorOf}
-use Rattle.definitions.specs.DataTypes.{classOf, resultType}
+use Rattle.definitions.specs.DataTypes.{resultType}
 use Rattle.definitions.specs.Owners.{Links}
 use Rattle.codes.specs.Codes.{fitCodes, partsCode}
 use Rattle.judgements.specs.Judging.{unreadFault}
@@ -15,14 +15,14 @@ module _ (linked : Links) where
   operatorFault code left right =
       min
       (min
-      (min (min (min (left .fault) (right .fault)) (cond (not (fitCodes (classOf (operatorOf code)) (left .kind) (right .kind))) 9 16)) (unreadFault linked (left .owner)))
+      (min (min (min (left .fault) (right .fault)) (cond (not (fitCodes (operatorOf code) (left .kind) (right .kind))) 9 16)) (unreadFault linked (left .owner)))
       (unreadFault linked (right .owner)))
       (cond (isDivision (operatorOf code) && (not (eqb (left .owner) 0) || not (eqb (right .owner) 0))) 12 16)
 
   abbrev pub operatorJudged : ℕ → Judged → Judged → Judged
   operatorJudged code left right =
       record {
-        kind = dataTypeCode (resultType (classOf (operatorOf code)));
+        kind = dataTypeCode (resultType (operatorOf code));
         owner = partsCode (left .owner) (right .owner);
         name = 0;
         fault = operatorFault code left right;

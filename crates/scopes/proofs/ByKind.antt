@@ -16,7 +16,7 @@ use Rattle.file.specs.Node.{recordOf}
 use Rattle.file.proofs.Sections.{node-of, count-of-nodes}
 use Rattle.scopes.specs.Settled.{Settled, nodesOf, expressionOn, statementOn}
 use Rattle.scopes.proofs.Lists.{getD-map, first-below, rest-below}
-use Rattle.scopes.proofs.Levels.{Falling, expression-unfolds, statement-unfolds}
+use Rattle.scopes.proofs.Levels.{expression-unfolds, statement-unfolds}
 use Rattle.scopes.proofs.Settling.{noNode, falling, reveal-listed}
 
 module _ (r : NodeRecord) (below : ℕ → Expression) where
@@ -123,7 +123,7 @@ module _ (file : List ℕ) (start n : ℕ) (r : NodeRecord) (where-nodes : start
 
 module _ (file : List ℕ) (s : Settled file) (n : ℕ) (r : NodeRecord) (at : nodeAt (nodesOf file) n ≡ nodeOf r) where
   tree : expressionOn (nodesOf file) n ≡ expressionOf (nodeOf r) (expressionOn (nodesOf file))
-  tree = expression-unfolds (nodesOf file) (falling file s) n ∙ ap (λ x. expressionOf x (expressionOn (nodesOf file))) at
+  tree = expression-unfolds file s n ∙ ap (λ x. expressionOf x (expressionOn (nodesOf file))) at
 
   parts-below : any (leb n) (children (nodeOf r)) ≡ false
   parts-below = ap (λ x. any (leb n) (children x)) (sym at) ∙ falling file s n

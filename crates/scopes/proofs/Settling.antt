@@ -23,7 +23,6 @@ use Rattle.scopes.specs.Settled.{Settled, nodesOf}
 use Rattle.scopes.specs.Scopes.{FieldAt, ParameterAt, scopeAt}
 use Rattle.scopes.specs.declared.Parameters.{Parameters}
 use Rattle.scopes.proofs.Lists.{or-left, or-right, and-left, and-right, not-not, none-at, none-numbered, getD-map, any-append-left, any-append-right, first-below, length-fieldRecords, getD-fieldRecords, length-parameterRecords, getD-parameterRecords}
-use Rattle.scopes.proofs.Levels.{Falling}
 
 -- What a number past the last node reads as; no node's number is past it.
 abbrev pub noNode : NodeRecord
@@ -131,7 +130,8 @@ module _ (file : List ℕ) (s : Settled file) where
       || any (λ r. leb (length ((sectionsOf file) .nodes)) (r .root)) ((sectionsOf file) .functions))
       (anyNumbered unsettled 0 ((sectionsOf file) .nodes)) (s .numbers)
 
-  pub falling : Falling (nodesOf file)
+  -- A child's number is below its parent's.
+  pub falling : (n : ℕ) → any (leb n) (children (nodeAt (nodesOf file) n)) ≡ false
   falling n = go (ltb n (nodeCount file)) refl
     where
       go : (b : Bool) → ltb n (nodeCount file) ≡ b → any (leb n) (children (nodeAt (nodesOf file) n)) ≡ false

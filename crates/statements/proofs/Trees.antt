@@ -16,7 +16,7 @@ use Rattle.scopes.proofs.ByKind.{other-statement}
 
 module _ (file : List ℕ) (s : Settled file) (n : ℕ) (r : NodeRecord) (at : nodeAt (nodesOf file) n ≡ nodeOf r) where
   tree : statementOn (nodesOf file) n ≡ statementOf (nodeOf r) (expressionOn (nodesOf file)) (statementOn (nodesOf file))
-  tree = statement-unfolds (nodesOf file) (falling file s) n ∙ ap (λ x. statementOf x (expressionOn (nodesOf file)) (statementOn (nodesOf file))) at
+  tree = statement-unfolds file s n ∙ ap (λ x. statementOf x (expressionOn (nodesOf file)) (statementOn (nodesOf file))) at
 
   parts-below : any (leb n) (children (nodeOf r)) ≡ false
   parts-below = ap (λ x. any (leb n) (children x)) (sym at) ∙ falling file s n

@@ -1,1 +1,3 @@
 pub mod Unfolding
+pub mod Falls
+pub mod Kept

@@ -1,14 +1,15 @@
 -- The tree of a node unfolds into its children's trees: more levels than a node's number change nothing.
 use mathlib.Core.Path.{_≡_, refl, ap, ap₂, sym, _∙_}
 use mathlib.Core.Bool.{Bool, true, false, _&&_, false≢true}
-use mathlib.Core.List.{List, [], _∷_, _++_}
+use mathlib.Core.List.{List, [], _∷_, _++_, map}
 use Prim.Native.Nat.{ℕ, zero, suc, _<_}
 use native.Mathlib.Omega.{arith}
 use lib.Dec.{T, ltb, ltb→lt}
 use Rattle.definitions.specs.Basics.{all}
 use Rattle.definitions.specs.Syntax.{Expression, Statement}
-use Rattle.definitions.specs.Nodes.{ExpressionNode, StatementNode, Node, expressionNode, statementNode, unknownNode, nodeAt, expressionParts, statementParts, children, expressionOf, expressionAt, statementOf, statementAt}
-use Rattle.trees.specs.Trees.{expressionIn, statementIn, Falling}
+use Rattle.definitions.specs.ContractFile.{NodeRecord, node, ownerOfCode, operatorOf}
+use Rattle.definitions.specs.Nodes.{Kind, constantKind, meKind, fieldKind, entryKind, parameterKind, operatorKind, negationKind, revealKind, skipKind, sequenceKind, assignFieldKind, assignEntryKind, requireKind, conditionalKind, noKind, kindOf, Node, nodeOfKind, nodeOf, nodeAt, expressionParts, statementParts, children, expressionOf, expressionAt, statementOf, statementAt}
+use Rattle.trees.specs.Trees.{expressionIn, statementIn, IsRead, Falling}
 
 below-is : (m n : ℕ) → ltb m n ≡ true → m < n
 below-is m n e = ltb→lt m n (rw e tt)
@@ -21,37 +22,69 @@ right : (a b : Bool) → a && b ≡ true → b ≡ true
 right true b e = e
 right false b e = absurd (false≢true e)
 
+-- Every node of a file's table is read from a record, the one for a number past the end from a record of no kind.
+pub nodes-read : (rs : List NodeRecord) (n : ℕ) → IsRead (nodeAt (map nodeOf rs) n)
+unfolding kindOf nodeOfKind
+nodes-read [] n = (node 0 0 0 0 0, refl)
+nodes-read (r ∷ rs) zero = (r, refl)
+nodes-read (r ∷ rs) (suc n) = nodes-read rs n
+
 -- Two readings of the children agree below n, so the node's tree is the same by either.
 module _ (n : ℕ) (f g : ℕ → Expression) (same : (m : ℕ) → m < n → f m ≡ g m) where
-  pub expression-same : (node : Node) → all (λ child. ltb child n) (children node) ≡ true → expressionOf node f ≡ expressionOf node g
-  unfolding expressionOf expressionParts statementParts all
-  expression-same (expressionNode (ExpressionNode.constant t v)) h = refl
-  expression-same (expressionNode ExpressionNode.me) h = refl
-  expression-same (expressionNode (ExpressionNode.field k)) h = refl
-  expression-same (expressionNode (ExpressionNode.entry k key)) h = ap (Expression.entry k) (same key (below-is key n (left _ _ h)))
-  expression-same (expressionNode (ExpressionNode.parameter k)) h = refl
-  expression-same (expressionNode (ExpressionNode.operator o a b)) h =
-      ap₂ (Expression.operator o) (same a (below-is a n (left _ _ h))) (same b (below-is b n (left _ _ (right (ltb a n) _ h))))
-  expression-same (expressionNode (ExpressionNode.negation a)) h = ap Expression.negation (same a (below-is a n (left _ _ h)))
-  expression-same (expressionNode (ExpressionNode.reveal a o)) h = ap (λ (e : Expression). Expression.reveal e o) (same a (below-is a n (left _ _ h)))
-  expression-same (statementNode s) h = refl
-  expression-same unknownNode h = refl
+  expression-same : (k : Kind) (r : NodeRecord) → all (λ child. ltb child n) (children (nodeOfKind k r)) ≡ true
+      → expressionOf (nodeOfKind k r) f ≡ expressionOf (nodeOfKind k r) g
+  unfolding nodeOfKind expressionOf expressionParts statementParts all
+  expression-same constantKind r h = refl
+  expression-same meKind r h = refl
+  expression-same fieldKind r h = refl
+  expression-same entryKind r h = ap (Expression.entry (r .arg)) (same (r .first) (below-is (r .first) n (left _ _ h)))
+  expression-same parameterKind r h = refl
+  expression-same operatorKind r h =
+      ap₂ (Expression.operator (operatorOf (r .arg))) (same (r .first) (below-is (r .first) n (left _ _ h)))
+      (same (r .second) (below-is (r .second) n (left _ _ (right (ltb (r .first) n) _ h))))
+  expression-same negationKind r h = ap Expression.negation (same (r .first) (below-is (r .first) n (left _ _ h)))
+  expression-same revealKind r h =
+      ap (λ (e : Expression). Expression.reveal e (ownerOfCode (r .arg))) (same (r .first) (below-is (r .first) n (left _ _ h)))
+  expression-same skipKind r h = refl
+  expression-same sequenceKind r h = refl
+  expression-same assignFieldKind r h = refl
+  expression-same assignEntryKind r h = refl
+  expression-same requireKind r h = refl
+  expression-same conditionalKind r h = refl
+  expression-same noKind r h = refl
+
+  expression-same-of : (x : Node) → IsRead x → all (λ child. ltb child n) (children x) ≡ true → expressionOf x f ≡ expressionOf x g
+  expression-same-of x (r, e) h = rw e (expression-same (kindOf (r .kind)) r (rw e at h))
 
   module _ (s t : ℕ → Statement) (alike : (m : ℕ) → m < n → s m ≡ t m) where
-    pub statement-same : (node : Node) → all (λ child. ltb child n) (children node) ≡ true → statementOf node f s ≡ statementOf node g t
-    unfolding statementOf expressionParts statementParts all
-    statement-same (expressionNode e) h = refl
-    statement-same (statementNode StatementNode.skip) h = refl
-    statement-same (statementNode (StatementNode.sequence a b)) h =
-        ap₂ Statement.sequence (alike a (below-is a n (left _ _ h))) (alike b (below-is b n (left _ _ (right (ltb a n) _ h))))
-    statement-same (statementNode (StatementNode.assignField k a)) h = ap (Statement.assignField k) (same a (below-is a n (left _ _ h)))
-    statement-same (statementNode (StatementNode.assignEntry k a b)) h =
-        ap₂ (Statement.assignEntry k) (same a (below-is a n (left _ _ h))) (same b (below-is b n (left _ _ (right (ltb a n) _ h))))
-    statement-same (statementNode (StatementNode.require a)) h = ap Statement.require (same a (below-is a n (left _ _ h)))
-    statement-same (statementNode (StatementNode.conditional a b c)) h =
-        let later = right (ltb a n) _ h in
-        λ i. Statement.conditional (same a (below-is a n (left _ _ h)) i) (alike b (below-is b n (left _ _ later)) i) (alike c (below-is c n (left _ _ (right (ltb b n) _ later))) i)
-    statement-same unknownNode h = refl
+    statement-same : (k : Kind) (r : NodeRecord) → all (λ child. ltb child n) (children (nodeOfKind k r)) ≡ true
+        → statementOf (nodeOfKind k r) f s ≡ statementOf (nodeOfKind k r) g t
+    unfolding nodeOfKind statementOf expressionParts statementParts all
+    statement-same constantKind r h = refl
+    statement-same meKind r h = refl
+    statement-same fieldKind r h = refl
+    statement-same entryKind r h = refl
+    statement-same parameterKind r h = refl
+    statement-same operatorKind r h = refl
+    statement-same negationKind r h = refl
+    statement-same revealKind r h = refl
+    statement-same skipKind r h = refl
+    statement-same sequenceKind r h =
+        ap₂ Statement.sequence (alike (r .first) (below-is (r .first) n (left _ _ h)))
+        (alike (r .second) (below-is (r .second) n (left _ _ (right (ltb (r .first) n) _ h))))
+    statement-same assignFieldKind r h = ap (Statement.assignField (r .arg)) (same (r .first) (below-is (r .first) n (left _ _ h)))
+    statement-same assignEntryKind r h =
+        ap₂ (Statement.assignEntry (r .arg)) (same (r .first) (below-is (r .first) n (left _ _ h)))
+        (same (r .second) (below-is (r .second) n (left _ _ (right (ltb (r .first) n) _ h))))
+    statement-same requireKind r h = ap Statement.require (same (r .first) (below-is (r .first) n (left _ _ h)))
+    statement-same conditionalKind r h =
+        let later = right (ltb (r .first) n) _ h in
+        λ i. Statement.conditional (same (r .first) (below-is (r .first) n (left _ _ h)) i) (alike (r .second) (below-is (r .second) n (left _ _ later)) i)
+        (alike (r .third) (below-is (r .third) n (left _ _ (right (ltb (r .second) n) _ later))) i)
+    statement-same noKind r h = refl
+
+    statement-same-of : (x : Node) → IsRead x → all (λ child. ltb child n) (children x) ≡ true → statementOf x f s ≡ statementOf x g t
+    statement-same-of x (r, e) h = rw e (statement-same (kindOf (r .kind)) r (rw e at h))
 
 module _ (nodes : List Node) (falling : Falling nodes) where
   pub expression-levels : (k m n : ℕ) → n < k → n < m → expressionAt k nodes n ≡ expressionAt m nodes n
@@ -59,23 +92,23 @@ module _ (nodes : List Node) (falling : Falling nodes) where
   expression-levels zero m n a b = absurd (omega arith)
   expression-levels (suc k) zero n a b = absurd (omega arith)
   expression-levels (suc k) (suc m) n a b =
-      expression-same n (expressionAt k nodes) (expressionAt m nodes) (λ c h. expression-levels k m c (omega arith) (omega arith)) (nodeAt nodes n) (falling .below n)
+      expression-same-of n (expressionAt k nodes) (expressionAt m nodes) (λ c h. expression-levels k m c (omega arith) (omega arith)) (nodeAt nodes n) (falling .read n) (falling .below n)
 
   pub statement-levels : (k m n : ℕ) → n < k → n < m → statementAt k nodes n ≡ statementAt m nodes n
   unfolding statementAt
   statement-levels zero m n a b = absurd (omega arith)
   statement-levels (suc k) zero n a b = absurd (omega arith)
   statement-levels (suc k) (suc m) n a b =
-      statement-same n (expressionAt k nodes) (expressionAt m nodes) (λ c h. expression-levels k m c (omega arith) (omega arith))
-      (statementAt k nodes) (statementAt m nodes) (λ c h. statement-levels k m c (omega arith) (omega arith)) (nodeAt nodes n) (falling .below n)
+      statement-same-of n (expressionAt k nodes) (expressionAt m nodes) (λ c h. expression-levels k m c (omega arith) (omega arith))
+      (statementAt k nodes) (statementAt m nodes) (λ c h. statement-levels k m c (omega arith) (omega arith)) (nodeAt nodes n) (falling .read n) (falling .below n)
 
   pub expression-unfolds : (n : ℕ) → expressionIn nodes n ≡ expressionOf (nodeAt nodes n) (expressionIn nodes)
   unfolding expressionAt
   expression-unfolds n =
-      expression-same n (expressionAt n nodes) (expressionIn nodes) (λ c h. expression-levels n (suc c) c h (omega arith)) (nodeAt nodes n) (falling .below n)
+      expression-same-of n (expressionAt n nodes) (expressionIn nodes) (λ c h. expression-levels n (suc c) c h (omega arith)) (nodeAt nodes n) (falling .read n) (falling .below n)
 
   pub statement-unfolds : (n : ℕ) → statementIn nodes n ≡ statementOf (nodeAt nodes n) (expressionIn nodes) (statementIn nodes)
   unfolding statementAt
   statement-unfolds n =
-      statement-same n (expressionAt n nodes) (expressionIn nodes) (λ c h. expression-levels n (suc c) c h (omega arith))
-      (statementAt n nodes) (statementIn nodes) (λ c h. statement-levels n (suc c) c h (omega arith)) (nodeAt nodes n) (falling .below n)
+      statement-same-of n (expressionAt n nodes) (expressionIn nodes) (λ c h. expression-levels n (suc c) c h (omega arith))
+      (statementAt n nodes) (statementIn nodes) (λ c h. statement-levels n (suc c) c h (omega arith)) (nodeAt nodes n) (falling .read n) (falling .below n)

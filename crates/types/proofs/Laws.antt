@@ -6,11 +6,11 @@ use native.Mathlib.Omega.{arith}
 use lib.ListN.{List·getD-eq-default}
 use Rattle.definitions.specs.Syntax.{DataType, boolean, address, Owner, Operator, plus, Expression, Scope, Field, Parameter, fieldAt, parameterAt}
 use Rattle.definitions.specs.ContractFile.{byteAt, fieldCount, dataTypeOf, fieldOf, parameterOf, operators, operatorOf}
-use Rattle.definitions.specs.DataTypes.{classOf, resultType, typeOf}
+use Rattle.definitions.specs.DataTypes.{resultType, typeOf}
 use Rattle.context.specs.Context.{fieldsIn, parametersIn}
 use Rattle.context.proofs.Declarations.{field-declared, field-missing, parameter-declared, parameter-missing}
 
-pub uint-operator : (code : ℕ) → code < 5 → dataTypeOf 1 ≡ resultType (classOf (operatorOf code))
+pub uint-operator : (code : ℕ) → code < 5 → dataTypeOf 1 ≡ resultType (operatorOf code)
 uint-operator zero h = refl
 uint-operator (suc zero) h = refl
 uint-operator (suc (suc zero)) h = refl
@@ -18,7 +18,7 @@ uint-operator (suc (suc (suc zero))) h = refl
 uint-operator (suc (suc (suc (suc zero)))) h = refl
 uint-operator (suc (suc (suc (suc (suc n))))) h = absurd (omega arith)
 
-pub bool-operator : (code : ℕ) → 5 ≤ code → code < 11 → dataTypeOf 0 ≡ resultType (classOf (operatorOf code))
+pub bool-operator : (code : ℕ) → 5 ≤ code → code < 11 → dataTypeOf 0 ≡ resultType (operatorOf code)
 bool-operator zero l h = absurd (omega arith)
 bool-operator (suc zero) l h = absurd (omega arith)
 bool-operator (suc (suc zero)) l h = absurd (omega arith)
@@ -33,8 +33,8 @@ bool-operator (suc (suc (suc (suc (suc (suc (suc (suc (suc (suc zero)))))))))) l
 bool-operator (suc (suc (suc (suc (suc (suc (suc (suc (suc (suc (suc n))))))))))) l h = absurd (omega arith)
 
 -- A code above the table reads as plus.
-pub other-operator : (code : ℕ) → 11 ≤ code → dataTypeOf 1 ≡ resultType (classOf (operatorOf code))
-other-operator code h = ap (λ (o : Operator). resultType (classOf o)) (sym (List·getD-eq-default operators plus h))
+pub other-operator : (code : ℕ) → 11 ≤ code → dataTypeOf 1 ≡ resultType (operatorOf code)
+other-operator code h = ap (λ (o : Operator). resultType o) (sym (List·getD-eq-default operators plus h))
 
 module _ (file : List ℕ) (f r : ℕ) where
   pub field-typed : f < fieldCount file → r ≡ byteAt file (1 + 3 * f + 1) → dataTypeOf r ≡ (fieldAt (fieldsIn file) f) .type
@@ -73,7 +73,7 @@ module _ (scope : Scope) (e : Expression) where
   unfolding typeOf
   argument-typed k t h g = rw h g
 
-  pub operator-typed : (o : Operator) (left right : Expression) (t : DataType) → e ≡ Expression.operator o left right → t ≡ resultType (classOf o) → t ≡ typeOf scope e
+  pub operator-typed : (o : Operator) (left right : Expression) (t : DataType) → e ≡ Expression.operator o left right → t ≡ resultType o → t ≡ typeOf scope e
   unfolding typeOf
   operator-typed o left right t h k = rw h k
 

@@ -5,7 +5,7 @@ ghost use mathlib.Core.Path.{_≡_};
 ghost use Prim.Native.Nat.{_<_, _≤_};
 ghost use Rattle.definitions.specs.Syntax.{fieldAt, parameterAt};
 ghost use Rattle.definitions.specs.ContractFile.{byteAt, fieldCount, nodeCount, dataTypeOf, operatorOf};
-ghost use Rattle.definitions.specs.DataTypes.{classOf, resultType, typeOf};
+ghost use Rattle.definitions.specs.DataTypes.{resultType, typeOf};
 ghost use Rattle.trees.specs.Trees.{expressionIn};
 ghost use Rattle.context.specs.Context.{Context, nodesIn, fieldsIn, parametersIn, scopeIn};
 
@@ -35,7 +35,7 @@ pub fn parameter_type(file: &[u8], function_at: usize, k: usize) -> usize
 
 // The type code of an operator's result.
 fn operator_type(code: usize) -> usize
-    ensures { λ r. ⌜ dataTypeOf r ≡ resultType (classOf (operatorOf code)) ⌝ }
+    ensures { λ r. ⌜ dataTypeOf r ≡ resultType (operatorOf code) ⌝ }
 {
     if code < 5 {
         1

@@ -14,7 +14,7 @@ use Rattle.relations.specs.Acceptance.{FieldsFit, AcceptedBody, constantsFitIn}
 use Rattle.typing.proofs.Basics.{append-left-empty, append-right-empty, or-left-false, or-right-false, fault-none-not}
 use Rattle.typing.proofs.Places.{noField}
 use Rattle.typing.proofs.FaultNumbers.{none-holds, contract-faultless}
-use Rattle.typing.proofs.Tables.{FieldFits, nodes-fit, statement-constants, each-field-fits}
+use Rattle.typing.proofs.Tables.{FieldFits, statement-constants, each-field-fits}
 
 -- Where what is put together from each element is empty, it is so from each.
 pub flatMap-empty : {A B : Type 0} (F : A → List B) (xs : List A) → flatMap F xs ≡ [] → (i : ℕ) (e : A) → F e ≡ [] → F (getD xs i e) ≡ []
@@ -93,7 +93,7 @@ module _ (file : List ℕ) (clear : checkNumber file ≡ 0) where
   body-constants : (rs : List FunctionRecord) (f : ℕ) → constantsFitIn ((functionAt (map (functionOf nodes) rs) f) .body) ≡ true
   unfolding constantsFitIn
   body-constants [] f = refl
-  body-constants (r ∷ rs) zero = statement-constants nodes (nodes-fit ((sectionsOf file) .nodes) nodes-in-tables) (suc (r .root)) (r .root)
+  body-constants (r ∷ rs) zero = statement-constants ((sectionsOf file) .nodes) nodes-in-tables (suc (r .root)) (r .root)
   body-constants (r ∷ rs) (suc f) = body-constants rs f
 
   function-faultless : (f : ℕ) → functionFaults (contract .fields) (functionAt (contract .functions) f) ≡ []

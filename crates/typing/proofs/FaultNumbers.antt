@@ -11,7 +11,7 @@ use lib.ListN.{length, getD}
 use Rattle.definitions.specs.Basics.{any, flatMap, firstThatHolds}
 use Rattle.definitions.specs.Syntax.{DataType, boolean, address, Owner, Expression, constant, me, field, entry, parameter, operator, negation, reveal, Statement, skip, sequence, assignField, assignEntry, require, conditional, Field, Contract, Scope, fieldAt, sameType, isPlainField, isFinal, isMapping, isDivision}
 use Rattle.definitions.specs.Owners.{Links, noLinks, isReader, placeOwner, nameOf, ownerOf, isPublic, linksAfter}
-use Rattle.definitions.specs.DataTypes.{classOf, operandsFit, typeOf}
+use Rattle.definitions.specs.DataTypes.{operandsFit, typeOf}
 use Rattle.definitions.specs.Numbers.{fault, mayBePut, isTagged, isNone, ownerFits, entryFaults, readFault, expressionFaults, conditionFaults, valueFaults, statementFaults, fieldOfDeclaredOwner, fieldFaults, functionFaults, contractFaults, contractSentences}
 use Rattle.typing.proofs.Basics.{or-left-false, contradiction}
 
@@ -92,7 +92,7 @@ module _ (scope : Scope) where
     known-expression (parameter k) = both (eight (leb (length (scope .parameters)) k)) (known-read (parameter k))
     known-expression (operator o left right) =
         let parts = both (known-expression left) (known-expression right) in
-        let typed = both parts (nine (not (operandsFit (classOf o) (typeOf scope left) (typeOf scope right)))) in
+        let typed = both parts (nine (not (operandsFit o (typeOf scope left) (typeOf scope right)))) in
         both (both (both typed (known-read left)) (known-read right))
         (known-division (isDivision o && (not (isPublic scope left) || not (isPublic scope right))))
     known-expression (negation part) = both (both (known-expression part) (nine (not (isTyped part boolean)))) (known-read part)

@@ -9,7 +9,7 @@ use lib.ListN.{length}
 use borrow.Author.Tests.{leb-false}
 use Rattle.definitions.specs.Syntax.{DataType, boolean, uint, address, Owner, Operator, Expression, field, entry, parameter, operator, negation, reveal, Statement, sequence, assignField, assignEntry, require, conditional, Scope, fieldAt, sameType, isPlainField, isMapping, isDivision}
 use Rattle.definitions.specs.Owners.{Links, isReader, placeOwner, nameOf, ownerOf, isPublic, linksAfter}
-use Rattle.definitions.specs.DataTypes.{classOf, operandsFit, typeOf}
+use Rattle.definitions.specs.DataTypes.{operandsFit, typeOf}
 use Rattle.definitions.specs.Numbers.{fault, mayBePut, isTagged, isNone, ownerFits, entryFaults, readFault, expressionFaults, conditionFaults, valueFaults, statementFaults}
 use Rattle.typing.proofs.Basics.{and-right-false, or-left-false, or-right-false, not-false-true, two-empty, three-empty, four-empty, fault-none, fault-none-not}
 
@@ -94,7 +94,7 @@ module _ (scope : Scope) where
     pub record OperatorFits (o : Operator) (left right : Expression) : Type 0 where
       pub leftFaults : expressionFaults scope linked left ≡ []
       pub rightFaults : expressionFaults scope linked right ≡ []
-      pub operands : operandsFit (classOf o) (typeOf scope left) (typeOf scope right) ≡ true
+      pub operands : operandsFit o (typeOf scope left) (typeOf scope right) ≡ true
       pub leftReadable : isReader linked (ownerOf scope left) ≡ true
       pub rightReadable : isReader linked (ownerOf scope right) ≡ true
       pub division : (isDivision o && (not (isPublic scope left) || not (isPublic scope right))) ≡ false
@@ -102,7 +102,7 @@ module _ (scope : Scope) where
     pub operator-fits : (o : Operator) (left right : Expression) → expressionFaults scope linked (operator o left right) ≡ [] → OperatorFits o left right
     unfolding expressionFaults
     operator-fits o left right h =
-        let fit : Bool = operandsFit (classOf o) (typeOf scope left) (typeOf scope right) in
+        let fit : Bool = operandsFit o (typeOf scope left) (typeOf scope right) in
         let private : Bool = isDivision o && (not (isPublic scope left) || not (isPublic scope right)) in
         let parts : List ℕ = faults left ++ faults right ++ fault (not fit) 9 in
         let empty = four-empty parts (readFault scope linked left) (readFault scope linked right) (fault private 12) h in

@@ -8,93 +8,60 @@ use lib.Dec.{eqb, leb}
 use Rattle.definitions.specs.Basics.{any, isZero}
 use Rattle.definitions.specs.Syntax.{DataType, address, plainField, finalField, mapping, toEveryone, toKey, toFinal, Expression, Statement, Field, fieldAt, isFinal, isMapping}
 use Rattle.definitions.specs.ContractFile.{FieldRecord, NodeRecord, dataTypeOf, shapeOf, fieldOwnerOfCode, isFinalCode, fieldOf}
-use Rattle.definitions.specs.Nodes.{Kind, constantKind, meKind, fieldKind, entryKind, parameterKind, operatorKind, negationKind, revealKind, skipKind, sequenceKind, assignFieldKind, assignEntryKind, requireKind, conditionalKind, noKind, kindOf, ExpressionNode, StatementNode, Node, expressionNode, statementNode, unknownNode, constantValue, nodeOfKind, nodeOf, nodeAt, expressionOf, expressionAt, statementOf, statementAt}
+use Rattle.definitions.specs.Nodes.{Kind, constantKind, meKind, fieldKind, entryKind, parameterKind, operatorKind, negationKind, revealKind, skipKind, sequenceKind, assignFieldKind, assignEntryKind, requireKind, conditionalKind, noKind, kindOf, Node, constantValue, nodeOfKind, nodeOf, nodeAt, expressionOf, expressionAt, statementOf, statementAt}
 use Rattle.definitions.specs.DataTypes.{isOfType}
 use Rattle.definitions.specs.Numbers.{fieldInTables, kindInTables, nodeInTables, isTagged}
+use Rattle.trees.specs.Trees.{Keeps}
+use Rattle.trees.proofs.Kept.{unknown-keeps, statement-kept}
 use Rattle.relations.specs.Acceptance.{constantsFit, constantsFitIn}
 use Rattle.typing.proofs.Basics.{and-left, and-right, and-both, or-left-false, or-right-false, not-false-true}
 use Rattle.typing.proofs.Places.{noField}
 
--- A node whose constant, if it is one, is of its type.
-abbrev pub nodeFits : Node → Bool
-nodeFits (expressionNode (ExpressionNode.constant t v)) = isOfType t v
-nodeFits (expressionNode ExpressionNode.me) = true
-nodeFits (expressionNode (ExpressionNode.field f)) = true
-nodeFits (expressionNode (ExpressionNode.entry f key)) = true
-nodeFits (expressionNode (ExpressionNode.parameter k)) = true
-nodeFits (expressionNode (ExpressionNode.operator o left right)) = true
-nodeFits (expressionNode (ExpressionNode.negation part)) = true
-nodeFits (expressionNode (ExpressionNode.reveal part o)) = true
-nodeFits (statementNode s) = true
-nodeFits unknownNode = true
+-- Of a tree, that its constants fit.
+abbrev Fits : Expression → Type 0
+Fits e = constantsFit e ≡ true
 
-kind-fits : (k : Kind) (r : NodeRecord) → kindInTables k r ≡ true → nodeFits (nodeOfKind k r) ≡ true
-unfolding kindInTables nodeOfKind
-kind-fits constantKind r h =
-    and-right (leb (r .arg) 2) (isOfType (dataTypeOf (r .arg)) (constantValue r))
-    (and-left (leb (r .arg) 2 && isOfType (dataTypeOf (r .arg)) (constantValue r)) (isZero (r .third)) h)
-kind-fits meKind r h = refl
-kind-fits fieldKind r h = refl
-kind-fits entryKind r h = refl
-kind-fits parameterKind r h = refl
-kind-fits operatorKind r h = refl
-kind-fits negationKind r h = refl
-kind-fits revealKind r h = refl
-kind-fits skipKind r h = refl
-kind-fits sequenceKind r h = refl
-kind-fits assignFieldKind r h = refl
-kind-fits assignEntryKind r h = refl
-kind-fits requireKind r h = refl
-kind-fits conditionalKind r h = refl
-kind-fits noKind r h = refl
+abbrev FitsIn : Statement → Type 0
+FitsIn s = constantsFitIn s ≡ true
 
-pub nodes-fit : (rs : List NodeRecord) → any (λ r. not (nodeInTables r)) rs ≡ false → (n : ℕ) → nodeFits (nodeAt (map nodeOf rs) n) ≡ true
-unfolding any
-nodes-fit [] h n = refl
+kind-fits : (k : Kind) (r : NodeRecord) → kindInTables k r ≡ true → Keeps Fits FitsIn (nodeOfKind k r)
+unfolding kindInTables nodeOfKind expressionOf statementOf constantsFit constantsFitIn
+kind-fits constantKind r h below part = (
+  and-right (leb (r .arg) 2) (isOfType (dataTypeOf (r .arg)) (constantValue r))
+      (and-left (leb (r .arg) 2 && isOfType (dataTypeOf (r .arg)) (constantValue r)) (isZero (r .third)) h),
+  λ later each. refl,
+)
+kind-fits meKind r h below part = (refl, λ later each. refl)
+kind-fits fieldKind r h below part = (refl, λ later each. refl)
+kind-fits entryKind r h below part = (part (r .first), λ later each. refl)
+kind-fits parameterKind r h below part = (refl, λ later each. refl)
+kind-fits operatorKind r h below part =
+    (and-both (constantsFit (below (r .first))) (constantsFit (below (r .second))) (part (r .first)) (part (r .second)), λ later each. refl)
+kind-fits negationKind r h below part = (part (r .first), λ later each. refl)
+kind-fits revealKind r h below part = (part (r .first), λ later each. refl)
+kind-fits skipKind r h below part = (refl, λ later each. refl)
+kind-fits sequenceKind r h below part =
+    (refl, λ later each. and-both (constantsFitIn (later (r .first))) (constantsFitIn (later (r .second))) (each (r .first)) (each (r .second)))
+kind-fits assignFieldKind r h below part = (refl, λ later each. part (r .first))
+kind-fits assignEntryKind r h below part =
+    (refl, λ later each. and-both (constantsFit (below (r .first))) (constantsFit (below (r .second))) (part (r .first)) (part (r .second)))
+kind-fits requireKind r h below part = (refl, λ later each. part (r .first))
+kind-fits conditionalKind r h below part = (
+  refl,
+  λ later each. and-both (constantsFit (below (r .first))) (constantsFitIn (later (r .second)) && constantsFitIn (later (r .third))) (part (r .first))
+      (and-both (constantsFitIn (later (r .second))) (constantsFitIn (later (r .third))) (each (r .second)) (each (r .third))),
+)
+kind-fits noKind r h below part = (refl, λ later each. refl)
+
+nodes-fit : (rs : List NodeRecord) → any (λ r. not (nodeInTables r)) rs ≡ false → (n : ℕ) → Keeps Fits FitsIn (nodeAt (map nodeOf rs) n)
+unfolding any constantsFit constantsFitIn
+nodes-fit [] h n = unknown-keeps Fits FitsIn refl refl
 nodes-fit (r ∷ rs) h zero = kind-fits (kindOf (r .kind)) r (not-false-true (nodeInTables r) (or-left-false (not (nodeInTables r)) (any (λ r. not (nodeInTables r)) rs) h))
 nodes-fit (r ∷ rs) h (suc n) = nodes-fit rs (or-right-false (not (nodeInTables r)) (any (λ r. not (nodeInTables r)) rs) h) n
 
-expression-fits : (node : Node) (below : ℕ → Expression) → nodeFits node ≡ true → ((m : ℕ) → constantsFit (below m) ≡ true) → constantsFit (expressionOf node below) ≡ true
-unfolding constantsFit expressionOf
-expression-fits (expressionNode (ExpressionNode.constant t v)) below h each = h
-expression-fits (expressionNode ExpressionNode.me) below h each = refl
-expression-fits (expressionNode (ExpressionNode.field f)) below h each = refl
-expression-fits (expressionNode (ExpressionNode.entry f key)) below h each = each key
-expression-fits (expressionNode (ExpressionNode.parameter k)) below h each = refl
-expression-fits (expressionNode (ExpressionNode.operator o left right)) below h each =
-    and-both (constantsFit (below left)) (constantsFit (below right)) (each left) (each right)
-expression-fits (expressionNode (ExpressionNode.negation part)) below h each = each part
-expression-fits (expressionNode (ExpressionNode.reveal part o)) below h each = each part
-expression-fits (statementNode s) below h each = refl
-expression-fits unknownNode below h each = refl
-
-statement-fits : (node : Node) (expression : ℕ → Expression) (below : ℕ → Statement) → ((m : ℕ) → constantsFit (expression m) ≡ true)
-    → ((m : ℕ) → constantsFitIn (below m) ≡ true) → constantsFitIn (statementOf node expression below) ≡ true
-unfolding constantsFitIn statementOf
-statement-fits (expressionNode e) expression below part each = refl
-statement-fits (statementNode StatementNode.skip) expression below part each = refl
-statement-fits (statementNode (StatementNode.sequence first second)) expression below part each =
-    and-both (constantsFitIn (below first)) (constantsFitIn (below second)) (each first) (each second)
-statement-fits (statementNode (StatementNode.assignField f e)) expression below part each = part e
-statement-fits (statementNode (StatementNode.assignEntry f key e)) expression below part each =
-    and-both (constantsFit (expression key)) (constantsFit (expression e)) (part key) (part e)
-statement-fits (statementNode (StatementNode.require condition)) expression below part each = part condition
-statement-fits (statementNode (StatementNode.conditional condition then else)) expression below part each =
-    and-both (constantsFit (expression condition)) (constantsFitIn (below then) && constantsFitIn (below else)) (part condition)
-    (and-both (constantsFitIn (below then)) (constantsFitIn (below else)) (each then) (each else))
-statement-fits unknownNode expression below part each = refl
-
-module _ (nodes : List Node) (fit : (n : ℕ) → nodeFits (nodeAt nodes n) ≡ true) where
-  pub expression-constants : (levels n : ℕ) → constantsFit (expressionAt levels nodes n) ≡ true
-  unfolding expressionAt constantsFit
-  expression-constants zero n = refl
-  expression-constants (suc levels) n = expression-fits (nodeAt nodes n) (expressionAt levels nodes) (fit n) (expression-constants levels)
-
-  pub statement-constants : (levels n : ℕ) → constantsFitIn (statementAt levels nodes n) ≡ true
-  unfolding statementAt constantsFitIn
-  statement-constants zero n = refl
-  statement-constants (suc levels) n =
-      statement-fits (nodeAt nodes n) (expressionAt levels nodes) (statementAt levels nodes) (expression-constants levels) (statement-constants levels)
+pub statement-constants : (rs : List NodeRecord) → any (λ r. not (nodeInTables r)) rs ≡ false → (levels n : ℕ) → FitsIn (statementAt levels (map nodeOf rs) n)
+unfolding constantsFit constantsFitIn
+statement-constants rs h = statement-kept Fits FitsIn refl refl (map nodeOf rs) (nodes-fit rs h)
 
 -- "A final has type 2 and owner 0. A field's owner is 0, 16+f, or 2 for a mapping only."
 pub record FieldFits (d : Field) : Type 0 where

@@ -12,7 +12,7 @@ use lib.ListN.{getD}
 use Rattle.definitions.specs.Basics.{bit}
 use Rattle.definitions.specs.Syntax.{DataType, boolean, uint, address, Name, meName, finalName, parameterName, Operator, plus, minus, times, divide, remainder, less, lessOrEqual, equal, unequal, conjunction, disjunction, Expression, constant, me, field, entry, parameter, operator, negation, reveal, assignEntry, Scope, fieldAt, parameterAt, sameType, isFinal}
 use Rattle.definitions.specs.Owners.{Links, nameOf, isPublicAddress}
-use Rattle.definitions.specs.DataTypes.{isOfType, classOf, operandsFit, resultType, typeOf}
+use Rattle.definitions.specs.DataTypes.{isOfType, operandsFit, resultType, typeOf}
 use Rattle.definitions.specs.Numbers.{expressionFaults, statementFaults}
 use Rattle.definitions.specs.Places.{placeCount, position}
 use Rattle.definitions.specs.Original.{operate, value}
@@ -33,8 +33,8 @@ below-uint : (m n : ℕ) → m ≤ n → isOfType uint n ≡ true → isOfType u
 below-uint m n h t = let b : n < 4294967296 = ltb-true n 4294967296 t in lt-ltb m 4294967296 (omega arith)
 
 -- An operator's result has the operator's type, where its left operand is a uint if it is arithmetic.
-pub operate-typed : (o : Operator) (a b : ℕ) (left right : DataType) → operandsFit (classOf o) left right ≡ true → isOfType left a ≡ true
-    → isOfType (resultType (classOf o)) (operate o a b) ≡ true
+pub operate-typed : (o : Operator) (a b : ℕ) (left right : DataType) → operandsFit o left right ≡ true → isOfType left a ≡ true
+    → isOfType (resultType o) (operate o a b) ≡ true
 operate-typed plus a b left right h t = remainder-typed (a + b)
 operate-typed minus a b left right h t = remainder-typed (a + 4294967296 - b)
 operate-typed times a b left right h t = remainder-typed (a * b)

@@ -25,9 +25,8 @@ use Rattle.entries.specs.Entries.{Entries, noEntry, entryThen, suppliedEntry, c
 use Rattle.entries.proofs.Laws.{entries-length}
 use Rattle.buffer.specs.Buffer.{stored}
 use Rattle.circuits.specs.Circuits.{addressFrom}
-use Rattle.constraints.specs.Numbers.{HasCode}
-use Rattle.owner_codes.specs.Codes.{ownersCoded}
-use Rattle.owner_codes.proofs.Files.{codes-told}
+use Rattle.event_owners.specs.Listed.{Listed, ownersListed}
+use Rattle.event_owners.proofs.Files.{owners-listed}
 use Rattle.parameter_output.specs.Parameters.{privateCount}
 use Rattle.function_room.specs.Functions.{writtenIn, eventsIn, privateIn}
 use Rattle.forms_test.specs.Forms.{fitsOrZero, frontFits}
@@ -35,7 +34,7 @@ use Rattle.forms_test.proofs.Laws.{all-front}
 use Rattle.variable_test.specs.Variables.{variableForm, openingForm, openingForms, codeReader, entryForm, loggedForms}
 
 -- The address at an owner's code is the owner's.
-reader-told : (addresses : List ℕ) (o : Owner) → HasCode o → codeReader addresses (ownerCode o) ≡ readerOf (addressFrom addresses) o
+reader-told : (addresses : List ℕ) (o : Owner) → Listed o → codeReader addresses (ownerCode o) ≡ readerOf (addressFrom addresses) o
 reader-told addresses everyone h = refl
 reader-told addresses (ownedBy meName) h = refl
 reader-told addresses (ownedBy (finalName f)) h = rw (ne-eqb (16 + f) 0 (λ e. omega arith), lt-ltb f 64 h)
@@ -45,9 +44,9 @@ module _ (file : List ℕ) (at : ℕ) (addresses : List ℕ) where
   abbrev formOfVariable : Variable → Form
   formOfVariable = variableForm (scopeIn file at) (addressFrom addresses)
 
-  logged-told : {events : List Event} {numbers : List ℕ} → Entries (nodesIn file) events numbers → ownersCoded events
+  logged-told : {events : List Event} {numbers : List ℕ} → Entries (nodesIn file) events numbers → ownersListed events
       → loggedForms file at addresses numbers ≡ map formOfVariable (variablesOf events)
-  unfolding loggedForms variablesOf ownersCoded
+  unfolding loggedForms variablesOf ownersListed
   logged-told noEntry h = refl
   logged-told (entryThen (suppliedEntry i o n below) rest) h =
       let reader = reader-told addresses o (h .0) in
@@ -92,7 +91,7 @@ module _ (file : List ℕ) (at : ℕ) (addresses : List ℕ) where
     forms-are : map formOfVariable ((writtenIn file at) .variables) ≡ openingForms (parametersIn file at) (getD addresses 1 0) 0 ++ loggedForms file at addresses numbers
     forms-are =
         ap (map formOfVariable) variables-are ∙ map-append formOfVariable ((openings private 0) .variables) (variablesOf (eventsIn file at))
-        ∙ ap₂ (λ (a b : List Form). a ++ b) (opening-told private 0) (sym (logged-told entries (codes-told file at context (rootAt file at) always (privateIn file at))))
+        ∙ ap₂ (λ (a b : List Form). a ++ b) (opening-told private 0) (sym (logged-told entries (owners-listed file at context (rootAt file at) always (privateIn file at))))
 
     -- The openings are tested, then the rest behind them.
     pub variables-split : (contents : List Content)

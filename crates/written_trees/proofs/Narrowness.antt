@@ -3,8 +3,8 @@ use mathlib.Core.Path.{_≡_, refl}
 use mathlib.Core.List.{List, [], _∷_, _++_}
 use Prim.Native.Nat.{ℕ, _+_, _-_, _<_, _≤_}
 use native.Mathlib.Omega.{arith}
-use Rattle.definitions.specs.ContractFile.{NodeRecord}
-use Rattle.definitions.specs.WrittenFile.{Tree, leaf, oneChild, twoChildren, threeChildren, setting, node, size, numbered, sizes, numberedAll}
+use Rattle.definitions.specs.ContractFile.{NodeRecord, node}
+use Rattle.definitions.specs.WrittenFile.{Tree, leaf, oneChild, twoChildren, threeChildren, setting, size, numbered, sizes, numberedAll}
 use Rattle.written_trees.proofs.Tables.{Narrow, AllNarrow, none, more}
 use Rattle.written_trees.proofs.Numbering.{size-positive}
 

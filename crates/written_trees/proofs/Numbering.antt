@@ -6,8 +6,8 @@ use native.Mathlib.Omega.{arith}
 use native.Mathlib.Nat.{add-zero}
 use lib.ListN.{length, getD, length-append}
 use lib.Seq.{getD-at}
-use Rattle.definitions.specs.ContractFile.{NodeRecord}
-use Rattle.definitions.specs.WrittenFile.{Tree, leaf, oneChild, twoChildren, threeChildren, setting, node, size, numbered}
+use Rattle.definitions.specs.ContractFile.{NodeRecord, node}
+use Rattle.definitions.specs.WrittenFile.{Tree, leaf, oneChild, twoChildren, threeChildren, setting, size, numbered}
 use Rattle.written_trees.specs.Trees.{Form, leafForm, oneForm, twoForm, threeForm, settingForm, formOf, recordAt, treeOf, treeAt, treeIn, FallsBy, Falls, Falling}
 
 -- Each node's kind has just the children that the tree gives it.

@@ -7,8 +7,8 @@ use native.Mathlib.Omega.{arith}
 use lib.ListN.{length, getD, List·getD-eq-default, length-append}
 use Rattle.definitions.specs.Basics.{flatMap}
 use lib.Seq.{getD-append-add}
-use Rattle.definitions.specs.ContractFile.{NodeRecord, byteAt, twoBytesAt, nodeRecord, nodeRecords}
-use Rattle.definitions.specs.WrittenFile.{node, nodeBytes}
+use Rattle.definitions.specs.ContractFile.{NodeRecord, byteAt, twoBytesAt, nodeRecord, nodeRecords, node}
+use Rattle.definitions.specs.WrittenFile.{nodeBytes}
 use Rattle.file.proofs.Laws.{length-nodeRecords, getD-nodeRecords}
 use Rattle.written_trees.specs.Trees.{recordAt}
 use Rattle.written_trees.specs.Table.{countOf, tableOf}

@@ -29,7 +29,8 @@ returns-4 c = rw (c .before .match .keys4) (c .both2 .ensures)
 returns-5 : tie.Need-returns-5
 returns-5 c =
     let n = c .before .match .rest in
-    c .both3 .ensures ∙ sym (fit-rest (c .before .before .args .code) _ _ (n .0 .0 .0 .1) (n .0 .0 .1) (n .0 .1) (n .1))
+    let given = c .before .before .args in
+    c .both3 .ensures ∙ sym (fit-rest (given .code) (given .left) (given .right) (n .0 .0 .0 .1) (n .0 .0 .1) (n .0 .1) (n .1))
 
 pub operands-fit-spec : {M : Type 1} → statement M
 operands-fit-spec =

@@ -1,27 +1,26 @@
 -- `codes::result_type` meets its contract.
 use Rattle.codes.proofs.Codes.{result-rest}
 use mathlib.Core.Path.{_≡_, refl, sym, _∙_}
-use borrow.Author.Needs.{needs}
 use Rattle.codes.proofs.result_type.Statement.{statement}
 use Rattle.codes.proofs.result_type.Tie as tie
 
 returns : tie.Need-returns
-returns c = search needs
+returns c = rw (c .match .keys1)
 
 returns-2 : tie.Need-returns-2
-returns-2 c = search needs
+returns-2 c = rw (c .match .keys2)
 
 returns-3 : tie.Need-returns-3
-returns-3 c = search needs
+returns-3 c = rw (c .match .keys3)
 
 returns-4 : tie.Need-returns-4
-returns-4 c = search needs
+returns-4 c = rw (c .match .keys4)
 
 returns-5 : tie.Need-returns-5
-returns-5 c = search needs
+returns-5 c = rw (c .match .keys5)
 
 returns-6 : tie.Need-returns-6
-returns-6 c = search needs
+returns-6 c = rw (c .match .keys6)
 
 returns-7 : tie.Need-returns-7
 returns-7 c =
