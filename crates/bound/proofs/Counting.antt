@@ -15,7 +15,7 @@ use Rattle.definitions.specs.ContractFile.{NodeRecord}
 use Rattle.definitions.specs.Nodes.{Kind, constantKind, meKind, fieldKind, entryKind, parameterKind, operatorKind, negationKind, revealKind, skipKind, sequenceKind, assignFieldKind, assignEntryKind, requireKind, conditionalKind, noKind, kindOf, Node, unknownNode, nodeOfKind, nodeAt, expressionParts, statementParts, children, expressionOf, statementOf}
 use Rattle.trees.specs.Trees.{expressionIn, statementIn, IsRead, Falling}
 use Rattle.trees.proofs.Unfolding.{expression-unfolds, statement-unfolds}
-use Rattle.bound.specs.Sizes.{expressionSize, statementSize}
+use Rattle.trees.specs.Sizes.{expressionSize, statementSize}
 use Rattle.bound.specs.Counting.{sumOf, Below, without}
 
 pub and-left : (a b : Bool) → (a && b) ≡ true → a ≡ true

@@ -12,7 +12,8 @@ use Rattle.definitions.specs.ContractFile.{NodeRecord}
 use Rattle.definitions.specs.Written.{Command, Variable, supplied, readFrom, guard, Claim, equals, opensForCaller, always, Constraint, WrittenFunction, WrittenContract}
 use Rattle.definitions.specs.Rewriting.{Step, Piece, Passage, privateParameters, openings, stepsBefore, heldUnder, withVerify, rewriteStatement, rewriteFunction, rewrite}
 use Rattle.definitions.specs.WrittenFile.{Tree, leaf, oneChild, twoChildren, threeChildren, setting, size, numbered, bodyTree, commandTree, claimTrees, functionTrees, sizes, numberedAll, nodeBytes, fieldBytes, parameterBytes, variableBytes, keyOf, eachOnce, keysOf, guardNumber, claimBytes, constraintBytes, functionBytes, functionsBytes, contractBytes}
-use Rattle.bound.specs.Sizes.{statementSize, bodiesSize, commandSize, stepsSize, claimWeight, claimsWeight, constraintsWeight, passageWeight, fewParameters}
+use Rattle.trees.specs.Sizes.{statementSize}
+use Rattle.bound.specs.Sizes.{bodiesSize, commandSize, stepsSize, claimWeight, claimsWeight, constraintsWeight, passageWeight, fewParameters}
 use Rattle.bound.proofs.Pieces.{claims-append, constraints-append, steps-before, held-weight, statement-light}
 
 -- Lengths of lists put together from short ones.

@@ -11,7 +11,8 @@ use Rattle.definitions.specs.Owners.{nameOf, placeOwner, isPublic}
 use Rattle.definitions.specs.Written.{BodyExpression, Circuit, Command, readFrom, guard, Claim, equals, Guard, under, Constraint}
 use Rattle.definitions.specs.Rewriting.{Step, Piece, Generator, Passage, StatementGenerator, kept, onePart, twoParts, supplying, readForm, reading, inBody, inCircuit, inPlace, stepsBefore, heldUnder, single, inSequence, inBranch, inBranches, rewriteStatement}
 use Rattle.definitions.specs.WrittenFile.{size, bodyTree, circuitTree, commandTree}
-use Rattle.bound.specs.Sizes.{expressionSize, statementSize, bodySize, circuitSize, commandSize, stepsSize, claimWeight, claimsWeight, constraintsWeight, pieceWeight, passageWeight}
+use Rattle.trees.specs.Sizes.{expressionSize, statementSize}
+use Rattle.bound.specs.Sizes.{bodySize, circuitSize, commandSize, stepsSize, claimWeight, claimsWeight, constraintsWeight, pieceWeight, passageWeight}
 
 pub steps-append : (a b : List Step) → stepsSize (a ++ b) ≡ stepsSize a + stepsSize b
 unfolding stepsSize

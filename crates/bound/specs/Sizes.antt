@@ -1,29 +1,12 @@
--- How many nodes the trees of the original have, and how many bytes the parts of a rewritten function take.
+-- How many nodes the bodies of the original have, and how many bytes the parts of a rewritten function take.
 use mathlib.Core.List.{List, [], _∷_}
 use Prim.Native.Nat.{ℕ, _+_, _*_, _≤_}
 use lib.ListN.{length}
-use Rattle.definitions.specs.Syntax.{Expression, Statement, Function}
+use Rattle.definitions.specs.Syntax.{Function}
 use Rattle.definitions.specs.Written.{BodyExpression, Circuit, Command, Claim, equals, opensForCaller, Constraint}
 use Rattle.definitions.specs.Rewriting.{Step, Piece, Passage}
 use Rattle.definitions.specs.WrittenFile.{size, bodyTree, circuitTree, commandTree}
-
-unfoldable pub expressionSize : Expression → ℕ
-expressionSize (Expression.constant t v) = 1
-expressionSize Expression.me = 1
-expressionSize (Expression.field f) = 1
-expressionSize (Expression.entry f key) = 1 + expressionSize key
-expressionSize (Expression.parameter k) = 1
-expressionSize (Expression.operator o left right) = 1 + expressionSize left + expressionSize right
-expressionSize (Expression.negation part) = 1 + expressionSize part
-expressionSize (Expression.reveal part o) = 1 + expressionSize part
-
-unfoldable pub statementSize : Statement → ℕ
-statementSize Statement.skip = 1
-statementSize (Statement.sequence first second) = 1 + statementSize first + statementSize second
-statementSize (Statement.assignField f value) = 1 + expressionSize value
-statementSize (Statement.assignEntry f key value) = 1 + expressionSize key + expressionSize value
-statementSize (Statement.require condition) = 1 + expressionSize condition
-statementSize (Statement.conditional condition then else) = 1 + expressionSize condition + statementSize then + statementSize else
+use Rattle.trees.specs.Sizes.{statementSize}
 
 -- The nodes of the bodies of some functions together.
 unfoldable pub bodiesSize : List Function → ℕ

@@ -8,8 +8,7 @@ use Rattle.definitions.specs.ContractFile.{sectionsOf}
 use Rattle.definitions.specs.Nodes.{contractOf}
 use Rattle.definitions.specs.Numbers.{checkNumber, contractSentences, orElse}
 use Rattle.reading.specs.Shape.{shapeNumber}
-use Rattle.reading.proofs.Laws.{well-shaped, check-after-shape}
-use Rattle.scopes.specs.Settled.{Settled}
+use Rattle.reading.proofs.Laws.{check-after-shape}
 
 abbrev rulesNumber : List ℕ → ℕ
 rulesNumber file = firstThatHolds 8 (contractSentences (contractOf (sectionsOf file)))
@@ -20,8 +19,3 @@ refused-by-shape file (suc n) e h = ap (λ k. orElse k (rulesNumber file)) e ∙
 
 pub left-to-rules : (file : List ℕ) (n r : ℕ) → n ≡ shapeNumber file → n ≡ 0 → r ≡ rulesNumber file → r ≡ checkNumber file
 left-to-rules file n r e z q = q ∙ sym (check-after-shape file ∙ ap (λ k. orElse k (rulesNumber file)) (sym e ∙ z))
-
-pub settled : (file : List ℕ) → shapeNumber file ≡ 0 → Settled file
-settled file e =
-    let w = well-shaped file e in
-    record { ends = w .ends; counts = w .counts; tables = w .tables; numbers = w .numbers; uses = w .uses; depth = w .depth; sorts = w .sorts }

@@ -8,7 +8,7 @@ use Rattle.definitions.specs.ContractFile.{ownerCode}
 use Rattle.definitions.specs.Written.{Claim, equals, opensForCaller, Constraint}
 use Rattle.definitions.specs.WrittenFile.{size, sizes, circuitTree, claimTrees, guardNumber, claimBytes, constraintBytes}
 use Rattle.logged_steps.specs.Held.{Holds}
-use Rattle.circuit_output.specs.Numbers.{claimNumbers, constraintNumbers}
+use Rattle.written_trees.specs.Numbers.{claimNumbers, constraintNumbers}
 use Rattle.circuit_output.specs.Circuits.{four, sixBytes, sixesFrom}
 use Rattle.circuit_output.proofs.Held.{four-first, four-second, four-last, four-rest}
 

@@ -19,7 +19,7 @@ use Rattle.entries.specs.Entries.{suppliedEntry, claimedEntry, readEntry, guard
 use Rattle.forms.specs.Forms.{circuitForm}
 use Rattle.logged_steps.specs.Held.{Holds}
 use Rattle.logged_steps.proofs.Held.{holds-tag, holds-variable, holds-node, holds-last, holds-rest}
-use Rattle.circuit_output.specs.Numbers.{constraintNumbers}
+use Rattle.written_trees.specs.Numbers.{constraintNumbers}
 use Rattle.circuit_output.specs.Circuits.{LoggedClaim, treesOf, foursOf, claimsAt, loggedClaims, loggedCircuits}
 use Rattle.circuit_output.proofs.Held.{holds-owner}
 

@@ -18,7 +18,8 @@ use Rattle.written_trees.specs.Trees.{circuitIn, circuitAt}
 use Rattle.written_trees.proofs.Numbering.{size-positive, numbered-length}
 use Rattle.written_trees.proofs.RoundTrip.{circuit-is-back}
 use Rattle.circuits.specs.Circuits.{guardFrom, claimFrom, constraintFrom, constraintsAt, constraintsFrom}
-use Rattle.constraints.specs.Numbers.{claimNumbers, constraintNumbers, HasCode, ClaimHasCode, AllHaveCodes, none, more}
+use Rattle.written_trees.specs.Numbers.{claimNumbers, constraintNumbers}
+use Rattle.constraints.specs.Numbers.{HasCode, ClaimHasCode, AllHaveCodes, none, more}
 
 pub code-back : (o : Owner) → HasCode o → ownerOfCode (ownerCode o) ≡ o
 code-back everyone h = refl

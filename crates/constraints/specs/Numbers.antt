@@ -6,15 +6,6 @@ use Rattle.definitions.specs.ContractFile.{ownerCode}
 use Rattle.definitions.specs.Written.{Claim, equals, opensForCaller, Constraint}
 use Rattle.definitions.specs.WrittenFile.{size, sizes, circuitTree, claimTrees, guardNumber}
 
-abbrev pub claimNumbers : ℕ → Claim → List ℕ
-claimNumbers n (equals i o circuit) = i ∷ ownerCode o ∷ (n + size (circuitTree circuit) - 1) ∷ []
-claimNumbers n (opensForCaller i) = i ∷ 1 ∷ 65535 ∷ []
-
--- The constraints' first node has number n.
-unfoldable pub constraintNumbers : ℕ → List Constraint → List ℕ
-constraintNumbers n [] = []
-constraintNumbers n (c ∷ cs) = (guardNumber (c .guard) ∷ claimNumbers n (c .claim)) ++ constraintNumbers (n + sizes (claimTrees (c .claim))) cs
-
 -- A name that has an owner code: of a final, a field below 64.
 abbrev pub HasCode : Owner → Type 0
 HasCode everyone = Unit {0}

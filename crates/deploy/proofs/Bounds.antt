@@ -14,8 +14,9 @@ use Rattle.definitions.specs.Calls.{deployNumber}
 use Rattle.file.proofs.Laws.{force-is}
 use Rattle.file.proofs.Sections.{functions-are}
 use Rattle.nodes.proofs.Truth.{either-false}
-use Rattle.reading.specs.Shape.{shapeNumber, WellShaped}
-use Rattle.reading.proofs.Laws.{well-shaped, check-after-shape}
+use Rattle.file.specs.Settled.{Settled}
+use Rattle.reading.specs.Shape.{shapeNumber}
+use Rattle.reading.proofs.Laws.{settled, check-after-shape}
 use Rattle.context.proofs.Declarations.{parameters-length}
 use Rattle.context.proofs.Accepted.{few-fields, few-functions, few-nodes}
 
@@ -39,8 +40,8 @@ zero-first zero second h = refl
 zero-first (suc n) second h = h
 
 module _ (file : List ℕ) (accepted : checkNumber file ≡ 0) where
-  shaped : WellShaped file
-  shaped = well-shaped file (zero-first (shapeNumber file) _ (sym (check-after-shape file) ∙ accepted))
+  shaped : Settled file
+  shaped = settled file (zero-first (shapeNumber file) _ (sym (check-after-shape file) ∙ accepted))
 
   pub accepted-fields : fieldCount file ≤ 64
   accepted-fields = few-fields file (shaped .counts)

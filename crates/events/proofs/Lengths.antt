@@ -9,7 +9,7 @@ use Rattle.definitions.specs.Syntax.{meName, Owner, everyone, ownedBy, Expressi
 use Rattle.definitions.specs.Owners.{nameOf, placeOwner, isPublic}
 use Rattle.definitions.specs.Written.{Guard, under}
 use Rattle.events.specs.Events.{Event, suppliedEvent, claimedEvent, readEvent, guardEvent, variablesOf, variableCount, Events, noEvents, inTurn, supplyEvents, readEvents, bodyEvents, circuitEvents, placeEvents, branchEvents, statementEvents}
-use Rattle.events.specs.Sizes.{expressionSize, statementSize}
+use Rattle.trees.specs.Sizes.{expressionSize, statementSize}
 
 -- Each variable has an event of its own.
 pub variables-few : (events : List Event) → variableCount events ≤ length events

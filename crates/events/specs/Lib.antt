@@ -1,4 +1,3 @@
 pub mod Events
 pub mod Making
-pub mod Sizes
 pub mod Parts

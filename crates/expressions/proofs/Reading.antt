@@ -15,7 +15,8 @@ use Rattle.links.specs.Names.{nameWith}
 use Rattle.file.specs.declared.Node.{Node}
 use Rattle.judgements.specs.Judging.{JudgedAs}
 use Rattle.judgements.specs.declared.Judged.{Judged}
-use Rattle.scopes.specs.Settled.{Settled, nodesOf, expressionOn}
+use Rattle.file.specs.Settled.{Settled}
+use Rattle.scopes.specs.Trees.{nodesOf, expressionOn}
 use Rattle.scopes.specs.Scopes.{Ready}
 use Rattle.scopes.specs.declared.Parameters.{Parameters}
 use Rattle.scopes.proofs.Lists.{length-parameterRecords}

@@ -21,7 +21,7 @@ ghost use Rattle.definitions.specs.ContractFile.{nodeCount};
 ghost use Rattle.definitions.specs.Owners.{linksOfCondition};
 ghost use Rattle.links.specs.Names.{linkedBy};
 ghost use Rattle.judgements.specs.Judging.{JudgedAs};
-ghost use Rattle.scopes.specs.Settled.{nodesOf, expressionOn};
+ghost use Rattle.scopes.specs.Trees.{nodesOf, expressionOn};
 ghost use Rattle.scopes.specs.Scopes.{Ready, scopeAt};
 
 pub fn judge(file: &[u8], nodes_at: usize, p: Parameters, classes: Classes, n: usize) -> Judged

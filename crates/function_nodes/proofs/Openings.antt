@@ -13,7 +13,7 @@ use Rattle.buffer.specs.Buffer.{stored}
 use Rattle.buffer.proofs.Laws.{stored-nothing}
 use Rattle.node_output.proofs.Laws.{run-then}
 use Rattle.circuit_output.specs.Circuits.{four}
-use Rattle.circuit_output.specs.Numbers.{constraintNumbers}
+use Rattle.written_trees.specs.Numbers.{constraintNumbers}
 use Rattle.function_nodes.specs.Functions.{openingNumbers}
 
 pub numbers-length : (i n : ℕ) → length (openingNumbers i n) ≡ 4 * n

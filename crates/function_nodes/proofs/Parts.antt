@@ -27,7 +27,7 @@ use Rattle.function_room.specs.Functions.{functionIn, writtenIn, privateIn, eve
 use Rattle.written_trees.proofs.Functions.{sizes-append}
 use Rattle.circuit_output.specs.declared.Circuits.{Circuits}
 use Rattle.circuit_output.specs.Circuits.{treesOf, foursOf, claimsIn, Claimable, CircuitsRoom, CircuitsPut}
-use Rattle.circuit_output.specs.Numbers.{constraintNumbers}
+use Rattle.written_trees.specs.Numbers.{constraintNumbers}
 use Rattle.circuit_output.proofs.Logged.{claims-logged, circuits-logged, count-logged}
 use Rattle.circuit_output.proofs.Claimable.{claimable}
 use Rattle.circuit_output.proofs.Within.{statement-within, claims-few}

@@ -14,7 +14,7 @@ use Rattle.logged_steps.specs.Held.{Holds}
 use Rattle.function_room.specs.Functions.{writtenIn, privateIn, eventsIn, FunctionRoom}
 use Rattle.circuit_output.specs.declared.Circuits.{Circuits}
 use Rattle.circuit_output.specs.Circuits.{four}
-use Rattle.circuit_output.specs.Numbers.{constraintNumbers}
+use Rattle.written_trees.specs.Numbers.{constraintNumbers}
 use Rattle.function_nodes.specs.declared.Extent.{Extent}
 
 -- The constraints of private parameters, whose variables have numbers from i on.

@@ -24,7 +24,7 @@ use Rattle.logged_steps.specs.Held.{Holds}
 use Rattle.logged_steps.proofs.Held.{stored-holds}
 use Rattle.logged_steps.proofs.Readings.{entries-length}
 use Rattle.circuit_output.specs.declared.Circuits.{Circuits}
-use Rattle.circuit_output.specs.Numbers.{constraintNumbers}
+use Rattle.written_trees.specs.Numbers.{constraintNumbers}
 use Rattle.circuit_output.specs.Circuits.{treesOf, foursOf, claimsIn, Claimable, CircuitsRoom, CircuitsPut, sixesFrom}
 use Rattle.circuit_output.proofs.Logged.{claims-logged, circuits-logged, count-logged}
 use Rattle.circuit_output.proofs.Claims.{constraints-told}

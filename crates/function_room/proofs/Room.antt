@@ -20,7 +20,7 @@ use Rattle.context.proofs.Accepted.{few-functions, context-of}
 use Rattle.context.proofs.Declarations.{parameters-length}
 use Rattle.context.proofs.Functions.{functions-count, function-in, root-below}
 use Rattle.events.specs.Events.{variableCount}
-use Rattle.events.specs.Sizes.{expressionSize, statementSize}
+use Rattle.trees.specs.Sizes.{expressionSize, statementSize}
 use Rattle.events.proofs.Lengths.{statement-length}
 use Rattle.logged_variables.specs.Variables.{ownersFit}
 use Rattle.parameter_output.specs.Parameters.{privateCount}
@@ -41,29 +41,7 @@ none-holds n (true ∷ later) h j = absurd (omega arith)
 none-holds n (false ∷ later) h zero = refl
 none-holds n (false ∷ later) h (suc j) = none-holds (suc n) later h j
 
--- Two definitions of a tree's nodes say the same.
-same-expression : (e : Expression) → Rattle.bound.specs.Sizes.expressionSize e ≡ expressionSize e
-unfolding Rattle.bound.specs.Sizes.expressionSize expressionSize
-same-expression (Expression.constant t v) = refl
-same-expression Expression.me = refl
-same-expression (Expression.field f) = refl
-same-expression (Expression.entry f key) = omega (arith, same-expression key)
-same-expression (Expression.parameter k) = refl
-same-expression (Expression.operator o left right) = omega (arith, same-expression left, same-expression right)
-same-expression (Expression.negation part) = omega (arith, same-expression part)
-same-expression (Expression.reveal part o) = omega (arith, same-expression part)
-
-same-statement : (s : Statement) → Rattle.bound.specs.Sizes.statementSize s ≡ statementSize s
-unfolding Rattle.bound.specs.Sizes.statementSize statementSize
-same-statement Statement.skip = refl
-same-statement (Statement.sequence first second) = omega (arith, same-statement first, same-statement second)
-same-statement (Statement.assignField f value) = omega (arith, same-expression value)
-same-statement (Statement.assignEntry f key value) = omega (arith, same-expression key, same-expression value)
-same-statement (Statement.require condition) = omega (arith, same-expression condition)
-same-statement (Statement.conditional condition then else) = omega (arith, same-expression condition, same-statement then, same-statement else)
-
--- One body has no more nodes than all.
-body-within : (gs : List Function) (f : ℕ) → f < length gs → Rattle.bound.specs.Sizes.statementSize ((functionAt gs f) .body) ≤ bodiesSize gs
+body-within : (gs : List Function) (f : ℕ) → f < length gs → statementSize ((functionAt gs f) .body) ≤ bodiesSize gs
 unfolding bodiesSize
 body-within [] f h = absurd (omega arith)
 body-within (g ∷ gs) zero h = omega arith
@@ -130,19 +108,19 @@ module _ (file : List ℕ) (accepted : checkNumber file ≡ 0) where
     body = statementIn (nodesIn file) (rootAt file start)
 
     -- The nodes of the body are nodes of the file.
-    body-small : Rattle.bound.specs.Sizes.statementSize body ≤ 512
+    body-small : statementSize body ≤ 512
     body-small =
-        let same = ap (λ (g : Function). Rattle.bound.specs.Sizes.statementSize (g .body)) (function-in file f inside) in
+        let same = ap (λ (g : Function). statementSize (g .body)) (function-in file f inside) in
         let counted = functions-count file in
         let one = body-within ((contractOf (sectionsOf file)) .functions) f (omega arith) in
         omega (arith, nodes-suffice file accepted, count-of-nodes file, function-context .fewNodes)
 
     events-few : length (eventsIn file start) ≤ 1536
-    events-few = omega (arith, statement-length (scopeIn file start) body always (privateIn file start), same-statement body, body-small)
+    events-few = omega (arith, statement-length (scopeIn file start) body always (privateIn file start), body-small)
 
     variables-few : privateIn file start + variableCount (eventsIn file start) ≤ 1024
     variables-few =
-        omega (arith, variables-sparse (scopeIn file start) body always (privateIn file start), same-statement body, body-small, private-within file start, function-context .fewParameters)
+        omega (arith, variables-sparse (scopeIn file start) body always (privateIn file start), body-small, private-within file start, function-context .fewParameters)
 
     owners-small : ownersFit (eventsIn file start)
     owners-small =

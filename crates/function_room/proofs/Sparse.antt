@@ -9,7 +9,7 @@ use Rattle.definitions.specs.Syntax.{meName, Owner, everyone, ownedBy, Expressi
 use Rattle.definitions.specs.Owners.{nameOf, placeOwner, isPublic}
 use Rattle.definitions.specs.Written.{Guard, under}
 use Rattle.events.specs.Events.{claimedEvent, readEvent, variablesOf, variableCount, Events, noEvents, inTurn, supplyEvents, readEvents, bodyEvents, circuitEvents, placeEvents, branchEvents, statementEvents}
-use Rattle.events.specs.Sizes.{expressionSize, statementSize}
+use Rattle.trees.specs.Sizes.{expressionSize, statementSize}
 use Rattle.events.proofs.Appended.{variables-append}
 
 -- At most half of n variables, whatever the number of the first is.

@@ -9,8 +9,7 @@ use Rattle.definitions.specs.Written.{Claim, equals, opensForCaller, Constraint
 use Rattle.definitions.specs.WrittenFile.{sizes, claimTrees, guardNumber}
 use Rattle.buffer.specs.Buffer.{stored}
 use Rattle.written_trees.specs.Table.{countOf}
-use Rattle.circuit_output.specs.Numbers as written
-use Rattle.constraints.specs.Numbers as read
+use Rattle.written_trees.specs.Numbers.{claimNumbers, constraintNumbers}
 
 pub front-is : (held after values : List ℕ) (n : ℕ) → after ≡ stored held 0 values → n ≡ length values → take n after ≡ values
 unfolding stored
@@ -19,29 +18,16 @@ front-is held after values n e l = rw e (take-at values (drop (0 + length values
 pub last-below : (nodes : List ℕ) (count : ℕ) → 0 < count → 8 * count ≤ length nodes → count - 1 < countOf (take (8 * count) nodes)
 last-below nodes count some bytes = let l = length-take-le (8 * count) nodes bytes in omega arith
 
--- The numbers that are written are those that are read.
-claim-same : (n : ℕ) (claim : Claim) → written.claimNumbers n claim ≡ read.claimNumbers n claim
-claim-same n (equals i o circuit) = refl
-claim-same n (opensForCaller i) = refl
-
-pub numbers-same : (n : ℕ) (cs : List Constraint) → written.constraintNumbers n cs ≡ read.constraintNumbers n cs
-unfolding written.constraintNumbers read.constraintNumbers
-numbers-same n [] = refl
-numbers-same n (c ∷ cs) =
-    let m = n + sizes (claimTrees (c .claim)) in
-    ap (λ (l : List ℕ). (guardNumber (c .guard) ∷ l) ++ written.constraintNumbers m cs) (claim-same n (c .claim))
-    ∙ ap (λ (l : List ℕ). (guardNumber (c .guard) ∷ read.claimNumbers n (c .claim)) ++ l) (numbers-same m cs)
-
-claim-length : (n : ℕ) (claim : Claim) → length (written.claimNumbers n claim) ≡ 3
+claim-length : (n : ℕ) (claim : Claim) → length (claimNumbers n claim) ≡ 3
 claim-length n (equals i o circuit) = refl
 claim-length n (opensForCaller i) = refl
 
-pub numbers-length : (n : ℕ) (cs : List Constraint) → length (written.constraintNumbers n cs) ≡ 4 * length cs
-unfolding written.constraintNumbers
+pub numbers-length : (n : ℕ) (cs : List Constraint) → length (constraintNumbers n cs) ≡ 4 * length cs
+unfolding constraintNumbers
 numbers-length n [] = refl
 numbers-length n (c ∷ cs) =
     let m = n + sizes (claimTrees (c .claim)) in
     let tail = numbers-length m cs in
     let three = claim-length n (c .claim) in
-    let whole = length-append (guardNumber (c .guard) ∷ written.claimNumbers n (c .claim)) (written.constraintNumbers m cs) in
+    let whole = length-append (guardNumber (c .guard) ∷ claimNumbers n (c .claim)) (constraintNumbers m cs) in
     omega arith

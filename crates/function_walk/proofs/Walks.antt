@@ -24,8 +24,7 @@ use Rattle.written_trees.specs.Trees.{commandIn}
 use Rattle.written_trees.specs.Table.{tableOf}
 use Rattle.written_trees.proofs.Functions.{all-length}
 use Rattle.circuits.specs.Circuits.{addressFrom, constraintsFrom}
-use Rattle.circuit_output.specs.Numbers as written
-use Rattle.constraints.specs.Numbers as read
+use Rattle.written_trees.specs.Numbers.{constraintNumbers}
 use Rattle.walk.specs.Walk.{afterFrom, completesFrom, Ran}
 use Rattle.function_room.specs.Functions.{writtenIn, privateIn, eventsIn}
 use Rattle.narrow_trees.specs.Narrow.{Bytes, functionNodes, WrittenBack}
@@ -34,7 +33,7 @@ use Rattle.function_nodes.specs.declared.Extent.{Extent}
 use Rattle.function_nodes.specs.Functions.{FunctionReady, FunctionPut}
 use Rattle.function_nodes.proofs.Parts.{sizes-are, constraints-bound}
 use Rattle.function_walk.specs.Walks.{LastReady, WalkReady}
-use Rattle.function_walk.proofs.Fronts.{front-is, numbers-same, numbers-length}
+use Rattle.function_walk.proofs.Fronts.{front-is, numbers-length}
 
 pub private-counted : (file : List ℕ) (at count private : ℕ) → count ≡ byteAt file at → private ≡ privateCount count file (at + 1) → private ≡ privateIn file at
 private-counted file at count private e h = h ∙ ap (λ (n : ℕ). privateCount n file (at + 1)) e
@@ -95,11 +94,10 @@ module _ (file : List ℕ) (at nodesStart : ℕ) (log numbers scratch roots node
     nodes-front : take (8 * r .nodes) nodesAfter ≡ functionNodes function
     nodes-front = front-is nodes nodesAfter (functionNodes function) (8 * r .nodes) (put .contents) (omega (arith, put .nodes, node-count))
 
-    numbers-front : take (4 * r .constraints) numbersAfter ≡ read.constraintNumbers 0 (function .constraints)
+    numbers-front : take (4 * r .constraints) numbersAfter ≡ constraintNumbers 0 (function .constraints)
     numbers-front =
-        front-is numbers numbersAfter (written.constraintNumbers 0 (function .constraints)) (4 * r .constraints) (put .noted)
+        front-is numbers numbersAfter (constraintNumbers 0 (function .constraints)) (4 * r .constraints) (put .noted)
         (omega (arith, put .constraints, numbers-length 0 (function .constraints)))
-        ∙ numbers-same 0 (function .constraints)
 
     nodes-kept : length nodesAfter ≡ length nodes
     nodes-kept = ap length (put .contents) ∙ stored-length nodes 0 (functionNodes function) (omega (arith, node-count, ready .room .nodes, ready .nodesSpace))
@@ -107,7 +105,7 @@ module _ (file : List ℕ) (at nodesStart : ℕ) (log numbers scratch roots node
     numbers-kept : length numbersAfter ≡ length numbers
     numbers-kept =
         ap length (put .noted)
-        ∙ stored-length numbers 0 (written.constraintNumbers 0 (function .constraints))
+        ∙ stored-length numbers 0 (constraintNumbers 0 (function .constraints))
         (omega (arith, numbers-length 0 (function .constraints), constraints-bound file at (ready .room), ready .numbersSpace))
 
     pub last-ready : LastReady nodesAfter (r .nodes) numbersAfter (r .constraints) file

@@ -29,7 +29,8 @@ use Rattle.written_trees.proofs.RoundTrip.{functions-shaped}
 use Rattle.written_trees.proofs.Functions.{numbered-append, sizes-append, all-length, function-body-back}
 use Rattle.circuits.specs.Circuits.{constraintsFrom}
 use Rattle.constraints.specs.Numbers as numbers
-use Rattle.constraints.specs.Numbers.{constraintNumbers, ClaimHasCode, AllHaveCodes}
+use Rattle.written_trees.specs.Numbers.{constraintNumbers}
+use Rattle.constraints.specs.Numbers.{ClaimHasCode, AllHaveCodes}
 use Rattle.constraints.proofs.Numbers.{constraints-back}
 use Rattle.narrow_trees.specs.Narrow.{Bytes, NarrowStatement, CodedScope, WrittenBack}
 use Rattle.narrow_trees.proofs.Pieces as pieces

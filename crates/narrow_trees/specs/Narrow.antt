@@ -12,7 +12,8 @@ use Rattle.definitions.specs.Owners.{nameOf, placeOwner}
 use Rattle.written_trees.specs.Trees.{commandIn}
 use Rattle.written_trees.specs.Table.{countOf, tableOf, Readable}
 use Rattle.circuits.specs.Circuits.{constraintsFrom}
-use Rattle.constraints.specs.Numbers.{HasCode, constraintNumbers}
+use Rattle.written_trees.specs.Numbers.{constraintNumbers}
+use Rattle.constraints.specs.Numbers.{HasCode}
 
 -- Each of a list's numbers is a byte's.
 pub record Bytes (file : List ℕ) : Type 0 where

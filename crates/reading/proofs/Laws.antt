@@ -17,7 +17,8 @@ use Rattle.file.specs.Layout.{IsLayout}
 use Rattle.file.proofs.Laws.{force-is}
 use Rattle.nodes.proofs.Truth.{either-false}
 use Rattle.counts.proofs.Laws.{limits, hasManyParameters}
-use Rattle.reading.specs.Shape.{shapeNumber, WellShaped}
+use Rattle.file.specs.Settled.{Settled}
+use Rattle.reading.specs.Shape.{shapeNumber}
 
 pub few-nodes : (file : List ℕ) (l : Layout) → IsLayout file l → countOffLimits file ≡ false → l .nodes ≤ 512
 few-nodes file l is h =
@@ -77,9 +78,9 @@ unfolding firstThatHolds
 first-fails n true later h = absurd (omega arith)
 first-fails n false later h = (refl, h)
 
-pub well-shaped : (file : List ℕ) → shapeNumber file ≡ 0 → WellShaped file
+pub settled : (file : List ℕ) → shapeNumber file ≡ 0 → Settled file
 unfolding shapeNumber
-well-shaped file h =
+settled file h =
     let s = sectionsOf file in
     let one = first-fails 0 (endsWrongly file) _ h in
     let two = first-fails 1 (countOffLimits file) _ (one .1) in

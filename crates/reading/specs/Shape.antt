@@ -12,13 +12,3 @@ shapeNumber file =
     let s = sectionsOf file in
     firstThatHolds 1
     (endsWrongly file ∷ countOffLimits file ∷ outsideTables s ∷ namesNothing s ∷ usedOtherThanOnce s ∷ tooDeep s ∷ wrongSort s ∷ [])
-
--- None of the sentences 1 to 7 holds of a file.
-pub record WellShaped (file : List ℕ) : Type 0 where
-  pub ends : endsWrongly file ≡ false
-  pub counts : countOffLimits file ≡ false
-  pub tables : outsideTables (sectionsOf file) ≡ false
-  pub numbers : namesNothing (sectionsOf file) ≡ false
-  pub uses : usedOtherThanOnce (sectionsOf file) ≡ false
-  pub depth : tooDeep (sectionsOf file) ≡ false
-  pub sorts : wrongSort (sectionsOf file) ≡ false

@@ -20,7 +20,8 @@ use Rattle.file.proofs.Sections.{functions-are, count-of-nodes}
 use Rattle.faults.specs.Faults.{leastFault, numberOf}
 use Rattle.faults.proofs.Faults.{least-append, least-sentence}
 use Rattle.links.specs.Names.{linkedBy}
-use Rattle.scopes.specs.Settled.{Settled, nodesOf, statementOn}
+use Rattle.file.specs.Settled.{Settled}
+use Rattle.scopes.specs.Trees.{nodesOf, statementOn}
 use Rattle.scopes.specs.Scopes.{scopeAt}
 use Rattle.scopes.specs.declared.Parameters.{Parameters}
 use Rattle.scopes.proofs.Lists.{or-left, or-right}

@@ -9,7 +9,8 @@ use Rattle.definitions.specs.ContractFile.{sectionsOf, fieldOf, functionRecord,
 use Rattle.definitions.specs.Nodes.{functionOf}
 use Rattle.definitions.specs.Numbers.{fieldFaults, functionFaults}
 use Rattle.faults.specs.Faults.{leastFault}
-use Rattle.scopes.specs.Settled.{Settled, nodesOf}
+use Rattle.file.specs.Settled.{Settled}
+use Rattle.scopes.specs.Trees.{nodesOf}
 
 abbrev pub fieldsOf : List ℕ → List Field
 fieldsOf file = map fieldOf ((sectionsOf file) .fields)

@@ -14,7 +14,8 @@ use Rattle.definitions.specs.Nodes.{Kind, constantKind, meKind, fieldKind, entr
 use Rattle.definitions.specs.Owners.{Links, linksOfCondition, withLinkOf, nameOf}
 use Rattle.file.specs.Node.{recordOf}
 use Rattle.file.proofs.Sections.{node-of, count-of-nodes}
-use Rattle.scopes.specs.Settled.{Settled, nodesOf, expressionOn, statementOn}
+use Rattle.file.specs.Settled.{Settled}
+use Rattle.scopes.specs.Trees.{nodesOf, expressionOn, statementOn}
 use Rattle.scopes.proofs.Lists.{getD-map, first-below, rest-below}
 use Rattle.scopes.proofs.Levels.{expression-unfolds, statement-unfolds}
 use Rattle.scopes.proofs.Settling.{noNode, falling, reveal-listed}

@@ -19,7 +19,8 @@ use Rattle.codes.proofs.Codes.{owner-final, owner-argument}
 use Rattle.judgements.specs.Judging.{IsField, IsParameter, Present, Final}
 use Rattle.judgements.specs.declared.Declared.{Declared}
 use Rattle.judgements.specs.declared.Given.{Given}
-use Rattle.scopes.specs.Settled.{Settled, nodesOf}
+use Rattle.file.specs.Settled.{Settled}
+use Rattle.scopes.specs.Trees.{nodesOf}
 use Rattle.scopes.specs.Scopes.{FieldAt, ParameterAt, scopeAt}
 use Rattle.scopes.specs.declared.Parameters.{Parameters}
 use Rattle.scopes.proofs.Lists.{or-left, or-right, and-left, and-right, not-not, none-at, none-numbered, getD-map, any-append-left, any-append-right, first-below, length-fieldRecords, getD-fieldRecords, length-parameterRecords, getD-parameterRecords}

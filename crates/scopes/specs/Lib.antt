@@ -1,2 +1,2 @@
-pub mod Settled
+pub mod Trees
 pub mod Scopes

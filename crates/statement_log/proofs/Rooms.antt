@@ -5,7 +5,7 @@ use native.Mathlib.Omega.{arith}
 use lib.ListN.{length}
 use Rattle.trees.specs.Trees.{statementIn}
 use Rattle.context.specs.Context.{nodesIn, scopeIn}
-use Rattle.events.specs.Sizes.{statementSize}
+use Rattle.trees.specs.Sizes.{statementSize}
 use Rattle.events.proofs.Lengths.{variables-few, statement-length}
 use Rattle.entries.specs.declared.Position.{Position}
 use Rattle.entries.specs.Entries.{guardOf}

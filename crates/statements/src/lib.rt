@@ -16,7 +16,7 @@ ghost use Rattle.definitions.specs.Syntax.{assignField, assignEntry};
 ghost use Rattle.definitions.specs.Numbers.{statementFaults, conditionFaults};
 ghost use Rattle.faults.specs.Faults.{leastFault};
 ghost use Rattle.links.specs.Names.{linkedBy};
-ghost use Rattle.scopes.specs.Settled.{nodesOf, expressionOn, statementOn};
+ghost use Rattle.scopes.specs.Trees.{nodesOf, expressionOn, statementOn};
 ghost use Rattle.scopes.specs.Scopes.{Ready, scopeAt};
 ghost use Rattle.statements.specs.Checking.{CheckedAs};
 

@@ -1,2 +1,3 @@
 pub mod Trees
 pub mod Table
+pub mod Numbers

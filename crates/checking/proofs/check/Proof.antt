@@ -1,7 +1,8 @@
 -- `checking::check` gives the first number that holds.
 use mathlib.Core.Path.{_≡_, sym, _∙_}
 use native.Mathlib.Omega.{arith}
-use Rattle.checking.proofs.Order.{refused-by-shape, left-to-rules, settled}
+use Rattle.checking.proofs.Order.{refused-by-shape, left-to-rules}
+use Rattle.reading.proofs.Laws.{settled}
 use borrow.Author.Needs.{needs}
 use Rattle.checking.proofs.check.Statement.{statement}
 use Rattle.checking.proofs.check.Tie as tie

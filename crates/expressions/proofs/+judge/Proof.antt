@@ -2,7 +2,7 @@
 use mathlib.Core.Bool.{true}
 use Rattle.definitions.specs.Nodes.{constantValue, nodeAt, nodeOf}
 use Rattle.definitions.specs.Numbers.{targetInTables}
-use Rattle.scopes.specs.Settled.{nodesOf}
+use Rattle.scopes.specs.Trees.{nodesOf}
 use Rattle.expressions.proofs.Reading.{named, target-listed, count-parameters, judged-same}
 use Rattle.scopes.proofs.ByKind.{constant-tree, field-tree, entry-tree, parameter-tree, operator-tree, negation-tree, reveal-tree, me-tree, key-below, left-below, right-below, negated-below, revealed-below}
 use Rattle.judgements.proofs.Judging.{constant-is, me-is, field-is, entry-is, parameter-is}

@@ -5,7 +5,7 @@ use native.Mathlib.Omega.{arith}
 use borrow.Author.Needs.{needs}
 use Rattle.definitions.specs.Nodes.{nodeAt, nodeOf}
 use Rattle.file.specs.Node.{recordOf}
-use Rattle.scopes.specs.Settled.{nodesOf}
+use Rattle.scopes.specs.Trees.{nodesOf}
 use Rattle.expressions.proofs.Reading.{named}
 use Rattle.statements.proofs.Trees.{sequence-tree, assign-field-tree, assign-entry-tree, require-tree, conditional-tree, skip-tree, one-below, two-below, put-below, key-below, value-below, required-below, condition-below, then-below, else-below}
 use Rattle.statements.proofs.Checking.{skip-is, sequence-is, assign-field-is, assign-entry-is, require-is, conditional-is}
