@@ -1,21 +1,19 @@
 -- Those faults are the ones that the definitions tell of statements.
-use mathlib.Core.Path.{_≡_, refl, ap, sym, _∙_}
-use mathlib.Core.Bool.{Bool, true, false, not, cond}
+use mathlib.Core.Path.{_≡_, _∙_}
+use mathlib.Core.Bool.{not}
 use mathlib.Core.List.{_++_}
-use mathlib.Core.Option.{Option, none, some}
-use Prim.Native.Nat.{ℕ, min}
+use mathlib.Core.Option.{none}
+use Prim.Native.Nat.{ℕ}
 use lib.Dec.{eqb}
-use Rattle.definitions.specs.Syntax.{Expression, Statement, Scope, Field, Name, Owner, fieldAt, dataTypeCode, shapeCode}
+use Rattle.definitions.specs.Syntax.{Expression, Statement, Scope, Owner, fieldAt, shapeCode}
 use Rattle.definitions.specs.ContractFile.{ownerOfCode}
-use Rattle.definitions.specs.DataTypes.{typeOf}
-use Rattle.definitions.specs.Owners.{Links, ownerOf, nameOf, placeOwner}
-use Rattle.definitions.specs.Numbers.{fault, mayBePut, expressionFaults, entryFaults, valueFaults, conditionFaults, statementFaults}
+use Rattle.definitions.specs.Owners.{Links, nameOf, placeOwner}
+use Rattle.definitions.specs.Numbers.{fault, expressionFaults, entryFaults, valueFaults, conditionFaults, statementFaults}
 use Rattle.faults.specs.Faults.{leastFault}
 use Rattle.faults.proofs.Faults.{least-append, least-one, counted-8, counted-9, counted-14}
-use Rattle.links.specs.Names.{nameWith}
-use Rattle.codes.specs.Codes.{isFieldCode, placeCode}
+use Rattle.codes.specs.Codes.{placeCode}
 use Rattle.codes.proofs.Codes.{public-code, place-owner}
-use Rattle.judgements.specs.Judging.{JudgedAs, IsField, entryFault}
+use Rattle.judgements.specs.Judging.{JudgedAs, IsField}
 use Rattle.judgements.specs.declared.Judged.{Judged}
 use Rattle.judgements.specs.declared.Declared.{Declared}
 use Rattle.judgements.proofs.Judging.{entry-fault-is}

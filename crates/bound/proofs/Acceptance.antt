@@ -1,17 +1,16 @@
 -- What an accepted file's counts, roots and children are: numbers 2, 4 and 5 hold nowhere.
-use mathlib.Core.Path.{_≡_, refl, ap, sym, _∙_}
-use mathlib.Core.Bool.{Bool, true, false, _&&_, _||_, cond, not, true≢false}
+use mathlib.Core.Path.{_≡_, refl, ap, _∙_}
+use mathlib.Core.Bool.{Bool, true, false, _||_, not, true≢false}
 use mathlib.Core.List.{List, [], _∷_, _++_, map}
 use Prim.Native.Nat.{ℕ, zero, suc, _+_, _≤_, _<_}
 use native.Mathlib.Nat.{add-zero}
 use native.Mathlib.Omega.{arith}
-use borrow.Author.Tests.{ltb-true, ltb-false, leb-false, lt-ltb, not-false, eqb-true}
+use borrow.Author.Tests.{ltb-false, leb-false, not-false, eqb-true}
 use lib.Dec.{eqb, leb, ltb}
-use lib.ListN.{length, getD, length-map, List·getD-map, List·getD-eq-default}
-use Rattle.definitions.specs.Basics.{force, all, any, anyNumbered, countIf, flatMap, firstThatHolds, isZero}
-use Rattle.definitions.specs.Syntax.{Function}
-use Rattle.definitions.specs.ContractFile.{FieldRecord, FunctionRecord, NodeRecord, Sections, fieldCount, functionCount, nodeCount, nodesAt, functionEnd, fieldRecords, functionRecords, nodeRecords, sectionsOf, fieldOf, parameterOf}
-use Rattle.definitions.specs.Nodes.{kindOf, nodeOfKind, Node, unknownNode, nodeOf, nodeAt, children, expressionParts, statementParts, fieldsNamed, functionOf, contractOf}
+use lib.ListN.{length, getD, length-map}
+use Rattle.definitions.specs.Basics.{force, any, anyNumbered, countIf, flatMap, firstThatHolds, isZero}
+use Rattle.definitions.specs.ContractFile.{FunctionRecord, NodeRecord, Sections, fieldCount, functionCount, nodeCount, nodesAt, functionEnd, fieldRecords, functionRecords, nodeRecords, sectionsOf, fieldOf, parameterOf}
+use Rattle.definitions.specs.Nodes.{Node, nodeOf, children, fieldsNamed, functionOf, contractOf}
 use Rattle.definitions.specs.Numbers.{endsWrongly, countOffLimits, outsideTables, namesNothing, fieldOfDeclaredOwner, usesOf, usedOtherThanOnce, tooDeep, wrongSort, contractSentences, checkNumber}
 use Rattle.trees.specs.Trees.{Falling}
 use Rattle.trees.proofs.Falls.{nodes-fall}

@@ -1,20 +1,19 @@
 -- The bytes of written functions and of a written contract, from the sizes of the bodies that were rewritten.
-use mathlib.Core.Path.{_≡_, refl, ap, sym, _∙_}
+use mathlib.Core.Path.{_≡_, refl}
 use mathlib.Core.Bool.{Bool, true, false, cond}
 use mathlib.Core.List.{List, [], _∷_, _++_, map}
-use Prim.Native.Nat.{ℕ, zero, suc, _+_, _*_, _-_, _≤_}
+use Prim.Native.Nat.{ℕ, suc, _+_, _*_, _-_, _≤_}
 use native.Mathlib.Omega.{arith}
 use lib.Dec.{eqb}
 use lib.ListN.{length, length-append}
 use Rattle.definitions.specs.Basics.{any, flatMap, twoBytes}
-use Rattle.definitions.specs.Syntax.{Owner, everyone, ownedBy, Statement, Field, Parameter, Function, Contract, Scope, dataTypeCode}
-use Rattle.definitions.specs.ContractFile.{NodeRecord}
-use Rattle.definitions.specs.Written.{Command, Variable, supplied, readFrom, guard, Claim, equals, opensForCaller, always, Constraint, WrittenFunction, WrittenContract}
-use Rattle.definitions.specs.Rewriting.{Step, Piece, Passage, privateParameters, openings, stepsBefore, heldUnder, withVerify, rewriteStatement, rewriteFunction, rewrite}
+use Rattle.definitions.specs.Syntax.{everyone, ownedBy, Field, Parameter, Function, Contract, Scope, dataTypeCode}
+use Rattle.definitions.specs.Written.{Command, Variable, supplied, readFrom, guard, Claim, equals, opensForCaller, always, Constraint, WrittenFunction}
+use Rattle.definitions.specs.Rewriting.{privateParameters, openings, heldUnder, withVerify, rewriteStatement, rewriteFunction, rewrite}
 use Rattle.definitions.specs.WrittenFile.{Tree, leaf, oneChild, twoChildren, threeChildren, setting, size, numbered, bodyTree, commandTree, claimTrees, functionTrees, sizes, numberedAll, nodeBytes, fieldBytes, parameterBytes, variableBytes, keyOf, eachOnce, keysOf, guardNumber, claimBytes, constraintBytes, functionBytes, functionsBytes, contractBytes}
 use Rattle.trees.specs.Sizes.{statementSize}
 use Rattle.bound.specs.Sizes.{bodiesSize, commandSize, stepsSize, claimWeight, claimsWeight, constraintsWeight, passageWeight, fewParameters}
-use Rattle.bound.proofs.Pieces.{claims-append, constraints-append, steps-before, held-weight, statement-light}
+use Rattle.bound.proofs.Pieces.{constraints-append, steps-before, held-weight, statement-light}
 
 -- Lengths of lists put together from short ones.
 flat-two : {A : Type 0} (f : A → List ℕ) → ((x : A) → length (f x) ≡ 2) → (xs : List A) → length (flatMap f xs) ≡ 2 * length xs

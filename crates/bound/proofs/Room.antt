@@ -1,10 +1,10 @@
 -- 01, Numbers, 16: "49,152 bytes always suffice."
-use mathlib.Core.Path.{_≡_, refl, ap, sym, _∙_}
+use mathlib.Core.Path.{_≡_}
 use mathlib.Core.List.{List, [], _∷_, map}
-use Prim.Native.Nat.{ℕ, suc, _+_, _*_, _≤_}
+use Prim.Native.Nat.{ℕ, _≤_}
 use native.Mathlib.Omega.{arith}
 use lib.ListN.{length, length-map}
-use Rattle.definitions.specs.ContractFile.{FunctionRecord, Sections, sectionsOf, fieldOf}
+use Rattle.definitions.specs.ContractFile.{FunctionRecord, sectionsOf, fieldOf}
 use Rattle.definitions.specs.Nodes.{Node, nodeOf, functionOf, contractOf}
 use Rattle.definitions.specs.Numbers.{checkNumber}
 use Rattle.definitions.specs.WrittenFile.{writtenFile}

@@ -3,11 +3,10 @@ use mathlib.Core.Path.{_≡_, refl, ap, sym, _∙_}
 use mathlib.Core.Bool.{Bool, true, false, _||_, cond, not}
 use mathlib.Core.List.{List}
 use Prim.Native.Nat.{ℕ, _<_, _≤_}
-use native.Mathlib.Omega.{arith}
 use borrow.Author.Tests.{eq-eqb, ne-eqb, lt-ltb, le-ltb, le-leb, lt-leb, leb-false}
 use lib.Dec.{leb, ltb}
 use lib.ListN.{length}
-use Rattle.definitions.specs.Basics.{isZero, firstThatHolds}
+use Rattle.definitions.specs.Basics.{firstThatHolds}
 use Rattle.definitions.specs.ContractFile.{functionCount}
 use Rattle.definitions.specs.Ledger as ledger
 use Rattle.definitions.specs.Calls.{contractIn, isWellFormed, notCallable, argumentsOff, callNumber, callWith, honestParametersOf, honestVariablesOf, ledgerAfterCall}
@@ -19,7 +18,6 @@ use Rattle.ledgers.specs.declared.Ledger as code
 use Rattle.ledgers.specs.Ledgers.{ledgerOf}
 use Rattle.call_numbers.specs.Arguments.{argumentsOffFor}
 use Rattle.call_numbers.proofs.Arguments.{arguments-off-are}
-use Rattle.call.specs.declared.Called.{Called}
 use Rattle.call.specs.Calls.{CalledOn}
 
 -- The tests on a function's place and on a file that are known by equations.

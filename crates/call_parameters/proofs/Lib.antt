@@ -1,3 +1,2 @@
 pub mod Honest
 pub mod Public
-pub mod Call

@@ -3,7 +3,7 @@ use mathlib.Core.Path.{_≡_, refl, ap, sym, _∙_}
 use mathlib.Core.Bool.{Bool, true, false, cond}
 use mathlib.Core.List.{List, map}
 use Prim.Native.Nat.{ℕ, _<_}
-use Rattle.definitions.specs.Syntax.{Name, Function, Scope, functionAt}
+use Rattle.definitions.specs.Syntax.{Name, Function, functionAt}
 use Rattle.definitions.specs.ContractFile.{functionCount}
 use Rattle.definitions.specs.Nodes.{contractOf}
 use Rattle.definitions.specs.Rewriting.{rewriteFunction}

@@ -1,17 +1,16 @@
 -- What a call that can be made gives its parts: room for the function, for the addresses and for what a failed call shows.
-use mathlib.Core.Path.{_≡_, ap, sym, _∙_}
+use mathlib.Core.Path.{_≡_}
 use mathlib.Core.List.{List}
-use Prim.Native.Nat.{ℕ, _*_, _/_, _<_, _≤_, min}
+use Prim.Native.Nat.{ℕ, _*_}
 use native.Mathlib.Omega.{arith}
 use lib.ListN.{length}
-use Rattle.definitions.specs.ContractFile.{byteAt, functionCount, nodesAt}
-use Rattle.definitions.specs.Numbers.{checkNumber}
+use Rattle.definitions.specs.ContractFile.{byteAt}
 use Rattle.definitions.specs.Ledger.{Ledger}
 use Rattle.context.specs.Functions.{functionStart}
 use Rattle.function_room.specs.Functions.{FunctionRoom}
 use Rattle.function_room.proofs.Room.{function-room-alone}
 use Rattle.addresses.specs.Addresses.{FewNames, AddressRoom}
-use Rattle.call_parameters.specs.Parameters.{ParametersNear, PublicRoom}
+use Rattle.call_parameters.specs.Parameters.{PublicRoom}
 use Rattle.calls.specs.Calls.{Held, Callable}
 
 module _ (l : Ledger) (file : List ℕ) (function at : ℕ) (parameters variables : List ℕ) (same : file ≡ l .file) (callable : Callable l function parameters variables)

@@ -1,13 +1,13 @@
 -- Addresses that stand at their owner codes are those of the names in a call.
-use mathlib.Core.Path.{_≡_, refl, sym, _∙_}
-use mathlib.Core.Bool.{Bool, true, false, cond}
+use mathlib.Core.Path.{_≡_, refl, sym}
+use mathlib.Core.Bool.{Bool, true, false}
 use mathlib.Core.List.{List}
 use Prim.Native.Nat.{ℕ, _+_, _<_, _≤_}
 use native.Mathlib.Omega.{arith}
 use borrow.Author.Tests.{ltb-true, ltb-false}
 use lib.Dec.{ltb}
 use lib.ListN.{length, getD, List·getD-eq-default}
-use Rattle.definitions.specs.Syntax.{Name, meName, finalName, parameterName, Scope, Field, fieldAt, plainField, boolean, toEveryone}
+use Rattle.definitions.specs.Syntax.{Name, meName, finalName, parameterName, Scope, fieldAt, plainField, boolean, toEveryone}
 use Rattle.definitions.specs.Places.{addressIn}
 use Rattle.circuits.specs.Circuits.{addressFrom}
 

@@ -1,21 +1,20 @@
 -- Rules told of codes are the rules that the definitions tell of data types and owners.
 use mathlib.Core.Path.{_≡_, refl, ap, sym, _∙_}
-use mathlib.Core.Bool.{Bool, true, false, not, cond, _&&_, _||_, true≢false, false≢true}
+use mathlib.Core.Bool.{Bool, true, false, not, cond, _&&_, _||_, false≢true}
 use mathlib.Core.List.{List}
-use mathlib.Core.Option.{Option, none, some}
+use mathlib.Core.Option.{none, some}
 use Prim.Native.Nat.{ℕ, zero, suc, _+_, _-_, _≤_, _<_}
 use native.Mathlib.Omega.{arith}
-use borrow.Author.Tests.{eqb-true, eqb-false, eq-eqb, ne-eqb, lt-ltb, le-ltb, le-leb, lt-leb, ltb-true, leb-true}
+use borrow.Author.Tests.{eqb-true, ne-eqb, lt-ltb, le-ltb, le-leb, lt-leb, ltb-true, leb-true}
 use lib.Dec.{eqb, leb, ltb}
 use lib.ListN.{getD}
-use Rattle.definitions.specs.Basics.{isZero}
-use Rattle.definitions.specs.Syntax.{DataType, boolean, uint, address, Name, meName, finalName, parameterName, Owner, everyone, ownedBy, FieldOwner, toEveryone, toKey, toFinal, Operator, dataTypeCode, isDivision, isEveryone}
-use Rattle.definitions.specs.ContractFile.{isFinalCode, isParameterCode, ownerOfCode, fieldOwnerOfCode, operatorOf, dataTypeOf}
+use Rattle.definitions.specs.Syntax.{DataType, meName, finalName, parameterName, everyone, ownedBy, toEveryone, toKey, toFinal, Operator, dataTypeCode, isDivision, isEveryone}
+use Rattle.definitions.specs.ContractFile.{isFinalCode, ownerOfCode, fieldOwnerOfCode, operatorOf}
 use Rattle.definitions.specs.DataTypes.{operandsFit, resultType}
-use Rattle.definitions.specs.Owners.{Links, isReader, placeOwner, ownerOfParts}
+use Rattle.definitions.specs.Owners.{isReader, placeOwner, ownerOfParts}
 use Rattle.definitions.specs.Numbers.{targetInTables, isTagged, isNone, mayBePut, fault}
 use Rattle.links.specs.Names.{nameOfCode, nameWith, linkedBy}
-use Rattle.links.proofs.Names.{Listed, listed, code-final, code-argument, owner-named, above-eqb, below-eqb}
+use Rattle.links.proofs.Names.{code-final, code-argument, owner-named, above-eqb}
 use Rattle.faults.specs.Faults.{leastFault}
 use Rattle.faults.proofs.Faults.{least-none, least-one, counted-11, counted-15}
 use Rattle.links.proofs.Joining.{linked-codes}

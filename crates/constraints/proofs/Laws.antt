@@ -1,20 +1,19 @@
 -- Steps of the definitions as code takes them: an owner code's address, a constraint's parts, and constraints one after another.
-use mathlib.Core.Path.{_≡_, refl, ap, sym, _∙_}
-use mathlib.Core.Bool.{Bool, true, false, _&&_, _||_, not, cond}
-use mathlib.Core.List.{List, [], _∷_}
-use Prim.Native.Nat.{ℕ, zero, suc, _+_, _*_, _-_, _/_, _<_, _≤_}
+use mathlib.Core.Path.{_≡_, refl, sym, _∙_}
+use mathlib.Core.Bool.{Bool, true, false, _&&_, _||_, not}
+use mathlib.Core.List.{List}
+use Prim.Native.Nat.{ℕ, zero, suc, _+_, _-_, _/_, _<_, _≤_}
 use native.Mathlib.Omega.{arith}
 use borrow.Author.Tests.{eq-eqb, ne-eqb, lt-ltb, le-ltb, le-leb, lt-leb}
-use lib.Dec.{eqb, ltb, leb}
+use lib.Dec.{eqb}
 use lib.ListN.{length, getD}
 use Rattle.definitions.specs.Basics.{all}
-use Rattle.definitions.specs.Syntax.{Owner, everyone, ownedBy, Name, meName, finalName, parameterName}
+use Rattle.definitions.specs.Syntax.{ownedBy, parameterName}
 use Rattle.definitions.specs.ContractFile.{NodeRecord, ownerOfCode, isFinalCode}
-use Rattle.definitions.specs.Places.{Reader, anyone, only, readerOf}
-use Rattle.definitions.specs.Written.{Circuit, Constraint, Claim, opensForCaller, equals}
-use Rattle.definitions.specs.Ledger.{Content, contentAt, isContentOf, opensFor, isSet, plainNumber, claimHolds, constraintHolds, circuitValue}
+use Rattle.definitions.specs.Places.{anyone, only, readerOf}
+use Rattle.definitions.specs.Ledger.{Content, contentAt, isContentOf, opensFor, isSet, plainNumber, claimHolds, circuitValue}
 use Rattle.contents.specs.Contents.{contentsOf}
-use Rattle.written_trees.specs.Trees.{recordAt, Falling, circuitIn}
+use Rattle.written_trees.specs.Trees.{circuitIn}
 use Rattle.written_trees.specs.Table.{countOf, tableOf, Readable}
 use Rattle.written_trees.proofs.Tables.{node-past}
 use Rattle.written_trees.proofs.ByKind.{circuit-rest}

@@ -1,25 +1,23 @@
 -- A function's constraints, written to flat numbers beside their circuits' nodes, read back.
 use mathlib.Core.Path.{_≡_, refl, ap, ap₂, sym, _∙_}
-use mathlib.Core.Bool.{Bool, true, false, cond}
 use mathlib.Core.List.{List, [], _∷_, _++_, append-assoc, append-nil}
-use Prim.Native.Nat.{ℕ, zero, suc, _+_, _*_, _-_, _/_, _<_, _≤_}
-use native.Mathlib.Nat.{add-zero, zero-add}
+use Prim.Native.Nat.{ℕ, suc, _+_, _*_, _-_, _/_, _<_, _≤_}
+use native.Mathlib.Nat.{add-zero}
 use native.Mathlib.Omega.{arith}
 use borrow.Author.Tests.{ne-eqb, lt-ltb, le-ltb, le-leb}
-use lib.Dec.{eqb}
 use lib.ListN.{length, getD, length-append}
 use lib.Seq.{getD-append-add}
 use Rattle.definitions.specs.Basics.{flatMap}
-use Rattle.definitions.specs.Syntax.{Owner, everyone, ownedBy, Name, meName, finalName, parameterName}
+use Rattle.definitions.specs.Syntax.{Owner, everyone, ownedBy, meName, finalName, parameterName}
 use Rattle.definitions.specs.ContractFile.{NodeRecord, ownerOfCode, ownerCode}
 use Rattle.definitions.specs.Written.{Circuit, Claim, equals, opensForCaller, Guard, always, under, Constraint}
 use Rattle.definitions.specs.WrittenFile.{Tree, size, sizes, numbered, numberedAll, circuitTree, claimTrees, guardNumber}
-use Rattle.written_trees.specs.Trees.{circuitIn, circuitAt}
+use Rattle.written_trees.specs.Trees.{circuitIn}
 use Rattle.written_trees.proofs.Numbering.{size-positive, numbered-length}
 use Rattle.written_trees.proofs.RoundTrip.{circuit-is-back}
 use Rattle.circuits.specs.Circuits.{guardFrom, claimFrom, constraintFrom, constraintsAt, constraintsFrom}
 use Rattle.written_trees.specs.Numbers.{claimNumbers, constraintNumbers}
-use Rattle.constraints.specs.Numbers.{HasCode, ClaimHasCode, AllHaveCodes, none, more}
+use Rattle.constraints.specs.Numbers.{HasCode, ClaimHasCode, AllHaveCodes, more}
 
 pub code-back : (o : Owner) → HasCode o → ownerOfCode (ownerCode o) ≡ o
 code-back everyone h = refl

@@ -1,10 +1,8 @@
 -- A function's constraints as flat numbers: guard, variable, owner code and root of each.
-use mathlib.Core.List.{List, [], _∷_, _++_}
-use Prim.Native.Nat.{ℕ, _+_, _-_, _<_}
-use Rattle.definitions.specs.Syntax.{Owner, everyone, ownedBy, Name, meName, finalName, parameterName}
-use Rattle.definitions.specs.ContractFile.{ownerCode}
+use mathlib.Core.List.{List, [], _∷_}
+use Prim.Native.Nat.{_<_}
+use Rattle.definitions.specs.Syntax.{Owner, everyone, ownedBy, meName, finalName, parameterName}
 use Rattle.definitions.specs.Written.{Claim, equals, opensForCaller, Constraint}
-use Rattle.definitions.specs.WrittenFile.{size, sizes, circuitTree, claimTrees, guardNumber}
 
 -- A name that has an owner code: of a final, a field below 64.
 abbrev pub HasCode : Owner → Type 0

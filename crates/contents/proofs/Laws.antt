@@ -1,14 +1,14 @@
 -- Laws of flat contents: their number, the content at a position, parts of whole fives, and a content replaced.
-use mathlib.Core.Path.{_≡_, refl, ap, sym, _∙_}
-use mathlib.Core.List.{List, [], _∷_, _++_, map}
+use mathlib.Core.Path.{_≡_, refl, ap, sym}
+use mathlib.Core.List.{List, [], _∷_}
 use Prim.Native.Nat.{ℕ, zero, suc, _+_, _*_, _/_, _%_, _<_, _≤_}
 use native.Mathlib.Omega.{arith}
 use borrow.Author.Tests.{ne-eqb}
-use lib.ListN.{length, getD, set, take, drop, length-append, List·getD-eq-default, List·getD-map}
+use lib.ListN.{length, getD, set, List·getD-eq-default}
 use lib.Seq.{set-out, sets-eq}
 use Rattle.buffer.specs.Buffer.{stored}
 use Rattle.definitions.specs.Ledger as ledger
-use Rattle.contents.specs.Contents.{five, contentOfFive, contentsOf, encodedContent, encoded}
+use Rattle.contents.specs.Contents.{five, contentOfFive, contentsOf}
 
 pub length-contentsOf : (flat : List ℕ) → length (contentsOf flat) ≡ length flat / 5
 unfolding contentsOf
@@ -24,9 +24,6 @@ length-contentsOf (a ∷ b ∷ c ∷ d ∷ e ∷ rest) =
 -- The five numbers at a position.
 abbrev pub fiveAt : List ℕ → ℕ → ledger.Content
 fiveAt flat p = contentOfFive (getD flat (5 * p) 0) (getD flat (5 * p + 1) 0) (getD flat (5 * p + 2) 0) (getD flat (5 * p + 3) 0) (getD flat (5 * p + 4) 0)
-
-five-more : (p : ℕ) → 5 * suc p ≡ suc (suc (suc (suc (suc (5 * p)))))
-five-more p = omega arith
 
 -- What stands in a flat list behind its first five.
 pub content-inside : (flat : List ℕ) (p : ℕ) → p < length flat / 5 → getD (contentsOf flat) p (ledger.Content.plain 0) ≡ fiveAt flat p
@@ -109,12 +106,3 @@ five-set l i a₀ a₁ a₂ a₃ a₄ h =
     let e₃ : i + 3 ≡ suc (suc (suc i)) = omega arith in
     let e₄ : i + 4 ≡ suc (suc (suc (suc i))) = omega arith in
     rw (e₁, e₂, e₃, e₄) (sets-eq (five a₀ a₁ a₂ a₃ a₄) l i h)
-
--- The numbers of all contents, plain or opened, at a position.
-pub plain-number-at : (contents : List ledger.Content) (p : ℕ)
-    → getD (map ledger.plainNumber contents) p 0 ≡ ledger.plainNumber (ledger.contentAt contents p)
-plain-number-at contents p = List·getD-map ledger.plainNumber contents p (ledger.Content.plain 0)
-
-pub opened-number-at : (contents : List ledger.Content) (p : ℕ)
-    → getD (map ledger.openedNumber contents) p 0 ≡ ledger.openedNumber (ledger.contentAt contents p)
-opened-number-at contents p = List·getD-map ledger.openedNumber contents p (ledger.Content.plain 0)

@@ -1,6 +1,5 @@
 // What a place, a parameter or a variable holds, and a list of such contents as flat numbers, five a content.
 ghost use mathlib.Core.Path.{_≡_};
-ghost use mathlib.Core.List.{List};
 ghost use lib.ListN.{length, set};
 ghost use Prim.Native.Nat.{_+_, _*_, _<_, _≤_};
 ghost use Rattle.definitions.specs.Ledger.{contentAt, plainNumber, openedNumber};

@@ -5,12 +5,12 @@ use mathlib.Core.List.{List, [], _∷_, map}
 use Prim.Native.Nat.{ℕ, zero, suc, _+_, _*_, _<_, _≤_}
 use native.Mathlib.Nat.{add-zero}
 use native.Mathlib.Omega.{arith}
-use borrow.Author.Tests.{ltb-true, ltb-false, leb-false, lt-ltb, not-false}
+use borrow.Author.Tests.{ltb-true, ltb-false, leb-false, not-false}
 use lib.Dec.{leb, ltb}
-use lib.ListN.{length, getD, length-map, List·getD-map, List·getD-eq-default}
+use lib.ListN.{length, getD, length-map, List·getD-eq-default}
 use Rattle.definitions.specs.Basics.{all, any, anyNumbered, isZero}
 use Rattle.definitions.specs.ContractFile.{FieldRecord, FunctionRecord, NodeRecord, byteAt, fieldCount, functionCount, functionsAt, functionEnd, functionsEnd, nodesAt, nodeCount, fieldRecords, parameterRecords, functionRecord, functionRecords, nodeRecord, sectionsOf, fieldOf}
-use Rattle.definitions.specs.Nodes.{kindOf, Node, unknownNode, nodeOfKind, nodeOf, nodeAt, children, expressionParts, statementParts, isExpression, isStatement, fieldsNamed}
+use Rattle.definitions.specs.Nodes.{Node, unknownNode, nodeOf, nodeAt, children, expressionParts, statementParts, isExpression, isStatement, fieldsNamed}
 use Rattle.definitions.specs.Numbers.{countOffLimits, fieldInTables, parameterInTables, nodeInTables, outsideTables, fieldOfDeclaredOwner, namesNothing, wrongSort}
 use Rattle.trees.specs.Trees.{Falling}
 use Rattle.trees.proofs.Falls.{nodes-fall}
@@ -89,10 +89,6 @@ functions-near (suc k) file at (suc f) h l =
 -- A record of no kind, which reads as a node that is not there.
 abbrev noRecord : NodeRecord
 noRecord = record { kind = 0; arg = 0; first = 0; second = 0; third = 0 }
-
-node-in : (file : List ℕ) (n : ℕ) → nodeAt (nodesIn file) n ≡ nodeOf (getD ((sectionsOf file) .nodes) n noRecord)
-unfolding nodesIn kindOf nodeOfKind
-node-in file n = List·getD-map nodeOf ((sectionsOf file) .nodes) n noRecord
 
 node-past : (file : List ℕ) (n : ℕ) → length ((sectionsOf file) .nodes) ≤ n → nodeAt (nodesIn file) n ≡ unknownNode
 unfolding nodesIn

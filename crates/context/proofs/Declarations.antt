@@ -1,12 +1,12 @@
 -- A field and a parameter of the scope, by their number: as the bytes at its place say, or what stands for none.
-use mathlib.Core.Path.{_≡_, refl, ap, sym, _∙_}
-use mathlib.Core.Bool.{Bool, true, false}
-use mathlib.Core.List.{List, [], _∷_, map}
+use mathlib.Core.Path.{_≡_, refl, ap}
+use mathlib.Core.Bool.{true}
+use mathlib.Core.List.{List, map}
 use Prim.Native.Nat.{ℕ, zero, suc, _+_, _*_, _<_, _≤_}
 use native.Mathlib.Omega.{arith}
 use lib.ListN.{length, getD, length-map, List·getD-eq-default}
 use Rattle.definitions.specs.Syntax.{Field, Parameter, fieldAt, parameterAt, plainField, boolean, toEveryone}
-use Rattle.definitions.specs.ContractFile.{FieldRecord, ParameterRecord, byteAt, fieldCount, fieldRecords, parameterRecords, fieldOf, parameterOf}
+use Rattle.definitions.specs.ContractFile.{byteAt, fieldCount, fieldRecords, parameterRecords, fieldOf, parameterOf}
 use Rattle.file.proofs.Sections.{fields-are}
 use Rattle.context.specs.Context.{fieldsIn, parametersIn, fieldRecordAt, parameterRecordAt}
 

@@ -1,12 +1,12 @@
 -- Function f of a contract, as the bytes at its place say.
 use mathlib.Core.Path.{_≡_, refl, ap, _∙_}
 use mathlib.Core.List.{List, [], _∷_, map}
-use Prim.Native.Nat.{ℕ, zero, suc, _+_, _-_, _<_}
+use Prim.Native.Nat.{ℕ, zero, suc, _+_, _<_}
 use mathlib.Core.Bool.{false}
 use native.Mathlib.Omega.{arith}
 use lib.ListN.{length, getD, length-map, List·getD-map}
 use Rattle.definitions.specs.Syntax.{functionAt}
-use Rattle.definitions.specs.ContractFile.{FunctionRecord, twoBytesAt, functionCount, functionsAt, functionEnd, functionsEnd, functionRecord, nodeCount, sectionsOf}
+use Rattle.definitions.specs.ContractFile.{FunctionRecord, functionCount, functionsAt, functionRecord, nodeCount, sectionsOf}
 use Rattle.definitions.specs.Nodes.{nodeOf, functionOf, contractOf}
 use Rattle.definitions.specs.Numbers.{namesNothing}
 use Rattle.trees.specs.Trees.{statementIn}

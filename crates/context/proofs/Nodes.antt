@@ -1,7 +1,7 @@
 -- What the expression of a node is, by the kind of its record, and that its children's numbers are below its own.
 use mathlib.Core.Path.{_≡_, refl, ap, sym, subst, _∙_}
 use mathlib.Core.Bool.{Bool, true, false, _&&_, cond, false≢true}
-use mathlib.Core.List.{List, [], _∷_, map}
+use mathlib.Core.List.{List, map}
 use Prim.Native.Nat.{ℕ, _+_, _*_, _<_, _≤_}
 use native.Mathlib.Omega.{arith}
 use borrow.Author.Tests.{ne-eqb, ltb-true, ltb-false}
@@ -11,8 +11,8 @@ use Rattle.definitions.specs.Basics.{all}
 use Rattle.definitions.specs.Syntax.{Expression, Statement}
 use Rattle.definitions.specs.ContractFile.{NodeRecord, nodesAt, nodeCount, nodeRecord, sectionsOf, dataTypeOf, ownerOfCode, operatorOf}
 use Rattle.definitions.specs.Nodes.{Kind, constantKind, meKind, fieldKind, entryKind, parameterKind, operatorKind, negationKind, revealKind, skipKind, sequenceKind, assignFieldKind, assignEntryKind, requireKind, conditionalKind, noKind, kindOf, Node, unknownNode, nodeOfKind, nodeOf, nodeAt, children, expressionParts, statementParts, expressionOf}
-use Rattle.definitions.specs.Numbers.{kindInTables, nodeInTables}
-use Rattle.trees.specs.Trees.{expressionIn, Falling, Keeps}
+use Rattle.definitions.specs.Numbers.{kindInTables}
+use Rattle.trees.specs.Trees.{expressionIn, Keeps}
 use Rattle.trees.proofs.Unfolding.{expression-unfolds}
 use Rattle.trees.proofs.Kept.{unknown-keeps}
 use Rattle.file.proofs.Sections.{node-of, count-of-nodes}

@@ -1,14 +1,14 @@
 -- What the statement of a node is, by the kind of its record, and that its children's numbers are below its own.
-use mathlib.Core.Path.{_≡_, refl, ap, sym, _∙_}
-use mathlib.Core.Bool.{Bool, true, false, _&&_, cond, false≢true}
-use mathlib.Core.List.{List, [], _∷_, map}
+use mathlib.Core.Path.{_≡_, refl, ap, _∙_}
+use mathlib.Core.Bool.{Bool, true, false, cond, false≢true}
+use mathlib.Core.List.{List}
 use Prim.Native.Nat.{ℕ, _+_, _*_, _<_}
 use borrow.Author.Tests.{ne-eqb, ltb-true}
 use lib.Dec.{eqb, ltb}
 use Rattle.definitions.specs.Basics.{all}
 use Rattle.definitions.specs.Syntax.{Statement}
 use Rattle.definitions.specs.ContractFile.{NodeRecord, nodeCount, nodeRecord}
-use Rattle.definitions.specs.Nodes.{Kind, constantKind, meKind, fieldKind, entryKind, parameterKind, operatorKind, negationKind, revealKind, skipKind, sequenceKind, assignFieldKind, assignEntryKind, requireKind, conditionalKind, noKind, kindOf, Node, nodeOfKind, nodeOf, nodeAt, children, expressionParts, statementParts, statementOf}
+use Rattle.definitions.specs.Nodes.{Kind, constantKind, meKind, fieldKind, entryKind, parameterKind, operatorKind, negationKind, revealKind, skipKind, sequenceKind, assignFieldKind, assignEntryKind, requireKind, conditionalKind, noKind, kindOf, Node, nodeOfKind, expressionParts, statementParts, statementOf}
 use Rattle.trees.specs.Trees.{expressionIn, statementIn}
 use Rattle.trees.proofs.Unfolding.{statement-unfolds}
 use Rattle.context.specs.Context.{nodesIn, Context}

@@ -1,6 +1,6 @@
 -- What code may rely on when it reads the nodes of a function in an accepted file. The function begins at a known place, and so do the nodes.
 use mathlib.Core.Path.{_≡_}
-use mathlib.Core.Bool.{Bool, true}
+use mathlib.Core.Bool.{true}
 use mathlib.Core.List.{List, map}
 use Prim.Native.Nat.{ℕ, _+_, _*_, _<_, _≤_}
 use Rattle.definitions.specs.Basics.{all}

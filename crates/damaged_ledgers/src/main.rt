@@ -9,7 +9,6 @@ use ledgers::Ledger;
 use libc::STDIN_FILENO;
 use libc::STDOUT_FILENO;
 use view::view;
-ghost use mathlib.Core.Path.{_≡_};
 ghost use lib.ListN.{length};
 
 fn plain(value: u32) -> Place {

@@ -1,5 +1,5 @@
 -- 01, Numbers given for a bad request: the sentences 1 to 15 of a contract file, and the number of a check and of a section.
-use Rattle.definitions.specs.Basics.{Bool, true, false, _&&_, _||_, cond, not, List, [], _∷_, _++_, map, Option, none, some, ℕ, zero, suc, _+_, eqb, leb, ltb, length, any, anyNumbered, countIf, flatMap, isZero, firstThatHolds}
+use Rattle.definitions.specs.Basics.{Bool, true, false, _&&_, _||_, cond, not, List, [], _∷_, _++_, map, Option, none, some, ℕ, zero, suc, eqb, leb, ltb, length, any, anyNumbered, countIf, flatMap, isZero, firstThatHolds}
 use Rattle.definitions.specs.Syntax.{boolean, address, Name, meName, finalName, parameterName, Owner, everyone, ownedBy, FieldOwner, toEveryone, toKey, toFinal, Expression, constant, me, field, entry, parameter, operator, negation, reveal, Statement, skip, sequence, assignField, assignEntry, require, conditional, Field, Function, Contract, Scope, fieldAt, parameterAt, sameType, isPlainField, isFinal, isMapping, isDivision}
 use Rattle.definitions.specs.ContractFile.{FieldRecord, ParameterRecord, NodeRecord, Sections, fieldCount, functionCount, nodeCount, fileEnd, sectionsOf, sectionPart, isFinalCode, isParameterCode, dataTypeOf, fieldOf}
 use Rattle.definitions.specs.Nodes.{Kind, constantKind, meKind, fieldKind, entryKind, parameterKind, operatorKind, negationKind, revealKind, skipKind, sequenceKind, assignFieldKind, assignEntryKind, requireKind, conditionalKind, noKind, kindOf, nodeOf, nodeAt, constantValue, expressionParts, statementParts, children, isExpression, isStatement, fieldsNamed, chainLength, contractOf}

@@ -1,18 +1,18 @@
 -- The numbers of all places at deployment, field by field.
 use mathlib.Core.Path.{_≡_, refl, ap, sym, _∙_}
-use mathlib.Core.Bool.{Bool, true, false, cond}
+use mathlib.Core.Bool.{Bool, true, false}
 use mathlib.Core.List.{List, [], _∷_, _++_}
 use Prim.Native.Nat.{ℕ, zero, suc, _+_, _*_, _-_, _<_, _≤_}
 use native.Mathlib.Numerals.{add-one}
 use native.Mathlib.Nat.{add-zero}
 use native.Mathlib.Omega.{arith}
-use borrow.Author.Tests.{eq-eqb, ne-eqb}
+use borrow.Author.Tests.{ne-eqb}
 use lib.Dec.{eqb}
-use lib.ListN.{length, getD, set, take, drop, replicate, length-append, length-replicate, length-set, drop-of-length-le}
+use lib.ListN.{length, getD, set, drop, replicate, length-append, length-replicate, drop-of-length-le}
 use lib.Seq.{drop-cons, drop-drop, getD-drop}
 use Rattle.buffer.specs.Buffer.{stored}
-use Rattle.buffer.proofs.Laws.{stored-one, stored-then, stored-nothing, stored-length}
-use Rattle.definitions.specs.Syntax.{Field, Shape, fieldAt, isFinal, isMapping}
+use Rattle.buffer.proofs.Laws.{stored-one, stored-then, stored-nothing}
+use Rattle.definitions.specs.Syntax.{Field, fieldAt, isFinal}
 use Rattle.definitions.specs.ContractFile.{byteAt, fieldCount, shapeOf, fieldOf}
 use Rattle.definitions.specs.Places.{placeCount, deployedNumbers}
 use Rattle.context.specs.Context.{fieldsIn}

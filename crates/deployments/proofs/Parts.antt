@@ -2,7 +2,7 @@
 use mathlib.Core.Path.{_≡_, refl, ap, sym, _∙_}
 use mathlib.Core.Bool.{Bool, true, false, cond}
 use mathlib.Core.List.{List, [], _∷_, _++_, map}
-use Prim.Native.Nat.{ℕ, zero, suc, _+_, _-_, _<_, _≤_}
+use Prim.Native.Nat.{ℕ, zero, suc, _+_, _<_, _≤_}
 use native.Mathlib.Numerals.{add-one}
 use native.Mathlib.Omega.{arith}
 use lib.ListN.{length, getD, set, take, drop, replicate, length-append, length-map, length-replicate}
@@ -11,7 +11,7 @@ use Rattle.buffer.specs.Buffer.{stored}
 use Rattle.definitions.specs.Syntax.{Field, Shape, plainField, finalField, mapping, isFinal, isMapping}
 use Rattle.definitions.specs.Nodes.{contractOf}
 use Rattle.definitions.specs.Places as places
-use Rattle.definitions.specs.Places.{numbersFrom, placeCount, perPlace, placeReaders, deployedNumbers}
+use Rattle.definitions.specs.Places.{numbersFrom, placeCount, perPlace, deployedNumbers}
 use Rattle.definitions.specs.Calls.{contractIn}
 use Rattle.context.specs.Context.{fieldsIn}
 use Rattle.definitions.specs.ContractFile.{fieldCount}

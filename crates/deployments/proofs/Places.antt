@@ -8,7 +8,7 @@ use lib.ListN.{length, getD, set, take, drop, length-append, length-map, length-
 use lib.Seq.{drop-cons, drop-drop, take-suc-set, append-snoc}
 use Rattle.definitions.specs.Syntax.{Field, FieldOwner, toEveryone, toKey, toFinal, fieldAt}
 use Rattle.definitions.specs.Places as places
-use Rattle.definitions.specs.Places.{numbersFrom, placeCount, perPlace, placeReader, placeReaders, finalAddress}
+use Rattle.definitions.specs.Places.{numbersFrom, placeCount, perPlace, placeReader, finalAddress}
 use Rattle.definitions.specs.Ledger as ledger
 use Rattle.contents.specs.declared.Content.{Content}
 use Rattle.contents.specs.declared.Place.{Place}

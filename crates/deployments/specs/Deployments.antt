@@ -2,7 +2,7 @@
 use mathlib.Core.Path.{_≡_}
 use mathlib.Core.List.{List, _++_, map, zipWith}
 use Prim.Native.Nat.{ℕ, _+_, _<_, _≤_}
-use lib.ListN.{length, getD, drop, take}
+use lib.ListN.{length, getD, drop}
 use Rattle.buffer.specs.Buffer.{stored}
 use Rattle.definitions.specs.Syntax.{Field, fieldAt}
 use Rattle.definitions.specs.ContractFile.{fieldCount}

@@ -3,16 +3,15 @@ use contents::Content;
 use contents::Place;
 use ledgers::Ledger;
 ghost use mathlib.Core.Path.{_≡_};
-ghost use mathlib.Core.List.{List, _++_};
-ghost use lib.ListN.{length, getD, replicate, take, drop};
-ghost use Prim.Native.Nat.{ℕ, _+_, _*_, _<_, _≤_};
+ghost use lib.ListN.{length, getD, replicate, take};
+ghost use Prim.Native.Nat.{_+_, _*_, _<_, _≤_};
 ghost use Rattle.buffer.specs.Buffer.{stored};
 ghost use Rattle.definitions.specs.ContractFile.{fieldCount};
 ghost use Rattle.definitions.specs.Places.{deployedNumbers};
 ghost use Rattle.definitions.specs.Calls.{deployed};
 ghost use Rattle.context.specs.Context.{fieldsIn};
-ghost use Rattle.ledgers.specs.Ledgers.{contentsIn, ledgerOf};
-ghost use Rattle.deployments.specs.Deployments.{fieldContents, contentsFor, Numbers, Deployable, FieldStands, PlacesStand};
+ghost use Rattle.ledgers.specs.Ledgers.{ledgerOf};
+ghost use Rattle.deployments.specs.Deployments.{Numbers, Deployable, FieldStands, PlacesStand};
 
 // Zeros from a place on.
 fn put_zeros(numbers: &mut [u32], p: usize, count: usize)

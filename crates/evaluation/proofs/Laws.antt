@@ -1,13 +1,11 @@
 -- What an expression gives, by its kind, as code learns it from what its parts give.
-use mathlib.Core.Path.{_≡_, refl, ap, sym, _∙_}
-use mathlib.Core.Bool.{Bool, true, false, _&&_, _||_, not}
+use mathlib.Core.Path.{_≡_, refl, ap, _∙_}
+use mathlib.Core.Bool.{Bool, true, false, _&&_, not}
 use mathlib.Core.List.{List}
 use Prim.Native.Nat.{ℕ, zero, suc}
 use borrow.Author.Tests.{ne-eqb}
-use lib.Dec.{eqb}
 use lib.ListN.{getD}
-use Rattle.definitions.specs.Basics.{isZero}
-use Rattle.definitions.specs.Syntax.{DataType, Operator, isDivision}
+use Rattle.definitions.specs.Syntax.{DataType, isDivision}
 use Rattle.definitions.specs.ContractFile.{operatorOf}
 use Rattle.definitions.specs.Places.{position}
 use Rattle.definitions.specs.Original.{operate, operates, negate}

@@ -1,7 +1,7 @@
 -- What events make, of one list of events behind another.
 use mathlib.Core.Path.{_≡_, refl, ap}
 use mathlib.Core.List.{List, [], _∷_, _++_}
-use Prim.Native.Nat.{suc, _+_}
+use Prim.Native.Nat.{suc}
 use Rattle.definitions.specs.Syntax.{Scope}
 use Rattle.definitions.specs.Written.{Variable, supplied, readFrom, guard, equals, Claim, Guard, Constraint}
 use Rattle.definitions.specs.Rewriting.{Step, inBody, inCircuit, heldUnder}

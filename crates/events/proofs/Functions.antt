@@ -1,7 +1,6 @@
 -- The variables and constraints of a rewritten function: those of its private parameters, then those of its body's events.
 use mathlib.Core.Path.{_≡_, ap, sym}
 use mathlib.Core.List.{List, _++_}
-use Prim.Native.Nat.{ℕ}
 use lib.ListN.{length}
 use Rattle.definitions.specs.Syntax.{Field, Function, Scope}
 use Rattle.definitions.specs.Written.{Variable, Constraint, always}

@@ -2,7 +2,7 @@
 use mathlib.Core.Bool.{Bool, true, false, _&&_, cond}
 use mathlib.Core.List.{List, [], _∷_}
 use mathlib.Core.Option.{none}
-use Prim.Native.Nat.{ℕ, suc, _+_, _*_, _-_, _≤_}
+use Prim.Native.Nat.{ℕ, suc, _+_, _*_, _≤_}
 use native.Mathlib.Omega.{arith}
 use lib.ListN.{length, length-append}
 use Rattle.definitions.specs.Syntax.{meName, Owner, everyone, ownedBy, Expression, Statement, Scope, fieldAt, isDivision}
@@ -92,9 +92,6 @@ module _ (scope : Scope) (g : Guard) where
         (turn-within _ _ 2 (3 * expressionSize left) 2 (3 * expressionSize right) _ _ (omega arith) (circuit-within left) (circuit-within right))
     circuit-within (Expression.negation part) = larger-within _ _ 2 (3 * expressionSize part) _ (omega arith) (circuit-within part)
     circuit-within (Expression.reveal part o) = larger-within _ _ 2 (3 * expressionSize part) _ (omega arith) (circuit-within part)
-
-  pub body-length : (e : Expression) (i : ℕ) → length (bodyEvents scope g e i) ≤ 3 * expressionSize e
-  body-length e i = omega (arith, body-within e .holds i)
 
   place-within : (o : Owner) (e : Expression) → Within 0 (3 * expressionSize e) (placeEvents scope g o e)
   place-within everyone e = body-within e

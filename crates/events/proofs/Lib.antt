@@ -3,6 +3,5 @@ pub mod Pieces
 pub mod Statements
 pub mod Singles
 pub mod Functions
-pub mod Steady
 pub mod Lengths
 pub mod Parts

@@ -1,11 +1,10 @@
 -- What a function that has read node n knows: the node is the one that the number names.
-use mathlib.Core.Path.{_≡_, refl, ap, sym, _∙_}
-use mathlib.Core.Bool.{Bool, true, false, cond}
+use mathlib.Core.Path.{_≡_, refl, _∙_}
+use mathlib.Core.Bool.{true}
 use mathlib.Core.List.{List, map}
-use Prim.Native.Nat.{ℕ, zero, suc, _+_, _*_, _<_, _≤_}
-use lib.Dec.{eqb}
+use Prim.Native.Nat.{ℕ, zero, suc, _+_, _*_, _<_}
 use lib.ListN.{length, length-map}
-use Rattle.definitions.specs.Syntax.{Expression, Scope, operatorCode}
+use Rattle.definitions.specs.Syntax.{Expression, Scope}
 use Rattle.definitions.specs.ContractFile.{nodeRecord, nodeCount, operatorOf, parameterRecords, parameterOf}
 use Rattle.definitions.specs.Nodes.{nodeAt, nodeOf}
 use Rattle.definitions.specs.Owners.{Links, linksOfCondition, withLinkOf, nameOf}
@@ -15,8 +14,7 @@ use Rattle.links.specs.Names.{nameWith}
 use Rattle.file.specs.declared.Node.{Node}
 use Rattle.judgements.specs.Judging.{JudgedAs}
 use Rattle.judgements.specs.declared.Judged.{Judged}
-use Rattle.file.specs.Settled.{Settled}
-use Rattle.scopes.specs.Trees.{nodesOf, expressionOn}
+use Rattle.scopes.specs.Trees.{nodesOf}
 use Rattle.scopes.specs.Scopes.{Ready}
 use Rattle.scopes.specs.declared.Parameters.{Parameters}
 use Rattle.scopes.proofs.Lists.{length-parameterRecords}

@@ -1,14 +1,12 @@
 -- The tree of a body's form, by the expression's kind, as code learns it.
-use mathlib.Core.Path.{_≡_, refl, ap, sym, _∙_}
-use mathlib.Core.Bool.{Bool, true, false, _&&_, cond}
-use Prim.Native.Nat.{ℕ, suc, _+_, _*_, _/_, _%_, _≤_}
-use native.Mathlib.Omega.{arith}
+use mathlib.Core.Path.{_≡_, ap}
+use mathlib.Core.Bool.{true, false}
+use Prim.Native.Nat.{ℕ, _+_}
 use lib.ListN.{length}
-use Rattle.definitions.specs.Syntax.{DataType, Owner, Operator, Expression, Scope, dataTypeCode, operatorCode}
+use Rattle.definitions.specs.Syntax.{DataType, Owner, Operator, Expression, Scope, operatorCode}
 use Rattle.definitions.specs.Owners.{isPublic}
-use Rattle.definitions.specs.Written.{BodyExpression}
 use Rattle.definitions.specs.Rewriting.{kept, onePart, twoParts, supplying, inBody}
-use Rattle.definitions.specs.WrittenFile.{Tree, leaf, oneChild, twoChildren, constantTree, bodyTree}
+use Rattle.definitions.specs.WrittenFile.{leaf, oneChild, twoChildren, constantTree, bodyTree}
 use Rattle.variable_counts.specs.Counts.{bodyCount}
 use Rattle.variable_counts.proofs.Counts.{body-makes}
 use Rattle.forms.specs.Forms.{bodyForm}

@@ -1,9 +1,8 @@
 -- The tree of a node's form in a body, by the kind of its record and what code has found out about it.
-use mathlib.Core.Path.{_≡_, refl, ap, sym, _∙_}
-use mathlib.Core.Bool.{Bool, true, false, _&&_}
+use mathlib.Core.Path.{_≡_, ap, sym, _∙_}
+use mathlib.Core.Bool.{Bool, true, false}
 use mathlib.Core.List.{List}
 use Prim.Native.Nat.{ℕ, _+_, _*_, _<_, _≤_}
-use Rattle.definitions.specs.Syntax.{Expression}
 use Rattle.definitions.specs.ContractFile.{NodeRecord, nodeCount, nodeRecord}
 use Rattle.definitions.specs.Owners.{isPublic}
 use Rattle.definitions.specs.WrittenFile.{Tree, leaf, oneChild, twoChildren}

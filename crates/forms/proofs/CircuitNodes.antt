@@ -1,9 +1,9 @@
 -- The tree of a node's form in a circuit, by the kind of its record and what code has found out about it.
-use mathlib.Core.Path.{_≡_, refl, ap, sym, _∙_}
+use mathlib.Core.Path.{_≡_, ap, sym, _∙_}
 use mathlib.Core.Bool.{Bool, true, false, _&&_}
 use mathlib.Core.List.{List}
 use Prim.Native.Nat.{ℕ, _+_, _*_, _<_, _≤_}
-use Rattle.definitions.specs.Syntax.{Expression, isDivision}
+use Rattle.definitions.specs.Syntax.{isDivision}
 use Rattle.definitions.specs.ContractFile.{NodeRecord, nodeCount, nodeRecord, operatorOf}
 use Rattle.definitions.specs.WrittenFile.{Tree, leaf, oneChild, twoChildren}
 use Rattle.trees.specs.Trees.{expressionIn}

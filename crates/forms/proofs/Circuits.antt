@@ -1,16 +1,15 @@
 -- The tree of a circuit's form, by the expression's kind, as code learns it.
-use mathlib.Core.Path.{_≡_, refl, ap, sym, _∙_}
-use mathlib.Core.Bool.{Bool, true, false, _&&_, cond}
+use mathlib.Core.Path.{_≡_, refl, ap}
+use mathlib.Core.Bool.{true, false, _&&_}
 use mathlib.Core.List.{_++_}
-use Prim.Native.Nat.{ℕ, suc, _+_}
+use Prim.Native.Nat.{ℕ, _+_}
 use native.Mathlib.Nat.{add-zero}
 use native.Mathlib.Omega.{arith}
 use lib.ListN.{length, length-append}
 use Rattle.definitions.specs.Syntax.{DataType, Owner, everyone, ownedBy, Operator, Expression, Scope, operatorCode, isDivision, isEveryone}
 use Rattle.definitions.specs.Owners.{ownerOf, isPublic}
-use Rattle.definitions.specs.Written.{BodyExpression, Circuit}
-use Rattle.definitions.specs.Rewriting.{kept, onePart, twoParts, readForm, reading, operatorInCircuit, inBody, inCircuit}
-use Rattle.definitions.specs.WrittenFile.{Tree, leaf, oneChild, twoChildren, constantTree, circuitTree}
+use Rattle.definitions.specs.Rewriting.{kept, onePart, twoParts, readForm, reading, inBody, inCircuit}
+use Rattle.definitions.specs.WrittenFile.{leaf, oneChild, twoChildren, constantTree, circuitTree}
 use Rattle.variable_counts.specs.Counts.{bodyCount, circuitCount}
 use Rattle.variable_counts.proofs.Counts.{body-makes, circuit-makes}
 use Rattle.forms.specs.Forms.{circuitForm, readKind}

@@ -1,6 +1,6 @@
 -- Codes of the tables are those of what they stand for, so the nodes of a form keep them.
 use mathlib.Core.Path.{_≡_, refl, ap, sym, _∙_}
-use mathlib.Core.Bool.{Bool, true, false, _&&_, cond}
+use mathlib.Core.Bool.{_&&_}
 use mathlib.Core.List.{List}
 use Prim.Native.Nat.{ℕ, zero, suc, _+_, _*_, _/_, _%_, _<_, _≤_}
 use native.Mathlib.Omega.{arith}
@@ -12,7 +12,7 @@ use Rattle.definitions.specs.ContractFile.{NodeRecord, nodeCount, nodeRecord, d
 use Rattle.definitions.specs.Nodes.{constantKind, operatorKind, kindOf, constantValue}
 use Rattle.definitions.specs.DataTypes.{isOfType}
 use Rattle.definitions.specs.Numbers.{kindInTables}
-use Rattle.definitions.specs.WrittenFile.{Tree, leaf, constantTree}
+use Rattle.definitions.specs.WrittenFile.{leaf, constantTree}
 use Rattle.context.specs.Context.{Context}
 use Rattle.context.proofs.Nodes.{listed-is, both-left}
 

@@ -1,6 +1,6 @@
 -- Listed owners have codes that are bytes.
 use mathlib.Core.List.{List, [], _∷_}
-use Prim.Native.Nat.{ℕ, _+_, _<_}
+use Prim.Native.Nat.{_<_}
 use native.Mathlib.Omega.{arith}
 use Rattle.definitions.specs.Syntax.{meName, finalName, parameterName, Owner, everyone, ownedBy}
 use Rattle.definitions.specs.ContractFile.{ownerCode}

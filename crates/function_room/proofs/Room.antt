@@ -6,7 +6,7 @@ use Prim.Native.Nat.{ℕ, zero, suc, _+_, _*_, _-_, _<_, _≤_}
 use native.Mathlib.Omega.{arith}
 use lib.ListN.{length, getD, length-map}
 use Rattle.definitions.specs.Basics.{firstThatHolds}
-use Rattle.definitions.specs.Syntax.{Expression, Statement, Parameter, Function, functionAt}
+use Rattle.definitions.specs.Syntax.{Statement, Parameter, Function, functionAt}
 use Rattle.definitions.specs.ContractFile.{byteAt, functionCount, nodesAt, nodeCount, parameterRecords, parameterOf, sectionsOf}
 use Rattle.definitions.specs.Nodes.{contractOf}
 use Rattle.definitions.specs.Numbers.{endsWrongly, countOffLimits, outsideTables, namesNothing, usedOtherThanOnce, tooDeep, wrongSort, contractSentences, checkNumber}
@@ -20,7 +20,7 @@ use Rattle.context.proofs.Accepted.{few-functions, context-of}
 use Rattle.context.proofs.Declarations.{parameters-length}
 use Rattle.context.proofs.Functions.{functions-count, function-in, root-below}
 use Rattle.events.specs.Events.{variableCount}
-use Rattle.trees.specs.Sizes.{expressionSize, statementSize}
+use Rattle.trees.specs.Sizes.{statementSize}
 use Rattle.events.proofs.Lengths.{statement-length}
 use Rattle.logged_variables.specs.Variables.{ownersFit}
 use Rattle.parameter_output.specs.Parameters.{privateCount}

@@ -3,8 +3,8 @@ use mathlib.Core.Path.{_≡_, refl, ap, sym, _∙_}
 use mathlib.Core.List.{List, [], _∷_, _++_, map, append-nil, append-assoc}
 use Prim.Native.Nat.{ℕ, zero, suc, _+_, _*_, _<_}
 use native.Mathlib.Omega.{arith}
-use lib.ListN.{length, take, drop, getD, length-append, length-map, List·getD-map}
-use lib.Seq.{take-all, take-suc, drop-cons}
+use lib.ListN.{length, take, getD, length-append, length-map, List·getD-map}
+use lib.Seq.{take-all, take-suc}
 use Rattle.definitions.specs.Basics.{flatMap, twoBytes}
 use Rattle.definitions.specs.Syntax.{Field, Function, functionAt}
 use Rattle.definitions.specs.ContractFile.{NodeRecord, fieldCount, functionCount, functionsAt, functionEnd, functionsEnd, sectionsOf, fieldOf}
@@ -133,12 +133,6 @@ module _ (file : List ℕ) where
       ap (λ (l : List WrittenFunction). getD l f (rewriteFunction (fieldsIn file) noFunction)) written-are
       ∙ List·getD-map (rewriteFunction (fieldsIn file)) ((contractOf (sectionsOf file)) .functions) f noFunction
       ∙ ap (rewriteFunction (fieldsIn file)) (function-in file f h)
-
-  pub written-at : (f : ℕ) → f < functionCount file → drop f (writtenFunctions file) ≡ writtenIn file (functionStart file f) ∷ drop (suc f) (writtenFunctions file)
-  written-at f h =
-      let counted = functions-counted in
-      drop-cons (writtenFunctions file) f (rewriteFunction (fieldsIn file) noFunction) (omega arith)
-      ∙ ap (λ (w : WrittenFunction). w ∷ drop (suc f) (writtenFunctions file)) (written-of f h)
 
   pub take-next : (f : ℕ) → f < functionCount file → take (suc f) (writtenFunctions file) ≡ take f (writtenFunctions file) ++ (writtenIn file (functionStart file f) ∷ [])
   take-next f h =

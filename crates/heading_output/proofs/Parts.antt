@@ -1,5 +1,5 @@
 -- The parts of a heading are the heading that a log tells, and its count of keys is stored last.
-use mathlib.Core.Path.{_≡_, refl, ap, sym, _∙_, subst}
+use mathlib.Core.Path.{_≡_, ap, _∙_, subst}
 use mathlib.Core.List.{List, [], _∷_, _++_, append-assoc}
 use Prim.Native.Nat.{ℕ, _+_, _-_, _≤_}
 use native.Mathlib.Omega.{arith}
@@ -7,14 +7,13 @@ use lib.ListN.{length, length-append}
 use Rattle.definitions.specs.Basics.{twoBytes}
 use Rattle.definitions.specs.ContractFile.{byteAt}
 use Rattle.buffer.specs.Buffer.{stored}
-use Rattle.buffer.proofs.Laws.{stored-length}
 use Rattle.append.specs.Append.{Appended}
 use Rattle.append.proofs.Laws.{stored-before, appended-then, room-then}
 use Rattle.logged_variables.specs.PerEntry.{perEntry, countTag}
 use Rattle.logged_variables.specs.Variables.{variableOf}
 use Rattle.parameter_output.specs.Parameters.{parametersFrom, privateCount, openingVariables, openingClaims}
 use Rattle.headings.specs.Heading.{loggedHeading}
-use Rattle.heading_output.specs.Parts.{parameterPart, privateOf, variablePart, loggedKeys, keyPart, claimPart, partsWith, headingParts, HeadingFits}
+use Rattle.heading_output.specs.Parts.{parameterPart, privateOf, loggedKeys, keyPart, partsWith, headingParts, HeadingFits}
 
 regroup : (p tv ov pe tk kl tc oc cl tr : List ℕ)
     → p ++ tv ++ (ov ++ pe) ++ tk ++ kl ++ tc ++ (oc ++ cl) ++ tr ≡ p ++ ((tv ++ ov ++ pe) ++ ((tk ++ kl) ++ ((tc ++ oc ++ cl) ++ tr)))
@@ -30,15 +29,6 @@ heading-is file at made log claims root =
 module _ (held : List ℕ) (at : ℕ) (log : List ℕ) (fits : at + length (keyPart log) ≤ length held) where
   keys-behind : at + 2 + length (loggedKeys log) ≤ length held
   keys-behind = omega (arith, length-append (twoBytes (length (loggedKeys log))) (loggedKeys log))
-
-  pub keys-room : at + 2 + length (loggedKeys log) ≤ length held
-  keys-room = keys-behind
-
-  pub count-room : (between : List ℕ) (end : ℕ) → Appended held between (at + 2) (loggedKeys log) end → at + 2 ≤ length between
-  count-room between end a =
-      let n = keys-behind in
-      let l = ap length (a .contents) ∙ stored-length held (at + 2) (loggedKeys log) n in
-      omega arith
 
   pub keys-counted : (between after : List ℕ) (end count place : ℕ) → Appended held between (at + 2) (loggedKeys log) end → count ≡ end - (at + 2)
       → Appended between after at (twoBytes count) place → Appended held after at (keyPart log) end

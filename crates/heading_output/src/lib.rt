@@ -13,7 +13,6 @@ use parameter_output::count_private;
 ghost use mathlib.Core.Path.{_≡_};
 ghost use Prim.Native.Nat.{_+_, _≤_};
 ghost use lib.ListN.{length};
-ghost use Rattle.definitions.specs.ContractFile.{byteAt};
 ghost use Rattle.logged_variables.specs.PerEntry.{countTag};
 ghost use Rattle.append.specs.Append.{Appended};
 ghost use Rattle.heading_output.specs.Parts.{parameterPart, privateOf, variablePart, keyPart, claimPart, headingParts, HeadingFits};

@@ -1,17 +1,17 @@
 -- A written function's heading and its crossings are what the file's parameters and the log of its body's events tell.
 use mathlib.Core.Path.{_≡_, refl, ap, ap₂, sym, _∙_}
-use mathlib.Core.Bool.{Bool, true, false, cond}
+use mathlib.Core.Bool.{Bool}
 use mathlib.Core.List.{List, [], _∷_, _++_, map, append-assoc}
 use Prim.Native.Nat.{ℕ, zero, suc, _+_, _-_}
 use native.Mathlib.Omega.{arith}
 use lib.Dec.{leb}
 use lib.ListN.{length, length-append, length-map}
 use Rattle.definitions.specs.Basics.{countIf, flatMap}
-use Rattle.definitions.specs.Syntax.{Statement, Field, Parameter, Function, Scope}
+use Rattle.definitions.specs.Syntax.{Statement, Field, Parameter, Scope}
 use Rattle.definitions.specs.ContractFile.{parameterRecords, parameterOf}
 use Rattle.definitions.specs.Nodes.{Node}
-use Rattle.definitions.specs.Written.{Variable, origin, Claim, always, Constraint, WrittenFunction}
-use Rattle.definitions.specs.Rewriting.{Piece, Passage, heldUnder, privateParameters, openings, rewriteStatement, rewriteFunction}
+use Rattle.definitions.specs.Written.{Variable, origin, always, Constraint, WrittenFunction}
+use Rattle.definitions.specs.Rewriting.{heldUnder, privateParameters, openings, rewriteStatement, rewriteFunction}
 use Rattle.definitions.specs.WrittenFile.{sizes, functionTrees, variableBytes, keyOf, eachOnce, keysOf, constraintBytes, functionBytes}
 use Rattle.definitions.specs.Report.{crossings}
 use Rattle.events.specs.Events.{Event, variablesOf, constraintsOf, variableCount, statementEvents}

@@ -8,16 +8,15 @@ use lib.ListN.{length, replicate, length-append, length-map}
 use Rattle.definitions.specs.Basics.{isTrue}
 use Rattle.definitions.specs.Syntax.{Name, meName, Expression, Statement}
 use Rattle.definitions.specs.Written.{Variable, supplied, readFrom, guard, Guard, always, under}
-use Rattle.definitions.specs.Rewriting.{inBody, single, kept, onePart, inSequence, inBranch, inBranches, rewriteStatement, openings}
+use Rattle.definitions.specs.Rewriting.{inBody, single, kept, inSequence, inBranch, inBranches, rewriteStatement, openings}
 use Rattle.definitions.specs.Places.{readerOf}
-use Rattle.definitions.specs.Original.{value, placesAfter}
 use Rattle.definitions.specs.Ledger.{Content, plain, contentFor}
 use Rattle.definitions.specs.Calls.{honestContents, honestVariables}
-use Rattle.context.specs.Context.{fieldsIn, scopeIn}
+use Rattle.context.specs.Context.{scopeIn}
 use Rattle.events.specs.Events.{Events, variablesOf, bodyEvents, statementEvents}
 use Rattle.events.proofs.Pieces.{body-made}
 use Rattle.events.proofs.Statements.{statement-made}
-use Rattle.values.specs.Values.{valueOf, numbersAfter}
+use Rattle.values.specs.Values.{numbersAfter}
 use Rattle.values.proofs.Addresses.{value-is, numbers-are}
 use Rattle.supplies.specs.Supplies.{suppliedNumber}
 use Rattle.honest.specs.Honest.{Numbering, inOrder, branchNumbers, afterIf, numbersFor, isTaken, honestNumbers, contentFrom, contentsFrom}

@@ -3,8 +3,7 @@ use mathlib.Core.Path.{_≡_, refl, ap, ap₂, sym, _∙_}
 use mathlib.Core.Bool.{Bool, true, false, _&&_, cond, not}
 use mathlib.Core.List.{List, [], _∷_, _++_, map}
 use mathlib.Core.Option.{none}
-use Prim.Native.Nat.{ℕ, suc, _+_, _<_, _≤_}
-use native.Mathlib.Omega.{arith}
+use Prim.Native.Nat.{ℕ, suc, _+_}
 use lib.ListN.{length, set}
 use Rattle.definitions.specs.Basics.{isTrue}
 use Rattle.definitions.specs.Syntax.{Name, Expression, Statement, fieldAt}
@@ -15,10 +14,10 @@ use Rattle.definitions.specs.Original.{value, placesAfter}
 use Rattle.definitions.specs.Written.{Variable, supplied, readFrom, guard, always}
 use Rattle.buffer.specs.Buffer.{stored}
 use Rattle.context.specs.Context.{fieldsIn, scopeIn}
-use Rattle.events.specs.Events.{Event, Events, variablesOf, inTurn, placeEvents, bodyEvents, statementEvents}
+use Rattle.events.specs.Events.{Events, variablesOf, inTurn, placeEvents, bodyEvents, statementEvents}
 use Rattle.values.specs.Values.{valueOf, numbersAfter}
 use Rattle.supplies.specs.Supplies.{suppliedNumber, Room, Wrote}
-use Rattle.honest.specs.Honest.{Numbering, inOrder, branchNumbers, afterIf, numbersFor, isTaken, honestNumbers, branchesNumbers, nodeStatement, SimpleKind, Space, Put, Startable, Honest, BranchHonest, BranchesHonest}
+use Rattle.honest.specs.Honest.{Numbering, inOrder, branchNumbers, afterIf, numbersFor, isTaken, honestNumbers, branchesNumbers, SimpleKind, Space, Put, Honest, BranchHonest, BranchesHonest}
 use Rattle.honest.proofs.Putting.{put-same, space-same, put-nothing, put-order, put-branch, space-first, space-second, events-put, events-room}
 
 -- A node as it is read has the kind that its record in the file has.

@@ -1,24 +1,23 @@
 -- The judgement that code makes of each kind of expression is right if those of its parts are.
-use mathlib.Core.Path.{_≡_, refl, ap, sym, _∙_}
+use mathlib.Core.Path.{_≡_, refl, sym, _∙_}
 use mathlib.Core.Bool.{Bool, true, false, not, cond, _&&_, _||_}
 use mathlib.Core.List.{_++_}
-use mathlib.Core.Option.{Option, none, some}
-use Prim.Native.Nat.{ℕ, _+_, _<_, _≤_, min}
-use native.Mathlib.Omega.{arith}
-use borrow.Author.Tests.{eqb-true, eqb-false}
+use mathlib.Core.Option.{none, some}
+use Prim.Native.Nat.{ℕ, _+_}
+use borrow.Author.Tests.{eqb-true}
 use lib.Dec.{eqb, leb}
 use lib.ListN.{length}
-use Rattle.definitions.specs.Syntax.{DataType, address, Name, finalName, parameterName, Expression, constant, me, field, entry, parameter, Field, Parameter, Scope, fieldAt, parameterAt, dataTypeCode, shapeCode, isFinal, isMapping, isEveryone}
-use Rattle.definitions.specs.ContractFile.{ownerOfCode, fieldOwnerOfCode, dataTypeOf}
+use Rattle.definitions.specs.Syntax.{finalName, parameterName, Expression, constant, me, field, entry, parameter, Scope, fieldAt, parameterAt}
+use Rattle.definitions.specs.ContractFile.{ownerOfCode, dataTypeOf}
 use Rattle.definitions.specs.DataTypes.{typeOf}
-use Rattle.definitions.specs.Owners.{Links, ownerOf, nameOf, isReader, isPublicAddress, placeOwner, isPublic}
-use Rattle.definitions.specs.Numbers.{targetInTables, expressionFaults, entryFaults, fault, readFault, ownerFits, isTagged, isNone}
+use Rattle.definitions.specs.Owners.{Links, ownerOf, nameOf, placeOwner}
+use Rattle.definitions.specs.Numbers.{targetInTables, expressionFaults, entryFaults, fault, readFault}
 use Rattle.faults.specs.Faults.{leastFault}
 use Rattle.faults.proofs.Faults.{least-append, least-none, least-one, counted-8, counted-9, counted-10}
 use Rattle.links.specs.Names.{nameWith}
-use Rattle.codes.specs.Codes.{isFieldCode, placeCode}
+use Rattle.codes.specs.Codes.{placeCode}
 use Rattle.codes.proofs.Codes.{public-code, no-name, tagged-code, place-owner, place-listed, listed-final, listed-argument, name-final, name-argument, caller-listed, caller-code}
-use Rattle.judgements.specs.Judging.{JudgedAs, IsField, IsParameter, Present, Final, finalNameCode, constantJudged, meJudged, fieldJudged, entryFault, entryJudged, argumentName, parameterJudged, unreadFault}
+use Rattle.judgements.specs.Judging.{JudgedAs, IsField, IsParameter, Present, Final, constantJudged, meJudged, fieldJudged, entryFault, entryJudged, parameterJudged}
 use Rattle.judgements.specs.declared.Judged.{Judged}
 use Rattle.judgements.specs.declared.Declared.{Declared}
 use Rattle.judgements.specs.declared.Given.{Given}

@@ -1,10 +1,8 @@
 -- What the judgement of an expression says, and how it comes from those of its parts.
 use mathlib.Core.Path.{_≡_}
-use mathlib.Core.Bool.{Bool, true, false, not, cond, _&&_, _||_}
-use mathlib.Core.List.{List}
-use Prim.Native.Nat.{ℕ, _+_, _<_, _≤_, min}
+use mathlib.Core.Bool.{true, not, cond, _&&_, _||_}
+use Prim.Native.Nat.{ℕ, _+_, _<_, min}
 use lib.Dec.{eqb, leb}
-use lib.ListN.{length}
 use Rattle.definitions.specs.Syntax.{Expression, Field, Parameter, Scope, dataTypeCode, shapeCode}
 use Rattle.definitions.specs.ContractFile.{ownerOfCode, fieldOwnerOfCode, dataTypeOf}
 use Rattle.definitions.specs.DataTypes.{typeOf}

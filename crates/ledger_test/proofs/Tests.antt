@@ -2,13 +2,13 @@
 use mathlib.Core.Path.{_≡_, refl, ap, sym, _∙_}
 use mathlib.Core.Bool.{Bool, true, false, _&&_, _||_}
 use mathlib.Core.List.{List, [], _∷_, map}
-use Prim.Native.Nat.{ℕ, zero, suc, _+_, _<_, _≤_}
+use Prim.Native.Nat.{ℕ, zero, suc, _<_}
 use native.Mathlib.Omega.{arith}
-use borrow.Author.Tests.{eq-eqb, ne-eqb, lt-ltb, le-ltb, le-leb, lt-leb}
+use borrow.Author.Tests.{eq-eqb, ne-eqb}
 use lib.Dec.{eqb, leb, ltb}
-use lib.ListN.{length, take}
+use lib.ListN.{length}
 use Rattle.definitions.specs.Syntax.{Field, Function}
-use Rattle.definitions.specs.ContractFile.{functionCount, sectionsOf}
+use Rattle.definitions.specs.ContractFile.{functionCount}
 use Rattle.definitions.specs.Nodes.{contractOf}
 use Rattle.definitions.specs.Numbers.{checkNumber}
 use Rattle.definitions.specs.Rewriting.{rewriteFunction}
@@ -18,7 +18,7 @@ use Rattle.definitions.specs.Ledger.{plainNumber}
 use Rattle.definitions.specs.Calls.{fits, allFit, publicOf, parameterForm, lastFunction, plainPlaces, isBeforeCalls, isAfterDone, isAfterFailed, isAfterCall, isWellFormed}
 use Rattle.context.specs.Context.{fieldsIn, parametersIn, scopeIn}
 use Rattle.context.specs.Functions.{functionStart}
-use Rattle.context.proofs.Functions.{fields-in, functions-count, function-in}
+use Rattle.context.proofs.Functions.{functions-count, function-in}
 use Rattle.contents.specs.declared.Place.{Place}
 use Rattle.ledgers.specs.declared.Ledger.{Ledger}
 use Rattle.ledgers.specs.Ledgers.{contentsIn, ledgerOf}

@@ -2,10 +2,9 @@
 use contents::Content;
 use contents::Place;
 ghost use mathlib.Core.Path.{_≡_};
-ghost use mathlib.Core.List.{List, map};
-ghost use lib.ListN.{length, take};
-ghost use Prim.Native.Nat.{_+_, _*_, _/_, _<_, _≤_, min};
-ghost use Rattle.contents.specs.Contents.{contentOfCode, contentOfPlace, contentsOf};
+ghost use lib.ListN.{length};
+ghost use Prim.Native.Nat.{_*_, _/_, _<_, _≤_, min};
+ghost use Rattle.contents.specs.Contents.{contentsOf};
 ghost use Rattle.ledgers.specs.Ledgers.{ledgerOf, contentsIn, withCall, withParameters, withVariables, withPlaces};
 
 pub struct Ledger {

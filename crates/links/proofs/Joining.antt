@@ -1,12 +1,11 @@
 -- What classes stand for: at the start, in a test, and after two of them are joined.
 use mathlib.Core.Path.{_≡_, refl, ap, sym, _∙_, fun-ext}
-use mathlib.Core.Bool.{Bool, true, false, cond, _&&_, _||_, true≢false, false≢true}
+use mathlib.Core.Bool.{Bool, true, false, cond, _&&_, _||_, true≢false}
 use mathlib.Core.List.{List}
-use mathlib.Core.Option.{Option, none, some}
-use Prim.Native.Nat.{ℕ, zero, suc, _+_, _-_, _≤_, _<_}
+use Prim.Native.Nat.{ℕ, _+_, _≤_, _<_}
 use native.Mathlib.Omega.{arith}
-use borrow.Author.Tests.{ltb-true, eqb-true, eqb-false, eq-eqb, ne-eqb, lt-ltb}
-use lib.Dec.{eqb, leb, ltb}
+use borrow.Author.Tests.{ltb-true, eqb-true, eqb-false, eq-eqb, ne-eqb}
+use lib.Dec.{eqb, ltb}
 use lib.ListN.{length, getD, set, length-set}
 use lib.Seq.{getD-set-same, getD-set-other}
 use Rattle.definitions.specs.Syntax.{Name, meName, finalName, parameterName, sameName}
@@ -96,9 +95,6 @@ exchanged-equal p q a b = go (eqb a p) refl (eqb b p) refl
     or-false : (x : Bool) → x ≡ (x || false)
     or-false true = refl
     or-false false = refl
-
-    or-self : (x : Bool) → x ≡ (false || x || false)
-    or-self x = or-false x
 
     go : (s : Bool) → eqb a p ≡ s → (t : Bool) → eqb b p ≡ t
         → eqb (cond s q a) (cond t q b) ≡ (eqb a b || (s && eqb q b) || (eqb a q && eqb p b))

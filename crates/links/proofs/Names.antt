@@ -1,15 +1,14 @@
 -- Owner codes that are in the tables, and the names that they give.
-use mathlib.Core.Path.{_≡_, refl, ap, sym, _∙_}
-use mathlib.Core.Bool.{Bool, true, false, cond, _&&_, _||_, true≢false, false≢true}
-use mathlib.Core.Option.{Option, none, some}
+use mathlib.Core.Path.{_≡_, refl}
+use mathlib.Core.Bool.{Bool, true, false, cond, _&&_, _||_, false≢true}
 use Prim.Native.Nat.{ℕ, zero, suc, _+_, _-_, _≤_, _<_}
 use native.Mathlib.Omega.{arith}
-use borrow.Author.Tests.{ltb-true, ltb-false, leb-true, eqb-true, eqb-false, lt-ltb, le-ltb, le-leb, lt-leb, eq-eqb, ne-eqb}
+use borrow.Author.Tests.{ltb-true, leb-true, lt-ltb, le-ltb, le-leb, ne-eqb}
 use lib.Dec.{eqb, leb, ltb}
-use Rattle.definitions.specs.Syntax.{Name, meName, finalName, parameterName, sameName, Owner, everyone, ownedBy}
+use Rattle.definitions.specs.Syntax.{Name, meName, finalName, parameterName, everyone, ownedBy}
 use Rattle.definitions.specs.ContractFile.{isFinalCode, isParameterCode, ownerOfCode}
 use Rattle.definitions.specs.Numbers.{targetInTables}
-use Rattle.links.specs.Names.{nameOfCode, nameWith, codeOfName, known}
+use Rattle.links.specs.Names.{nameOfCode, codeOfName, known}
 
 pub data Listed (code : ℕ) : Type 0 where
   nobody : code ≡ 0 → Listed code

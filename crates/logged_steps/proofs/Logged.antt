@@ -1,19 +1,17 @@
 -- The steps that a log of events holds are those of the events.
-use mathlib.Core.Path.{_≡_, refl, ap, ap₂, sym, _∙_}
-use mathlib.Core.Bool.{Bool, true, false, cond}
-use mathlib.Core.List.{List, [], _∷_, _++_}
-use Prim.Native.Nat.{ℕ, zero, suc, _+_, _*_, _<_, _≤_}
-use native.Mathlib.Omega.{arith}
+use mathlib.Core.Path.{_≡_, refl, ap, _∙_}
+use mathlib.Core.Bool.{false}
+use mathlib.Core.List.{List, _∷_}
+use Prim.Native.Nat.{ℕ, suc, _+_}
 use lib.Dec.{eqb}
-use lib.ListN.{length, getD, length-append}
+use lib.ListN.{length, getD}
 use Rattle.definitions.specs.Syntax.{Scope}
-use Rattle.definitions.specs.ContractFile.{nodeCount}
 use Rattle.definitions.specs.Nodes.{Node}
 use Rattle.definitions.specs.Rewriting.{Step, inBody}
 use Rattle.trees.specs.Trees.{expressionIn}
-use Rattle.events.specs.Events.{Event, suppliedEvent, claimedEvent, readEvent, guardEvent, stepsOf}
-use Rattle.entries.specs.Entries.{five, IsEntry, suppliedEntry, claimedEntry, readEntry, guardEntry, Entries, noEntry, entryThen}
-use Rattle.step_output.specs.Steps.{stepAt, loggedSteps}
+use Rattle.events.specs.Events.{Event, stepsOf}
+use Rattle.entries.specs.Entries.{suppliedEntry, claimedEntry, readEntry, guardEntry, Entries, noEntry, entryThen}
+use Rattle.step_output.specs.Steps.{loggedSteps}
 use Rattle.logged_steps.specs.Held.{Holds}
 use Rattle.logged_steps.proofs.Held.{holds-tag, holds-variable, holds-node, holds-last, holds-rest}
 

@@ -1,6 +1,6 @@
 -- A log of events whose reads are few can be read for its steps.
 use mathlib.Core.Path.{_≡_, refl, ap, sym, _∙_}
-use mathlib.Core.List.{List, [], _∷_, _++_}
+use mathlib.Core.List.{List, _++_}
 use Prim.Native.Nat.{ℕ, zero, suc, _+_, _*_, _<_, _≤_}
 use native.Mathlib.Omega.{arith}
 use lib.ListN.{length, getD, length-append}
@@ -9,11 +9,11 @@ use Rattle.definitions.specs.Nodes.{Node}
 use Rattle.trees.specs.Trees.{expressionIn}
 use Rattle.context.specs.Context.{nodesIn, scopeIn}
 use Rattle.variable_counts.specs.Counts.{bodyCount}
-use Rattle.events.specs.Events.{Event, suppliedEvent, claimedEvent, readEvent, guardEvent}
-use Rattle.entries.specs.Entries.{five, IsEntry, suppliedEntry, claimedEntry, readEntry, guardEntry, Entries, noEntry, entryThen}
+use Rattle.events.specs.Events.{Event}
+use Rattle.entries.specs.Entries.{suppliedEntry, claimedEntry, readEntry, guardEntry, Entries, noEntry, entryThen}
 use Rattle.step_output.specs.Steps.{Readable}
 use Rattle.logged_steps.specs.Held.{Holds, ReadsWithin}
-use Rattle.logged_steps.proofs.Held.{holds-tag, holds-variable, holds-node, holds-last, holds-rest}
+use Rattle.logged_steps.proofs.Held.{holds-tag, holds-node, holds-last, holds-rest}
 
 pub entries-length : (nodes : List Node) (events : List Event) (numbers : List ℕ) → Entries nodes events numbers → length numbers ≡ 5 * length events
 entries-length nodes _ _ noEntry = refl

@@ -1,5 +1,5 @@
 -- The variables of what a statement's events read are among the statement's own.
-use mathlib.Core.Path.{_≡_, refl, ap, ap₂, sym, _∙_}
+use mathlib.Core.Path.{_≡_, refl, ap, ap₂, _∙_}
 use mathlib.Core.Bool.{Bool, true, false, _&&_, cond}
 use mathlib.Core.List.{List, [], _∷_, _++_}
 use mathlib.Core.Option.{none}
@@ -7,7 +7,7 @@ use Prim.Native.Nat.{ℕ, suc, _+_, _≤_}
 use native.Mathlib.Omega.{arith}
 use lib.ListN.{length, length-append}
 use Rattle.definitions.specs.Syntax.{meName, Owner, everyone, ownedBy, Operator, Expression, Statement, Scope, fieldAt, isDivision}
-use Rattle.definitions.specs.Owners.{nameOf, ownerOf, placeOwner, isPublic}
+use Rattle.definitions.specs.Owners.{nameOf, placeOwner, isPublic}
 use Rattle.definitions.specs.Written.{Guard, under}
 use Rattle.context.proofs.Nodes.{both-left}
 use Rattle.variable_counts.specs.Counts.{bodyCount}

@@ -1,8 +1,8 @@
 -- What a log of events tells of a function's variables is what the definitions tell.
-use mathlib.Core.Path.{_≡_, refl, ap, ap₂, sym, _∙_}
-use mathlib.Core.Bool.{Bool, true, false, cond}
+use mathlib.Core.Path.{_≡_, refl, ap, ap₂, _∙_}
+use mathlib.Core.Bool.{Bool, false, cond}
 use mathlib.Core.List.{List, [], _∷_, _++_}
-use Prim.Native.Nat.{ℕ, zero, suc, _+_, _%_, _<_}
+use Prim.Native.Nat.{ℕ, suc, _+_, _%_, _<_}
 use native.Mathlib.Nat.{mod-eq-of-lt}
 use native.Mathlib.Omega.{arith}
 use borrow.Author.Tests.{ne-eqb}
@@ -12,12 +12,12 @@ use Rattle.definitions.specs.Basics.{countIf, flatMap}
 use Rattle.definitions.specs.Syntax.{Name, meName, finalName, parameterName, Owner, everyone, ownedBy, Expression, Scope}
 use Rattle.definitions.specs.ContractFile.{ownerCode}
 use Rattle.definitions.specs.Nodes.{Node}
-use Rattle.definitions.specs.Written.{Variable, supplied, readFrom, guard, origin}
+use Rattle.definitions.specs.Written.{supplied, readFrom, origin}
 use Rattle.definitions.specs.WrittenFile.{variableBytes, keyOf}
 use Rattle.trees.specs.Trees.{expressionIn}
-use Rattle.events.specs.Events.{Event, suppliedEvent, claimedEvent, readEvent, guardEvent, variablesOf, constraintsOf}
-use Rattle.entries.specs.Entries.{five, IsEntry, suppliedEntry, claimedEntry, readEntry, guardEntry, Entries, noEntry, entryThen}
-use Rattle.logged_variables.specs.PerEntry.{perEntry, ofTag, countTag}
+use Rattle.events.specs.Events.{Event, variablesOf, constraintsOf}
+use Rattle.entries.specs.Entries.{suppliedEntry, claimedEntry, readEntry, guardEntry, Entries, noEntry, entryThen}
+use Rattle.logged_variables.specs.PerEntry.{perEntry, countTag}
 use Rattle.logged_variables.specs.Variables.{originOf, variableOf, keyCode, ownersFit}
 
 name-code : (n : Name) → eqb (ownerCode (ownedBy n)) 0 ≡ false

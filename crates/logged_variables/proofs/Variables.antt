@@ -1,15 +1,13 @@
 -- The ways out of the tests on one entry.
-use mathlib.Core.Path.{_≡_, refl, ap, sym, _∙_}
-use mathlib.Core.Bool.{Bool, true, false, _||_, cond, true≢false}
-use mathlib.Core.List.{List, [], _∷_, _++_}
-use Prim.Native.Nat.{ℕ, zero, suc, _+_, _%_, _<_, _≤_}
+use mathlib.Core.Path.{_≡_, ap}
+use mathlib.Core.List.{List, [], _∷_}
+use Prim.Native.Nat.{ℕ, _+_, _%_, _≤_}
 use native.Mathlib.Omega.{arith}
 use borrow.Author.Tests.{eq-eqb, ne-eqb}
-use lib.Dec.{eqb}
-use lib.ListN.{length, length-append}
+use lib.ListN.{length}
 use Rattle.append.specs.Append.{Appended}
-use Rattle.append.proofs.Laws.{appended-nothing, appended-length, appended-then}
-use Rattle.logged_variables.specs.PerEntry.{FromEntry, perEntry, ofTag, countTag}
+use Rattle.append.proofs.Laws.{appended-nothing, appended-then}
+use Rattle.logged_variables.specs.PerEntry.{ofTag}
 use Rattle.logged_variables.specs.Variables.{originOf, variableOf}
 
 pub same-one : (a b : ℕ) → a ≡ b → 1 ≡ length (ofTag b a 0 0 0 0)

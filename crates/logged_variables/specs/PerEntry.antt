@@ -1,5 +1,5 @@
 -- What is made of each entry of a log, one entry after another: tag, variable, owner code, node, last.
-use mathlib.Core.Bool.{Bool, cond}
+use mathlib.Core.Bool.{cond}
 use mathlib.Core.List.{List, [], _∷_, _++_}
 use Prim.Native.Nat.{ℕ}
 use lib.Dec.{eqb}

@@ -1,15 +1,14 @@
 -- 01, Rewriting: the bytes of a function's variables and the owner codes needing keys, from its log.
 use mathlib.Core.Path.{_≡_}
-use mathlib.Core.Bool.{Bool, true, false, _||_, cond}
+use mathlib.Core.Bool.{Bool, _||_, cond}
 use mathlib.Core.List.{List, [], _∷_, _++_}
 use Prim.Native.Nat.{ℕ, _%_, _<_}
 use lib.Dec.{eqb}
 use lib.ListN.{getD}
-use Rattle.definitions.specs.Syntax.{Owner}
 use Rattle.definitions.specs.ContractFile.{ownerCode}
 use Rattle.append.specs.Append.{Appended}
 use Rattle.events.specs.Events.{Event, suppliedEvent, claimedEvent, readEvent, guardEvent}
-use Rattle.logged_variables.specs.PerEntry.{FromEntry, perEntry}
+use Rattle.logged_variables.specs.PerEntry.{FromEntry}
 
 -- "Origins: 0 supplied plain, 1 supplied cell, 2 read plain, 3 read cell, 4 guard."
 unfoldable pub originOf : ℕ → ℕ → ℕ

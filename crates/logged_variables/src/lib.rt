@@ -1,7 +1,7 @@
 // 01, Rewriting: a function's variables and keys, written from its log.
 use append::append_byte;
 ghost use mathlib.Core.Path.{_≡_};
-ghost use mathlib.Core.List.{[], _∷_, _++_};
+ghost use mathlib.Core.List.{[], _∷_};
 ghost use Prim.Native.Nat.{_+_, _≤_};
 ghost use lib.ListN.{length};
 ghost use Rattle.append.specs.Append.{Appended};

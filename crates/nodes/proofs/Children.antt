@@ -5,7 +5,7 @@ use mathlib.Core.List.{List, [], _∷_}
 use Prim.Native.Nat.{ℕ, _<_, _≤_}
 use native.Mathlib.Omega.{arith}
 use lib.Dec.{eqb, leb, ltb}
-use lib.ListN.{getD, take, drop}
+use lib.ListN.{getD, take}
 use borrow.Author.Tests.{eqb-true, ne-eqb, lt-leb, le-leb, ltb-true, ltb-false}
 use Rattle.definitions.specs.ContractFile.{NodeRecord}
 use Rattle.definitions.specs.Nodes.{Kind, constantKind, meKind, fieldKind, entryKind, parameterKind, operatorKind, negationKind, revealKind, skipKind, sequenceKind, assignFieldKind, assignEntryKind, requireKind, conditionalKind, noKind, kindOf, nodeOfKind, nodeOf, expressionParts, statementParts, children, isExpression, isStatement}
@@ -77,33 +77,6 @@ children-of-kind noKind r = refl
 pub children-are : (r : NodeRecord) → children (nodeOf r) ≡ take (childCount (r .kind)) (parts r)
 unfolding childCount
 children-are r = children-of-kind (kindOf (r .kind)) r
-
--- The first of these are due to be expressions, the others to be statements.
-sorts-of-kind : (k : Kind) (r : NodeRecord)
-    → (expressionParts (nodeOfKind k r) ≡ take (expressionsOfKind k) (parts r))
-    × (statementParts (nodeOfKind k r) ≡ drop (expressionsOfKind k) (take (childrenOfKind k) (parts r)))
-unfolding nodeOfKind expressionParts statementParts
-sorts-of-kind constantKind r = (refl, refl)
-sorts-of-kind meKind r = (refl, refl)
-sorts-of-kind fieldKind r = (refl, refl)
-sorts-of-kind entryKind r = (refl, refl)
-sorts-of-kind parameterKind r = (refl, refl)
-sorts-of-kind operatorKind r = (refl, refl)
-sorts-of-kind negationKind r = (refl, refl)
-sorts-of-kind revealKind r = (refl, refl)
-sorts-of-kind skipKind r = (refl, refl)
-sorts-of-kind sequenceKind r = (refl, refl)
-sorts-of-kind assignFieldKind r = (refl, refl)
-sorts-of-kind assignEntryKind r = (refl, refl)
-sorts-of-kind requireKind r = (refl, refl)
-sorts-of-kind conditionalKind r = (refl, refl)
-sorts-of-kind noKind r = (refl, refl)
-
-pub sorts-are : (r : NodeRecord)
-    → (expressionParts (nodeOf r) ≡ take (expressionCount (r .kind)) (parts r))
-    × (statementParts (nodeOf r) ≡ drop (expressionCount (r .kind)) (take (childCount (r .kind)) (parts r)))
-unfolding childCount expressionCount
-sorts-are r = sorts-of-kind (kindOf (r .kind)) r
 
 -- The sort of a node, by its kind's number.
 abbrev expressionSort : Kind → Bool

@@ -1,20 +1,19 @@
 -- The judgement that code makes of an operator, not or reveal is right if those of its operands are.
-use mathlib.Core.Path.{_≡_, refl, ap, sym, _∙_}
-use mathlib.Core.Bool.{Bool, true, false, not, cond, _&&_, _||_}
-use Prim.Native.Nat.{ℕ, min}
+use mathlib.Core.Path.{_≡_, refl}
+use mathlib.Core.Bool.{Bool, true, not, _&&_, _||_}
+use Prim.Native.Nat.{ℕ}
 use lib.Dec.{eqb}
-use Rattle.definitions.specs.Syntax.{Expression, operator, negation, reveal, Scope, dataTypeCode, isDivision, isEveryone}
+use Rattle.definitions.specs.Syntax.{Expression, operator, negation, reveal, Scope, isDivision}
 use Rattle.definitions.specs.ContractFile.{ownerOfCode, operatorOf}
-use Rattle.definitions.specs.DataTypes.{typeOf, operandsFit}
-use Rattle.definitions.specs.Owners.{Links, ownerOf, nameOf, isReader, isPublic}
-use Rattle.definitions.specs.Numbers.{targetInTables, expressionFaults, fault, readFault, ownerFits}
-use Rattle.faults.specs.Faults.{leastFault}
+use Rattle.definitions.specs.DataTypes.{typeOf}
+use Rattle.definitions.specs.Owners.{Links, ownerOf, nameOf}
+use Rattle.definitions.specs.Numbers.{targetInTables, expressionFaults, fault, ownerFits}
 use Rattle.faults.proofs.Faults.{least-append, least-one, counted-8, counted-9, counted-12, counted-13}
-use Rattle.codes.specs.Codes.{fitCodes, partsCode}
+use Rattle.codes.specs.Codes.{fitCodes}
 use Rattle.codes.proofs.Codes.{fit-codes, public-code, parts-code, parts-listed}
 use Rattle.judgements.specs.Judging.{JudgedAs}
 use Rattle.judgements.specs.declared.Judged.{Judged}
-use Rattle.operators.specs.Operating.{operatorFault, operatorJudged, negationJudged, revealJudged}
+use Rattle.operators.specs.Operating.{operatorJudged, negationJudged, revealJudged}
 
 module _ (scope : Scope) (linked : Links) where
   pub operator-is : (code : ℕ) (e f : Expression) (left right : Judged) → JudgedAs scope linked e left → JudgedAs scope linked f right

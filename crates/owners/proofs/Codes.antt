@@ -1,11 +1,11 @@
 -- The codes of owners are those of the tables, and follow from the codes of the parts.
 use mathlib.Core.Path.{_≡_, refl, ap, sym, _∙_}
-use mathlib.Core.Bool.{Bool, true, false, _&&_, _||_, cond, not}
+use mathlib.Core.Bool.{Bool, true, false, _&&_, _||_, cond}
 use mathlib.Core.Option.{Option, none, some}
 use Prim.Native.Nat.{ℕ, _+_, _-_, _≤_, _<_}
 use native.Mathlib.Omega.{arith}
-use borrow.Author.Tests.{eqb-true, eqb-false, leb-true, ltb-true, ne-eqb}
-use lib.Dec.{eqb, leb, ltb}
+use borrow.Author.Tests.{eqb-true, eqb-false, leb-true, ne-eqb}
+use lib.Dec.{eqb, leb}
 use Rattle.definitions.specs.Basics.{isZero}
 use Rattle.definitions.specs.Syntax.{Name, meName, finalName, parameterName, Owner, everyone, ownedBy, FieldOwner, toEveryone, toKey, toFinal, isEveryone}
 use Rattle.definitions.specs.ContractFile.{FieldRecord, isFinalCode, isParameterCode, ownerOfCode, fieldOwnerOfCode, ownerCode, fieldOwnerCode}

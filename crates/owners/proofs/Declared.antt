@@ -1,16 +1,16 @@
 -- The codes of declared fields and parameters, by the bytes at their places.
-use mathlib.Core.Path.{_≡_, refl, ap, sym, _∙_}
-use mathlib.Core.Bool.{Bool, true, false, _&&_, cond, not}
+use mathlib.Core.Path.{_≡_, refl, sym}
+use mathlib.Core.Bool.{Bool, true, false, _&&_, cond}
 use mathlib.Core.List.{List}
 use mathlib.Core.Option.{none, some}
 use Prim.Native.Nat.{ℕ, _+_, _*_, _<_, _≤_}
 use native.Mathlib.Omega.{arith}
 use borrow.Author.Tests.{ne-eqb, eq-eqb}
 use lib.Dec.{eqb}
-use Rattle.definitions.specs.Syntax.{DataType, boolean, uint, address, Shape, plainField, finalField, mapping, finalName, parameterName, fieldAt, parameterAt, isFinal, sameType}
+use Rattle.definitions.specs.Syntax.{boolean, uint, address, plainField, mapping, finalName, parameterName, fieldAt, parameterAt, isFinal, sameType}
 use Rattle.definitions.specs.ContractFile.{byteAt, fieldCount, dataTypeOf, shapeOf, fieldOf, parameterOf, ownerCode, fieldOwnerCode}
 use Rattle.definitions.specs.Owners.{isPublicAddress, parameterOwner}
-use Rattle.context.specs.Context.{fieldsIn, parametersIn, fieldRecordAt, parameterRecordAt}
+use Rattle.context.specs.Context.{fieldsIn, parametersIn, fieldRecordAt}
 use Rattle.context.proofs.Declarations.{field-declared, field-missing, parameter-declared, parameter-missing}
 use Rattle.owners.specs.Codes.{nameCode, FieldsListed}
 use Rattle.owners.proofs.Codes.{field-listed}

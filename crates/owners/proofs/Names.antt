@@ -1,6 +1,6 @@
 -- The name and the owner code of an expression, by its kind, from the codes of its parts.
-use mathlib.Core.Path.{_≡_, refl, ap, sym, _∙_}
-use mathlib.Core.Bool.{Bool, true, cond}
+use mathlib.Core.Path.{_≡_, ap, sym, _∙_}
+use mathlib.Core.Bool.{true, cond}
 use mathlib.Core.Option.{none, some}
 use Prim.Native.Nat.{ℕ}
 use Rattle.definitions.specs.Syntax.{DataType, Owner, everyone, Operator, Expression, Scope, fieldAt, parameterAt, isFinal, finalName, parameterName}

@@ -1,11 +1,11 @@
 -- Owners, names and places as the codes that a file and the code use for them.
 use mathlib.Core.Path.{_≡_}
-use mathlib.Core.Bool.{Bool, true, cond}
+use mathlib.Core.Bool.{true, cond}
 use mathlib.Core.List.{List}
 use mathlib.Core.Option.{Option, none, some}
 use Prim.Native.Nat.{ℕ, _<_}
 use lib.Dec.{eqb}
-use Rattle.definitions.specs.Syntax.{Name, Owner, ownedBy}
+use Rattle.definitions.specs.Syntax.{Name, ownedBy}
 use Rattle.definitions.specs.ContractFile.{fieldCount, ownerCode}
 use Rattle.definitions.specs.Numbers.{fieldInTables}
 use Rattle.context.specs.Context.{fieldRecordAt}

@@ -1,10 +1,10 @@
 -- What opening the private parameters makes, variable by variable, and that the definitions make the same.
 use mathlib.Core.Path.{_≡_, refl, ap, sym, _∙_}
 use mathlib.Core.List.{List, [], _∷_, _++_}
-use Prim.Native.Nat.{ℕ, zero, suc, _+_, _-_, _<_, _≤_}
+use Prim.Native.Nat.{ℕ, suc, _+_, _-_, _<_, _≤_}
 use native.Mathlib.Numerals.{add-one}
 use native.Mathlib.Omega.{arith}
-use lib.ListN.{length, length-append}
+use lib.ListN.{length}
 use Rattle.definitions.specs.Basics.{flatMap, twoBytes}
 use Rattle.definitions.specs.Written.{always, Constraint}
 use Rattle.definitions.specs.Rewriting.{openings, heldUnder}

@@ -11,7 +11,7 @@ use lib.Seq.{drop-cons, drop-drop}
 use Rattle.definitions.specs.Syntax.{DataType, Field, fieldAt}
 use Rattle.definitions.specs.ContractFile.{dataTypeOf}
 use Rattle.definitions.specs.Places as places
-use Rattle.definitions.specs.Places.{numbersFrom, placeCount, perPlace, placeReader, placeReaders, finalAddress}
+use Rattle.definitions.specs.Places.{numbersFrom, placeCount, perPlace, placeReader, finalAddress}
 use Rattle.definitions.specs.Ledger.{Content}
 use Rattle.definitions.specs.Calls.{Form, fits, allFit}
 use Rattle.contents.specs.Contents.{contentsOf}

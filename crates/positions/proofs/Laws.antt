@@ -6,14 +6,13 @@ use Prim.Native.Nat.{ℕ, zero, suc, _+_, _*_, _-_, _<_, _≤_}
 use native.Mathlib.Numerals.{add-one}
 use native.Mathlib.Omega.{arith}
 use borrow.Author.Tests.{ne-eqb}
-use lib.Dec.{eqb}
-use lib.ListN.{length, getD, drop, length-map, drop-of-length-le}
+use lib.ListN.{length, drop, length-map, drop-of-length-le}
 use lib.Seq.{drop-cons}
-use Rattle.definitions.specs.Syntax.{Field, fieldAt, plainField, boolean, toEveryone, isMapping}
+use Rattle.definitions.specs.Syntax.{Field, fieldAt, isMapping}
 use Rattle.definitions.specs.ContractFile.{byteAt, fieldCount, fieldRecords, fieldOf, shapeOf}
 use Rattle.definitions.specs.Places.{placeCount, position}
 use Rattle.file.proofs.Sections.{fields-are}
-use Rattle.context.specs.Context.{fieldsIn, fieldRecordAt}
+use Rattle.context.specs.Context.{fieldsIn}
 use Rattle.context.proofs.Declarations.{field-declared}
 
 position-more : (fields : List Field) (f key more : ℕ) → position fields f (key + more) ≡ more + position fields f key

@@ -1,19 +1,17 @@
 -- A type by its code, a field's owner by its byte, and what a form asks by its two parts.
 use mathlib.Core.Path.{_≡_, refl, ap, sym, _∙_}
-use mathlib.Core.Bool.{Bool, true, false, _&&_, cond}
+use mathlib.Core.Bool.{Bool, true, false, _&&_}
 use mathlib.Core.List.{List}
-use Prim.Native.Nat.{ℕ, _+_, _*_, _-_, _<_, _≤_}
-use native.Mathlib.Omega.{arith}
+use Prim.Native.Nat.{ℕ, _+_, _*_, _-_, _<_}
 use borrow.Author.Tests.{eq-eqb, ne-eqb, lt-ltb}
-use lib.Dec.{eqb, ltb}
-use lib.ListN.{getD}
-use Rattle.definitions.specs.Syntax.{DataType, Field, FieldOwner, fieldAt}
+use lib.Dec.{ltb}
+use Rattle.definitions.specs.Syntax.{DataType, Field, fieldAt}
 use Rattle.definitions.specs.DataTypes.{isOfType}
 use Rattle.definitions.specs.ContractFile.{byteAt, fieldCount, fieldOf, dataTypeOf, fieldOwnerOfCode}
-use Rattle.definitions.specs.Places.{anyone, only, placeReader, position, finalAddress}
+use Rattle.definitions.specs.Places.{anyone, only, placeReader}
 use Rattle.definitions.specs.Ledger as ledger
 use Rattle.definitions.specs.Calls.{Form, fits}
-use Rattle.context.specs.Context.{fieldsIn, fieldRecordAt}
+use Rattle.context.specs.Context.{fieldsIn}
 use Rattle.context.proofs.Declarations.{field-declared}
 use Rattle.readers.specs.Readers.{isContent}
 

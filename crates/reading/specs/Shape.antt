@@ -1,6 +1,4 @@
 -- 01, Numbers: the sentences 1 to 7, which are told of a file's sections.
-use mathlib.Core.Path.{_≡_}
-use mathlib.Core.Bool.{false}
 use mathlib.Core.List.{List, [], _∷_}
 use Prim.Native.Nat.{ℕ}
 use Rattle.definitions.specs.Basics.{firstThatHolds}

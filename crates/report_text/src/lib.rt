@@ -3,7 +3,6 @@ use append::append;
 use append::append_byte;
 use tallies::count_of;
 use tallies::sort_functions;
-ghost use mathlib.Core.Path.{_≡_};
 ghost use mathlib.Core.List.{[], _∷_, _++_};
 ghost use Prim.Native.Nat.{_+_, _<_, _≤_};
 ghost use lib.ListN.{length};

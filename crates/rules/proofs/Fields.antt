@@ -1,7 +1,7 @@
 -- Faults of a list's elements one after another, and of a field's own owner code.
 use mathlib.Core.Path.{_≡_, refl, ap, sym, _∙_}
 use mathlib.Core.Bool.{Bool, true, false, not, cond}
-use mathlib.Core.List.{List, [], _∷_, _++_, map}
+use mathlib.Core.List.{List, [], _∷_, _++_}
 use Prim.Native.Nat.{ℕ, suc, _+_, _-_, _<_, _≤_, min}
 use native.Mathlib.Omega.{arith}
 use native.Mathlib.Numerals.{add-one}
@@ -9,9 +9,9 @@ use lib.Dec.{eqb}
 use lib.ListN.{length, getD, drop, length-map, drop-of-length-le}
 use lib.Seq.{drop-cons}
 use Rattle.definitions.specs.Basics.{flatMap}
-use Rattle.definitions.specs.Syntax.{Field, fieldAt, isFinal, shapeCode, plainField, boolean, toEveryone, toFinal}
+use Rattle.definitions.specs.Syntax.{toFinal}
 use Rattle.definitions.specs.ContractFile.{sectionsOf, fieldOf, fieldCount, fieldOwnerOfCode}
-use Rattle.definitions.specs.Numbers.{fault, fieldFaults, fieldOfDeclaredOwner}
+use Rattle.definitions.specs.Numbers.{fault, fieldOfDeclaredOwner}
 use Rattle.faults.specs.Faults.{leastFault}
 use Rattle.faults.proofs.Faults.{least-append, least-none, least-bounded, counted-8}
 use Rattle.links.proofs.Names.{above-eqb}
@@ -54,9 +54,6 @@ module _ (file : List ℕ) (f : ℕ) (d : Declared) (at : FieldAt file f d) wher
   one-fault : (b : Bool) → leastFault (fault b 8 ++ []) ≡ cond b 8 16
   one-fault true = counted-8
   one-fault false = least-none
-
-  named-fault : ℕ → List ℕ
-  named-fault g = fault (not (isFinal ((fieldAt (fieldsOf file) g) .shape))) 8
 
   pub owner-unnamed : d .owner < 16 → 16 ≡ ownerFault file f
   unfolding flatMap

@@ -1,14 +1,14 @@
 -- The functions of a file one after another.
 use mathlib.Core.Path.{_≡_, refl, ap, sym, _∙_}
-use mathlib.Core.Bool.{Bool, true, false, _||_}
-use mathlib.Core.List.{List, [], _∷_, _++_, map}
+use mathlib.Core.Bool.{Bool, false, _||_}
+use mathlib.Core.List.{List, [], _∷_, map}
 use Prim.Native.Nat.{ℕ, zero, suc, _+_, _*_, _-_, _<_, _≤_, min}
 use native.Mathlib.Omega.{arith}
 use borrow.Author.Tests.{ltb-false, leb-false, ne-eqb}
-use lib.Dec.{eqb, leb, ltb}
+use lib.Dec.{leb, ltb}
 use lib.ListN.{length}
 use Rattle.definitions.specs.Basics.{any, flatMap, isZero}
-use Rattle.definitions.specs.ContractFile.{FunctionRecord, byteAt, twoBytesAt, sectionsOf, functionEnd, functionRecord, functionRecords, functionCount, functionsAt, fieldCount, nodeCount, nodesAt, fieldOf}
+use Rattle.definitions.specs.ContractFile.{byteAt, twoBytesAt, sectionsOf, functionEnd, functionRecord, functionRecords, functionCount, fieldCount, nodeCount, nodesAt, fieldOf}
 use Rattle.definitions.specs.Nodes.{functionOf, contractOf}
 use Rattle.definitions.specs.Owners.{noLinks}
 use Rattle.definitions.specs.Numbers.{functionFaults, fieldFaults, statementFaults, countOffLimits, namesNothing, contractFaults, contractSentences, fieldOfDeclaredOwner}
@@ -23,7 +23,6 @@ use Rattle.links.specs.Names.{linkedBy}
 use Rattle.file.specs.Settled.{Settled}
 use Rattle.scopes.specs.Trees.{nodesOf, statementOn}
 use Rattle.scopes.specs.Scopes.{scopeAt}
-use Rattle.scopes.specs.declared.Parameters.{Parameters}
 use Rattle.scopes.proofs.Lists.{or-left, or-right}
 use Rattle.rules.specs.Sections.{fieldsOf, allFieldsFault, allFunctionsFault, functionFault, FunctionReady}
 use Rattle.rules.proofs.Fields.{flat-cons, flat-none, fault-start}

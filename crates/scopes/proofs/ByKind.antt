@@ -1,24 +1,22 @@
 -- The tree of a node by its kind, and that the numbers of its parts are below its own.
 use mathlib.Core.Path.{_≡_, refl, ap, sym, _∙_}
 use mathlib.Core.Bool.{Bool, true, false, cond}
-use mathlib.Core.List.{List, [], _∷_, _++_, map}
-use Prim.Native.Nat.{ℕ, zero, suc, _+_, _*_, _<_, _≤_}
-use native.Mathlib.Omega.{arith}
+use mathlib.Core.List.{List, [], _∷_}
+use Prim.Native.Nat.{ℕ, _+_, _*_, _<_}
 use borrow.Author.Tests.{ne-eqb}
 use lib.Dec.{eqb, leb}
 use lib.ListN.{length, getD}
 use Rattle.definitions.specs.Basics.{any}
-use Rattle.definitions.specs.Syntax.{Expression, Statement, Scope, Operator, equal, conjunction, isOperator}
+use Rattle.definitions.specs.Syntax.{Expression, Statement, Scope}
 use Rattle.definitions.specs.ContractFile.{NodeRecord, nodeRecord, sectionsOf, nodesAt, nodeCount, dataTypeOf, operatorOf, ownerOfCode}
-use Rattle.definitions.specs.Nodes.{Kind, constantKind, meKind, fieldKind, entryKind, parameterKind, operatorKind, negationKind, revealKind, skipKind, sequenceKind, assignFieldKind, assignEntryKind, requireKind, conditionalKind, noKind, kindOf, Node, unknownNode, nodeOf, nodeOfKind, nodeAt, constantValue, children, expressionParts, statementParts, expressionOf, statementOf}
-use Rattle.definitions.specs.Owners.{Links, linksOfCondition, withLinkOf, nameOf}
-use Rattle.file.specs.Node.{recordOf}
+use Rattle.definitions.specs.Nodes.{constantKind, meKind, fieldKind, entryKind, parameterKind, operatorKind, negationKind, revealKind, skipKind, sequenceKind, assignFieldKind, assignEntryKind, requireKind, conditionalKind, noKind, kindOf, unknownNode, nodeOf, nodeOfKind, nodeAt, constantValue, children, expressionParts, statementParts, expressionOf, statementOf}
+use Rattle.definitions.specs.Owners.{Links, linksOfCondition}
 use Rattle.file.proofs.Sections.{node-of, count-of-nodes}
 use Rattle.file.specs.Settled.{Settled}
-use Rattle.scopes.specs.Trees.{nodesOf, expressionOn, statementOn}
+use Rattle.scopes.specs.Trees.{nodesOf, expressionOn}
 use Rattle.scopes.proofs.Lists.{getD-map, first-below, rest-below}
-use Rattle.scopes.proofs.Levels.{expression-unfolds, statement-unfolds}
-use Rattle.scopes.proofs.Settling.{noNode, falling, reveal-listed}
+use Rattle.scopes.proofs.Levels.{expression-unfolds}
+use Rattle.scopes.proofs.Settling.{noNode, falling}
 
 module _ (r : NodeRecord) (below : ℕ → Expression) where
   other-kinds : (b2 b16 b17 b18 b19 b20 b21 : Bool) → expressionOf

@@ -1,8 +1,8 @@
 -- What a test that no element passes says of the element at an index.
-use mathlib.Core.Path.{_≡_, refl, ap, sym, _∙_}
+use mathlib.Core.Path.{_≡_, refl, ap, sym}
 use mathlib.Core.Bool.{Bool, true, false, not, _&&_, _||_, true≢false, false≢true}
-use mathlib.Core.List.{List, [], _∷_, _++_, map}
-use Prim.Native.Nat.{ℕ, zero, suc, _+_, _*_, _<_, _≤_}
+use mathlib.Core.List.{List, [], _∷_, map}
+use Prim.Native.Nat.{ℕ, zero, suc, _+_, _*_, _<_}
 use native.Mathlib.Omega.{arith}
 use borrow.Author.Tests.{leb-false}
 use lib.Dec.{leb}
@@ -52,21 +52,6 @@ module _ {A : Type 0} where
   getD-map f [] i other d p = absurd (omega arith)
   getD-map f (x ∷ xs) zero other d p = refl
   getD-map f (x ∷ xs) (suc i) other d p = getD-map f xs i other d (omega arith)
-
-  pub any-append-left : (test : A → Bool) (xs ys : List A) → any test (xs ++ ys) ≡ false → any test xs ≡ false
-  unfolding any
-  any-append-left test [] ys h = refl
-  any-append-left test (x ∷ xs) ys h = both-false (test x) (any test xs) (or-left (test x) (any test (xs ++ ys)) h)
-      (any-append-left test xs ys (or-right (test x) (any test (xs ++ ys)) h))
-    where
-      both-false : (a b : Bool) → a ≡ false → b ≡ false → (a || b) ≡ false
-      both-false true b p q = p
-      both-false false b p q = q
-
-  pub any-append-right : (test : A → Bool) (xs ys : List A) → any test (xs ++ ys) ≡ false → any test ys ≡ false
-  unfolding any
-  any-append-right test [] ys h = h
-  any-append-right test (x ∷ xs) ys h = any-append-right test xs ys (or-right (test x) (any test (xs ++ ys)) h)
 
 pub first-below : (n m : ℕ) (rest : List ℕ) → any (leb n) (m ∷ rest) ≡ false → m < n
 unfolding any

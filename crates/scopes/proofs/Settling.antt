@@ -1,29 +1,28 @@
 -- What a settled file says of its fields, parameters and nodes.
 use mathlib.Core.Path.{_≡_, refl, ap, sym, _∙_}
-use mathlib.Core.Bool.{Bool, true, false, not, cond, _&&_, _||_, true≢false, false≢true}
-use mathlib.Core.List.{List, [], _∷_, map}
+use mathlib.Core.Bool.{Bool, true, false, not, _&&_, _||_}
+use mathlib.Core.List.{List, map}
 use Prim.Native.Nat.{ℕ, zero, suc, _+_, _*_, _-_, _<_, _≤_}
 use native.Mathlib.Omega.{arith}
-use borrow.Author.Tests.{leb-true, leb-false, ltb-false, ltb-true, eqb-true, le-ltb, lt-ltb, le-leb, lt-leb}
+use borrow.Author.Tests.{leb-true, ltb-false, ltb-true}
 use lib.Dec.{eqb, leb, ltb}
 use lib.ListN.{length, getD, length-map, List·getD-eq-default}
 use Rattle.definitions.specs.Basics.{any, anyNumbered, isZero}
-use Rattle.definitions.specs.Syntax.{DataType, boolean, plainField, toEveryone, Field, Parameter, fieldAt, parameterAt, shapeCode, dataTypeCode, isFinal, Owner, everyone, ownedBy, meName, finalName, parameterName}
-use Rattle.definitions.specs.ContractFile.{FieldRecord, ParameterRecord, NodeRecord, byteAt, fieldRecords, parameterRecords, fieldCount, nodeCount, sectionsOf, shapeOf, dataTypeOf, fieldOwnerOfCode, fieldOf, parameterOf, isFinalCode, ownerOfCode}
-use Rattle.definitions.specs.Nodes.{Node, unknownNode, nodeOf, nodeAt, children, fieldsNamed, kindOf, revealKind, expressionParts, statementParts}
+use Rattle.definitions.specs.Syntax.{boolean, plainField, toEveryone, fieldAt, parameterAt, shapeCode, dataTypeCode}
+use Rattle.definitions.specs.ContractFile.{FieldRecord, ParameterRecord, NodeRecord, byteAt, parameterRecords, fieldCount, nodeCount, sectionsOf, shapeOf, dataTypeOf, fieldOf, parameterOf, isFinalCode, ownerOfCode}
+use Rattle.definitions.specs.Nodes.{Node, unknownNode, nodeOf, nodeAt, children, fieldsNamed, kindOf, expressionParts, statementParts}
 use Rattle.definitions.specs.Numbers.{countOffLimits, outsideTables, parameterInTables, namesNothing, fieldOfDeclaredOwner, fieldInTables, nodeInTables, kindInTables, targetInTables, ownerFits}
 use Rattle.file.proofs.Sections.{fields-are, count-of-nodes}
-use Rattle.codes.specs.Codes.{isFieldCode}
 use Rattle.links.proofs.Names.{Listed, nobody, caller, final, argument, listed}
 use Rattle.codes.proofs.Codes.{owner-final, owner-argument}
-use Rattle.judgements.specs.Judging.{IsField, IsParameter, Present, Final}
+use Rattle.judgements.specs.Judging.{IsField, Final}
 use Rattle.judgements.specs.declared.Declared.{Declared}
 use Rattle.judgements.specs.declared.Given.{Given}
 use Rattle.file.specs.Settled.{Settled}
 use Rattle.scopes.specs.Trees.{nodesOf}
 use Rattle.scopes.specs.Scopes.{FieldAt, ParameterAt, scopeAt}
 use Rattle.scopes.specs.declared.Parameters.{Parameters}
-use Rattle.scopes.proofs.Lists.{or-left, or-right, and-left, and-right, not-not, none-at, none-numbered, getD-map, any-append-left, any-append-right, first-below, length-fieldRecords, getD-fieldRecords, length-parameterRecords, getD-parameterRecords}
+use Rattle.scopes.proofs.Lists.{or-left, or-right, and-left, and-right, not-not, none-at, none-numbered, getD-map, length-fieldRecords, getD-fieldRecords, length-parameterRecords, getD-parameterRecords}
 
 -- What a number past the last node reads as; no node's number is past it.
 abbrev pub noNode : NodeRecord

@@ -1,7 +1,7 @@
 -- A function's scope as it is read from a file, and what is known where a function's nodes are judged.
 use mathlib.Core.Path.{_≡_}
 use mathlib.Core.List.{List, map}
-use Prim.Native.Nat.{ℕ, _<_, _≤_}
+use Prim.Native.Nat.{ℕ, _≤_}
 use Rattle.definitions.specs.Syntax.{Scope, fieldAt, parameterAt}
 use Rattle.definitions.specs.ContractFile.{sectionsOf, fieldOf, parameterOf, parameterRecords, nodesAt, nodeCount}
 use Rattle.judgements.specs.Judging.{IsField, IsParameter, Present, Final}

@@ -1,13 +1,12 @@
 -- Lists of contents that a party cannot tell apart, and contents made for a reader.
 use mathlib.Core.Path.{_≡_, refl, ap, ap₂, sym, _∙_}
 use mathlib.Core.Bool.{Bool, true, false, cond}
-use mathlib.Core.List.{List, [], _∷_, _++_, map, map-append}
+use mathlib.Core.List.{List, _∷_, _++_, map-append}
 use Prim.Native.Nat.{ℕ}
 use lib.Dec.{eqb}
 use Rattle.definitions.specs.Places.{Reader, anyone, only, mayRead}
-use Rattle.definitions.specs.Ledger.{Content, plain, cell, plainNumber, openedNumber, contentFor}
+use Rattle.definitions.specs.Ledger.{Content, plain, cell, openedNumber, contentFor}
 use Rattle.relations.specs.Secrecy.{hidden, allHidden}
-use Rattle.secrecy.proofs.HiddenWalk.{hidden-number}
 
 -- A record, so that the two lists are found where it is used.
 pub record AlikeContents (party : ℕ) (contents contents′ : List Content) : Type 0 where
@@ -41,12 +40,3 @@ pub alike-values : (party : ℕ) (reader : Reader) (call call′ index index′ 
 unfolding hidden
 alike-values party anyone call call′ index index′ v v′ may h = ap openedNumber h
 alike-values party (only x) call call′ index index′ v v′ may h = ap openedNumber (rw may at h)
-
--- The plain numbers of contents that look alike are the same: hiding keeps them.
-pub alike-plain : {party : ℕ} {contents contents′ : List Content} → AlikeContents party contents contents′
-    → map plainNumber contents ≡ map plainNumber contents′
-alike-plain {party} {contents} {contents′} h = sym (kept contents) ∙ (ap (map plainNumber) (h .equal) ∙ kept contents′)
-  where
-    kept : (l : List Content) → map plainNumber (allHidden party l) ≡ map plainNumber l
-    kept [] = refl
-    kept (c ∷ l) = ap₂ (λ x y. x ∷ y) (hidden-number party c) (kept l)

@@ -6,7 +6,7 @@ use Prim.Native.Nat.{ℕ, suc}
 use lib.ListN.{length}
 use Rattle.definitions.specs.Syntax.{Name, Owner, Expression, Statement, Scope}
 use Rattle.definitions.specs.Owners.{noLinks}
-use Rattle.definitions.specs.Original.{placesAfter, completes, disclosedBy}
+use Rattle.definitions.specs.Original.{completes, disclosedBy}
 use Rattle.definitions.specs.Written.{Guard, always}
 use Rattle.definitions.specs.Rewriting.{openings, privateParameters}
 use Rattle.definitions.specs.Calls.{honestContents, honestVariables}
@@ -40,10 +40,6 @@ module _ (scope : Scope) (body : Statement) (addressOf : Name → ℕ) (party : 
   same-completion = outcome .0
 
   module _ (isComplete : completes (scope .fields) addressOf arguments places body ≡ true) where
-    pub agree-after : Agree party addressOf (scope .fields) (placesAfter (scope .fields) addressOf arguments places body)
-        (placesAfter (scope .fields) addressOf arguments′ places′ body)
-    agree-after = outcome .1 isComplete .1 .agree
-
     pub alike-body : (call : ℕ) (g : Guard) (i : ℕ)
         → AlikeContents party (honestVariables scope addressOf call arguments body places g i) (honestVariables scope addressOf call arguments′ body places′ g i)
     alike-body = outcome .1 isComplete .1 .variables

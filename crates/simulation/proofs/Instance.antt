@@ -1,6 +1,6 @@
 -- The theorem's conditions can be met: a call that moves a private argument into a private field of its caller.
 use mathlib.Core.Path.{_≡_, refl}
-use mathlib.Core.Bool.{true, false, false≢true}
+use mathlib.Core.Bool.{true, false≢true}
 use mathlib.Core.List.{List, [], _∷_, zipWith}
 use Prim.Native.Nat.{ℕ, zero, suc}
 use lib.ListN.{getD}

@@ -1,13 +1,11 @@
 -- The form and the count of a node's statement, by the kind of its record and what code has found out about it.
-use mathlib.Core.Path.{_≡_, refl, ap, sym, _∙_}
+use mathlib.Core.Path.{_≡_, ap, sym, _∙_}
 use mathlib.Core.Bool.{Bool}
 use mathlib.Core.List.{List}
 use mathlib.Core.Option.{none}
 use Prim.Native.Nat.{ℕ, _+_, _*_, _<_}
-use Rattle.definitions.specs.Syntax.{Expression, Statement}
 use Rattle.definitions.specs.ContractFile.{NodeRecord, nodeCount, nodeRecord}
-use Rattle.definitions.specs.Owners.{nameOf}
-use Rattle.definitions.specs.WrittenFile.{Tree, leaf, oneChild, twoChildren}
+use Rattle.definitions.specs.WrittenFile.{Tree, oneChild, twoChildren}
 use Rattle.trees.specs.Trees.{expressionIn, statementIn}
 use Rattle.context.specs.Context.{Context, nodesIn, scopeIn}
 use Rattle.context.proofs.Statements.{assign-field-is, assign-entry-is, require-is}

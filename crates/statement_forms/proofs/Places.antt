@@ -12,12 +12,11 @@ use lib.ListN.{length}
 use Rattle.definitions.specs.Syntax.{Name, Owner, everyone, ownedBy, FieldOwner, toEveryone, toKey, toFinal, Expression, Scope, fieldAt, isEveryone}
 use Rattle.definitions.specs.ContractFile.{fieldOwnerCode}
 use Rattle.definitions.specs.Owners.{isPublic, placeOwner}
-use Rattle.definitions.specs.Written.{BodyExpression}
-use Rattle.definitions.specs.Rewriting.{Generator, supplying, inBody, inCircuit, inPlace}
-use Rattle.definitions.specs.WrittenFile.{Tree, leaf, bodyTree}
+use Rattle.definitions.specs.Rewriting.{supplying, inBody, inCircuit, inPlace}
+use Rattle.definitions.specs.WrittenFile.{leaf, bodyTree}
 use Rattle.context.specs.Context.{fieldsIn}
 use Rattle.variable_counts.specs.Counts.{bodyCount, circuitCount}
-use Rattle.variable_counts.proofs.Counts.{Makes, body-makes, circuit-makes}
+use Rattle.variable_counts.proofs.Counts.{body-makes, circuit-makes}
 use Rattle.forms.specs.Forms.{bodyForm}
 use Rattle.statement_forms.specs.Places.{placedForm, placedCount, PrivatePlace}
 

@@ -1,15 +1,13 @@
 -- The form and the count of a statement that holds no other, by what it is.
-use mathlib.Core.Path.{_≡_, refl, ap, ap₂, sym, _∙_}
-use mathlib.Core.Bool.{Bool, true, false, not}
-use mathlib.Core.List.{List, _++_}
+use mathlib.Core.Path.{_≡_, refl, ap, ap₂, _∙_}
+use mathlib.Core.Bool.{Bool, not}
 use mathlib.Core.Option.{none}
 use Prim.Native.Nat.{ℕ, _+_}
 use lib.ListN.{length, length-append}
 use Rattle.definitions.specs.Syntax.{Expression, Statement, Scope, fieldAt, isEveryone}
 use Rattle.definitions.specs.Owners.{nameOf, placeOwner}
-use Rattle.definitions.specs.Written.{Command}
 use Rattle.definitions.specs.Rewriting.{kept, onePart, twoParts, inBody, inPlace}
-use Rattle.definitions.specs.WrittenFile.{Tree, leaf, oneChild, twoChildren, bodyTree, commandTree}
+use Rattle.definitions.specs.WrittenFile.{leaf, oneChild, twoChildren, bodyTree, commandTree}
 use Rattle.variable_counts.specs.Counts.{bodyCount}
 use Rattle.variable_counts.proofs.Counts.{body-makes}
 use Rattle.forms.specs.Forms.{bodyForm}

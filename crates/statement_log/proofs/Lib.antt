@@ -1,4 +1,3 @@
 pub mod Placing
 pub mod Statements
-pub mod Rooms
 pub mod Roots

@@ -3,16 +3,16 @@ use mathlib.Core.Path.{_≡_, refl, ap, sym, _∙_}
 use mathlib.Core.Bool.{Bool, true, false, false≢true}
 use mathlib.Core.List.{List}
 use mathlib.Core.Option.{none}
-use Prim.Native.Nat.{ℕ, _+_}
+use Prim.Native.Nat.{ℕ}
 use lib.ListN.{length}
 use Rattle.definitions.specs.Syntax.{Statement, Scope, fieldAt}
 use Rattle.definitions.specs.Owners.{nameOf, placeOwner}
 use Rattle.definitions.specs.Written.{Command, Guard}
-use Rattle.definitions.specs.Rewriting.{Step, kept, onePart, twoParts, single, stepsBefore, inBody, inPlace, rewriteStatement}
+use Rattle.definitions.specs.Rewriting.{Step, single, stepsBefore, inBody, inPlace, rewriteStatement}
 use Rattle.definitions.specs.WrittenFile.{commandTree}
 use Rattle.trees.specs.Trees.{statementIn}
 use Rattle.context.specs.Context.{nodesIn, scopeIn}
-use Rattle.events.specs.Events.{Event, stepsOf, noEvents, bodyEvents, placeEvents, statementEvents}
+use Rattle.events.specs.Events.{stepsOf, bodyEvents, placeEvents, statementEvents}
 use Rattle.events.proofs.Pieces.{kept-made, one-made, two-made, body-made, place-made}
 use Rattle.entries.specs.Entries.{Entries}
 use Rattle.statement_forms.specs.Statements.{simple}

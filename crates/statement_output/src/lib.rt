@@ -2,7 +2,6 @@
 use statement_forms::write_statement_form;
 use step_output::close_steps;
 use step_output::put_steps;
-ghost use mathlib.Core.Path.{_≡_};
 ghost use Prim.Native.Nat.{_+_, _<_, _≤_};
 ghost use lib.ListN.{length};
 ghost use Rattle.definitions.specs.ContractFile.{nodeCount};

@@ -1,9 +1,9 @@
 -- What is found of each kind of statement is right if what is found of its parts is.
-use mathlib.Core.Path.{_≡_, refl, ap, sym, _∙_}
+use mathlib.Core.Path.{_≡_, refl, sym, _∙_}
 use mathlib.Core.List.{_++_}
 use Prim.Native.Nat.{ℕ, min}
 use Rattle.definitions.specs.Syntax.{Expression, Statement, Scope}
-use Rattle.definitions.specs.Owners.{Links, linksAfter, linksOfCondition}
+use Rattle.definitions.specs.Owners.{linksAfter, linksOfCondition}
 use Rattle.definitions.specs.Numbers.{statementFaults, conditionFaults}
 use Rattle.faults.specs.Faults.{leastFault}
 use Rattle.faults.proofs.Faults.{least-append, least-none}

@@ -1,21 +1,17 @@
 -- The steps of a log's entries, one entry after another.
-use mathlib.Core.Path.{_≡_, refl, ap, sym, _∙_}
-use mathlib.Core.Bool.{Bool, true, false, cond}
+use mathlib.Core.Path.{_≡_, refl}
 use mathlib.Core.List.{List, [], _∷_}
 use Prim.Native.Nat.{ℕ, zero, suc, _+_, _*_, _-_, _<_, _≤_}
-use native.Mathlib.Nat.{add-zero}
 use native.Mathlib.Omega.{arith}
 use borrow.Author.Tests.{eq-eqb, ne-eqb}
-use lib.Dec.{eqb}
-use lib.ListN.{length, getD}
+use lib.ListN.{getD}
 use Rattle.definitions.specs.Syntax.{Scope}
 use Rattle.definitions.specs.ContractFile.{nodeCount}
 use Rattle.definitions.specs.Nodes.{Node}
-use Rattle.definitions.specs.Rewriting.{Step}
 use Rattle.trees.specs.Trees.{expressionIn}
 use Rattle.context.specs.Context.{nodesIn, scopeIn}
 use Rattle.variable_counts.specs.Counts.{bodyCount}
-use Rattle.step_output.specs.Steps.{stepAt, loggedSteps, stepsIn, Readable}
+use Rattle.step_output.specs.Steps.{stepAt, loggedSteps, Readable}
 
 module _ (scope : Scope) (nodes : List Node) (log : List ℕ) (from : ℕ) where
   pub steps-none : (left : ℕ) → left ≡ 0 → loggedSteps scope nodes log from left ≡ []

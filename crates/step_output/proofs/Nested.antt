@@ -1,13 +1,11 @@
 -- Steps before a rest: room for each of the three runs, and the runs together.
 use mathlib.Core.Path.{_≡_, refl, ap, ap₂, sym, _∙_}
-use mathlib.Core.List.{List, [], _∷_, _++_, map, append-assoc}
-use Prim.Native.Nat.{ℕ, suc, _+_, _*_, _-_, _<_, _≤_}
-use native.Mathlib.Nat.{zero-add}
+use mathlib.Core.List.{List, [], _∷_, _++_, append-assoc}
+use Prim.Native.Nat.{ℕ, _+_, _*_, _-_, _≤_}
 use native.Mathlib.Omega.{arith}
 use lib.ListN.{length, take, drop, length-append}
 use lib.Seq.{take-at}
 use Rattle.definitions.specs.Basics.{flatMap}
-use Rattle.definitions.specs.ContractFile.{NodeRecord}
 use Rattle.definitions.specs.Written.{Command}
 use Rattle.definitions.specs.Rewriting.{Step, stepsBefore}
 use Rattle.definitions.specs.WrittenFile.{Tree, size, sizes, numbered, numberedAll, nodeBytes, commandTree}
@@ -16,7 +14,7 @@ use Rattle.buffer.proofs.Laws.{stored-length}
 use Rattle.node_output.specs.Numbering.{treeBytes, Room, Numbered}
 use Rattle.node_output.proofs.Laws.{nodes-append, nodes-length, bytes-length, size-positive, run-then, numbered-keeps, numbered-length}
 use Rattle.step_output.specs.declared.Steps.{Steps}
-use Rattle.step_output.specs.Steps.{stepTree, stepTrees, stepRoots, closers, StepsRoom, StepsPut}
+use Rattle.step_output.specs.Steps.{stepTrees, stepRoots, closers, StepsRoom, StepsPut}
 use Rattle.step_output.proofs.Nesting.{roots-length, nested-size, nested-nodes}
 
 all-length : (base : ℕ) (trees : List Tree) → length (numberedAll base trees) ≡ sizes trees

@@ -1,15 +1,14 @@
 -- The nodes of steps before a rest: those of the steps, those of the rest, and the sequences.
 use mathlib.Core.Path.{_≡_, refl, ap, ap₂, sym, _∙_}
-use mathlib.Core.List.{List, [], _∷_, _++_, map, append-assoc, append-nil}
-use Prim.Native.Nat.{ℕ, suc, _+_, _*_, _-_, _<_, _≤_}
-use native.Mathlib.Numerals.{add-one}
+use mathlib.Core.List.{List, [], _∷_, _++_, append-assoc, append-nil}
+use Prim.Native.Nat.{ℕ, suc, _+_, _-_}
 use native.Mathlib.Nat.{add-zero}
 use native.Mathlib.Omega.{arith}
 use lib.ListN.{length, length-append}
 use Rattle.definitions.specs.ContractFile.{NodeRecord, node}
 use Rattle.definitions.specs.Written.{Command}
 use Rattle.definitions.specs.Rewriting.{Step, stepsBefore}
-use Rattle.definitions.specs.WrittenFile.{Tree, size, sizes, numbered, numberedAll, commandTree}
+use Rattle.definitions.specs.WrittenFile.{size, sizes, numbered, numberedAll, commandTree}
 use Rattle.node_output.proofs.Laws.{size-positive}
 use Rattle.step_output.specs.Steps.{stepTree, stepTrees, stepRoots, closers}
 

@@ -1,13 +1,13 @@
 -- Steps put one after another: room for the first and for those that follow, and all of them together.
 use mathlib.Core.Path.{_≡_, refl, ap, sym, _∙_}
-use mathlib.Core.List.{List, [], _∷_, _++_, map}
-use Prim.Native.Nat.{ℕ, suc, _+_, _*_, _-_, _<_, _≤_}
+use mathlib.Core.List.{List, [], _∷_}
+use Prim.Native.Nat.{ℕ, _+_, _*_, _-_, _<_, _≤_}
 use native.Mathlib.Omega.{arith}
 use native.Mathlib.Numerals.{add-one}
 use lib.ListN.{length}
 use Rattle.definitions.specs.Basics.{flatMap}
 use Rattle.definitions.specs.Rewriting.{Step}
-use Rattle.definitions.specs.WrittenFile.{Tree, size, sizes, numbered, numberedAll, nodeBytes}
+use Rattle.definitions.specs.WrittenFile.{size, sizes, numbered, numberedAll, nodeBytes}
 use Rattle.buffer.specs.Buffer.{stored}
 use Rattle.buffer.proofs.Laws.{stored-nothing, stored-length}
 use Rattle.node_output.specs.Numbering.{treeBytes, Room, Numbered}

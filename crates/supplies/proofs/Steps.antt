@@ -1,26 +1,25 @@
 -- Each step of writing a node's numbers: what it asks of the next, and what it has written after it.
 use mathlib.Core.Path.{_≡_, refl, ap, sym, _∙_}
 use mathlib.Core.Bool.{Bool, true, false, cond, not}
-use mathlib.Core.List.{List, [], _∷_, map}
-use Prim.Native.Nat.{ℕ, suc, _+_, _<_, _≤_}
+use mathlib.Core.List.{List, map}
+use Prim.Native.Nat.{ℕ, suc, _+_, _≤_}
 use native.Mathlib.Numerals.{add-one}
 use native.Mathlib.Omega.{arith}
 use borrow.Author.Tests.{ne-eqb}
 use lib.Dec.{eqb}
-use lib.ListN.{length}
 use Rattle.definitions.specs.Syntax.{meName, Owner, everyone, ownedBy, Expression, Scope, isEveryone}
 use Rattle.definitions.specs.Owners.{ownerOf, isPublic}
-use Rattle.definitions.specs.Written.{Variable, supplied, readFrom, guard, always}
+use Rattle.definitions.specs.Written.{Variable, supplied, readFrom, always}
 use Rattle.buffer.specs.Buffer.{stored}
 use Rattle.context.specs.Context.{scopeIn}
-use Rattle.events.specs.Events.{Events, variablesOf, variableCount, noEvents, inTurn, supplyEvents, readEvents, bodyEvents, circuitEvents, placeEvents}
+use Rattle.events.specs.Events.{Events, inTurn, supplyEvents, readEvents, bodyEvents, circuitEvents, placeEvents}
 use Rattle.events.specs.Parts.{isSupplied, isRead, suppliedFor, eachPart}
 use Rattle.events.proofs.Parts.{body-is, circuit-is}
 use Rattle.plans.specs.declared.Parts.{Parts}
 use Rattle.plans.specs.Plans.{nodeExpression, SuppliedCode, ReadCode, PartsOf}
 use Rattle.values.specs.Values.{valueOf}
-use Rattle.supplies.specs.Supplies.{suppliedNumber, bodyIn, circuitIn, supplyIn, bodyPartsIn, circuitPartsIn, placedIn, Room, Ready, Wrote}
-use Rattle.supplies.proofs.Writing.{wrote-as, wrote-nothing, wrote-turn, wrote-supply, wrote-read, wrote-length, room-as, room-first, room-second, room-slot, room-circuit, room-parts, room-read, supply-count, supply-variables}
+use Rattle.supplies.specs.Supplies.{suppliedNumber, bodyIn, circuitIn, supplyIn, placedIn, Room, Ready, Wrote}
+use Rattle.supplies.proofs.Writing.{wrote-as, wrote-nothing, wrote-turn, room-as, room-first, room-second, supply-count, supply-variables}
 
 module _ (file : List ℕ) (functionStart nodesStart n : ℕ) (out : List ℕ) (i : ℕ) where
   pub ready-as : (a b : Events) → b ≡ a → Ready file functionStart nodesStart n out i b → Ready file functionStart nodesStart n out i a

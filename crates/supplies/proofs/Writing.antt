@@ -1,17 +1,15 @@
 -- Writing the numbers of events that follow one another, and the room that it asks.
 use mathlib.Core.Path.{_≡_, refl, ap, sym, _∙_}
-use mathlib.Core.Bool.{Bool, true, false, cond, not, _&&_}
 use mathlib.Core.List.{List, [], _∷_, _++_, map, map-append}
 use Prim.Native.Nat.{ℕ, suc, _+_, _<_, _≤_}
 use native.Mathlib.Numerals.{add-one}
 use native.Mathlib.Omega.{arith}
-use lib.Dec.{eqb}
 use lib.ListN.{length, length-append, length-map}
 use Rattle.definitions.specs.Syntax.{Owner, Expression}
-use Rattle.definitions.specs.Written.{Variable, supplied, readFrom, guard, Guard}
+use Rattle.definitions.specs.Written.{Variable, supplied, readFrom, Guard}
 use Rattle.buffer.specs.Buffer.{stored}
 use Rattle.buffer.proofs.Laws.{stored-length, stored-nothing, stored-then}
-use Rattle.events.specs.Events.{Event, Events, suppliedEvent, claimedEvent, readEvent, variablesOf, variableCount, noEvents, inTurn, supplyEvents, readEvents}
+use Rattle.events.specs.Events.{Event, Events, claimedEvent, readEvent, variablesOf, variableCount, noEvents, inTurn, supplyEvents, readEvents}
 use Rattle.events.proofs.Appended.{variables-append}
 use Rattle.supplies.specs.Supplies.{Room, Wrote}
 

@@ -1,6 +1,6 @@
 -- Two lists of calls that meet the hypotheses of equal views with different secrets; and, for h, a call that discloses different values.
 use mathlib.Core.Path.{_≡_, refl, ap}
-use mathlib.Core.Bool.{true, false, _||_, not, false≢true}
+use mathlib.Core.Bool.{true, _||_, not, false≢true}
 use mathlib.Core.List.{List, [], _∷_, zipWith}
 use Prim.Native.Nat.{ℕ, zero, suc}
 use lib.Dec.{eqb}

@@ -5,7 +5,7 @@ use mathlib.Core.List.{List, map}
 use Prim.Native.Nat.{ℕ, suc}
 use Rattle.definitions.specs.Basics.{isZero}
 use Rattle.definitions.specs.Syntax.{Name, Statement, Scope, scopeOf}
-use Rattle.definitions.specs.Original.{completes, placesAfter, originalCompletes}
+use Rattle.definitions.specs.Original.{completes, placesAfter}
 use Rattle.definitions.specs.Ledger.{Content, Ledger, State, openedNumber, stateAfter, walkCompletes}
 use Rattle.definitions.specs.Calls.{contractOfLedger, calledFunction, callNumber, callWith, afterFailed, writtenFunction, startOfCall, honestParametersOf, honestVariablesOf, ledgerAfterCall}
 use Rattle.relations.specs.Acceptance.{FieldsFit}
@@ -89,7 +89,3 @@ module _ (l : Ledger) (function caller : ℕ) (arguments : List ℕ) where
     ledger-after =
         ap (λ n. cond (isZero n) (callWith l function caller parametersOfCall (honestVariablesOf l function caller arguments)) l) clear
         ∙ ap ledgerOver (same-addresses l function caller arguments clear) ∙ ap (λ b. cond b ledgerDone ledgerFailed) (honest .ends)
-
-    pub completes-here : originalCompletes (contractOfLedger l) openedPlaces function caller arguments ≡ completesHere
-    unfolding originalCompletes
-    completes-here = refl

@@ -88,9 +88,6 @@ module _ (l : Ledger) (function caller : ℕ) (arguments : List ℕ) (clear : ca
     pub address-done : lastAddress (ledgerDone l function caller arguments) ≡ addressOfCall l function caller arguments
     address-done = fun-ext each
       where
-        plainAfter : List ℕ
-        plainAfter = map plainNumber ((endOfHonest l function caller arguments) .places)
-
         final-done : (g : ℕ) → isFinal ((fieldAt fieldsHere g) .shape) ≡ true
             → finalAddress fieldsHere (map plainNumber ((endOfHonest l function caller arguments) .places)) g ≡ addressOfCall l function caller arguments (finalName g)
         final-done g final =

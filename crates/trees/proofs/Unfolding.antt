@@ -1,10 +1,10 @@
 -- The tree of a node unfolds into its children's trees: more levels than a node's number change nothing.
-use mathlib.Core.Path.{_≡_, refl, ap, ap₂, sym, _∙_}
+use mathlib.Core.Path.{_≡_, refl, ap, ap₂}
 use mathlib.Core.Bool.{Bool, true, false, _&&_, false≢true}
-use mathlib.Core.List.{List, [], _∷_, _++_, map}
+use mathlib.Core.List.{List, [], _∷_, map}
 use Prim.Native.Nat.{ℕ, zero, suc, _<_}
 use native.Mathlib.Omega.{arith}
-use lib.Dec.{T, ltb, ltb→lt}
+use lib.Dec.{ltb, ltb→lt}
 use Rattle.definitions.specs.Basics.{all}
 use Rattle.definitions.specs.Syntax.{Expression, Statement}
 use Rattle.definitions.specs.ContractFile.{NodeRecord, node, ownerOfCode, operatorOf}

@@ -1,6 +1,6 @@
 -- The tree of a node, with just the levels that it needs, and when the nodes' numbers fall from parent to child.
 use mathlib.Core.Path.{_≡_}
-use mathlib.Core.Bool.{Bool, true}
+use mathlib.Core.Bool.{true}
 use mathlib.Core.List.{List}
 use Prim.Native.Nat.{ℕ, suc}
 use lib.Dec.{ltb}

@@ -12,14 +12,14 @@ use Rattle.definitions.specs.Basics.{any, countIf, firstThatHolds}
 use Rattle.definitions.specs.Syntax.{DataType, boolean, uint, address, Shape, plainField, finalField, mapping, Field, fieldAt, isFinal, isMapping}
 use Rattle.definitions.specs.DataTypes.{isOfType}
 use Rattle.definitions.specs.Numbers.{checkNumber, orElse}
-use Rattle.definitions.specs.Places.{numbersFrom, placeCount, perPlace, position, finalAddress, Reader, anyone, placeReader, placeReaders, deployedNumbers}
+use Rattle.definitions.specs.Places.{numbersFrom, placeCount, perPlace, finalAddress, Reader, anyone, placeReader, placeReaders, deployedNumbers}
 use Rattle.definitions.specs.Ledger.{Content, plainNumber, contentFor}
 use Rattle.definitions.specs.Calls.{contractIn, finalsOff, deployNumber, deployedPlaces, deployed, fits, allFit, isWellFormed}
 use Rattle.relations.specs.Environment.{placeTypes}
 use Rattle.relations.specs.Acceptance.{FieldsFit}
 use Rattle.relations.specs.Standing.{AllStand}
-use Rattle.typing.proofs.Basics.{and-both, or-left-false, or-right-false, address-below}
-use Rattle.typing.proofs.Places.{getD-numbersFrom, at-place, first-place, length-field-places}
+use Rattle.typing.proofs.Basics.{and-both, or-left-false, or-right-false}
+use Rattle.typing.proofs.Places.{getD-numbersFrom, first-place, length-field-places}
 use Rattle.typing.proofs.Forms.{length-zipWith, getD-zipWith}
 use Rattle.typing.proofs.FaultNumbers.{none-holds}
 use Rattle.typing.proofs.Acceptance.{fields-fit}
@@ -180,12 +180,6 @@ module _ (file addresses : List ℕ) (clear : deployNumber file addresses ≡ 0)
 
   pub deployed-numbers-length : length (deployedNumbers fields addresses) ≡ length (placeTypes fields)
   deployed-numbers-length = length-deployed (λ d _. d .type) fields addresses
-
-  pub deployed-finals-below : (f : ℕ) → isFinal ((fieldAt fields f) .shape) ≡ true → finalAddress fields (deployedNumbers fields addresses) f < 16
-  deployed-finals-below f final =
-      address-below (finalAddress fields (deployedNumbers fields addresses) f)
-      (rw (at-place (λ d _. d .type) fields f 0 (first-place (fieldAt fields f)), deployed-fields-fit .address f final)
-      at (deployed-numbers-typed (position fields f 0)))
 
   pub deployed-well-formed : isWellFormed (deployed file addresses) ≡ true
   unfolding isWellFormed deployed allFit

@@ -2,7 +2,7 @@
 use mathlib.Core.Path.{_≡_, refl, ap, sym, _∙_}
 use mathlib.Core.Bool.{Bool, true, false, cond, true≢false, false≢true}
 use mathlib.Core.List.{List, [], _∷_, _++_, map}
-use Prim.Native.Nat.{ℕ, zero, suc, _+_, _<_, _≤_}
+use Prim.Native.Nat.{ℕ, zero, suc, _+_, _<_}
 use native.Mathlib.Omega.{arith}
 use lib.ListN.{length, getD, length-append, length-map, List·getD-append}
 use lib.Seq.{getD-append-add}
@@ -45,25 +45,6 @@ module _ {A : Type 0} (ask : Field → ℕ → A) where
   at-place (d ∷ ds) (suc f) key h =
       ap (λ n. getD (placesOf d ++ perPlace ask ds) (n + position ds f key) (ask noField 0)) (sym (length-field-places d))
       ∙ (getD-append-add (placesOf d) (perPlace ask ds) (position ds f key) (ask noField 0) ∙ at-place ds f key h)
-
-  -- A place of a field that is there stands inside the list.
-  pub position-inside : (fields : List Field) (f key : ℕ) → f < length fields → key < placeCount (fieldAt fields f)
-      → position fields f key < length (perPlace ask fields)
-  unfolding perPlace position
-  position-inside [] f key g h = absurd (omega arith)
-  position-inside (d ∷ ds) zero key g h = rw (length-append, length-field-places d) (omega arith)
-  position-inside (d ∷ ds) (suc f) key g h =
-      let r : position ds f key < length (perPlace ask ds) = position-inside ds f key (omega arith) h in
-      rw (length-append, length-field-places d) (omega arith)
-
-  -- A place of a field that is not there stands past the end.
-  pub position-outside : (fields : List Field) (f key : ℕ) → length fields ≤ f → length (perPlace ask fields) ≤ position fields f key
-  unfolding perPlace position
-  position-outside [] f key g = omega arith
-  position-outside (d ∷ ds) zero key g = absurd (omega arith)
-  position-outside (d ∷ ds) (suc f) key g =
-      let r : length (perPlace ask ds) ≤ position ds f key = position-outside ds f key (omega arith) in
-      rw (length-append, length-field-places d) (omega arith)
 
 pub length-perPlace : {A B : Type 0} (ask : Field → ℕ → A) (other : Field → ℕ → B) (fields : List Field)
     → length (perPlace ask fields) ≡ length (perPlace other fields)

@@ -1,14 +1,13 @@
 -- The counts are the lengths of the lists of variables that rewriting makes, whatever the number of the first variable is.
-use mathlib.Core.Path.{_≡_, refl, ap, ap₂, sym, _∙_}
+use mathlib.Core.Path.{_≡_, refl, ap, ap₂, _∙_}
 use mathlib.Core.Bool.{Bool, true, false, _&&_, cond}
-use mathlib.Core.List.{List, [], _∷_, _++_}
+use mathlib.Core.List.{[], _∷_}
 use Prim.Native.Nat.{ℕ, suc, _+_}
-use native.Mathlib.Omega.{arith}
 use lib.ListN.{length, length-append}
-use Rattle.definitions.specs.Syntax.{Name, meName, Owner, everyone, ownedBy, Operator, Expression, Scope, isDivision}
-use Rattle.definitions.specs.Owners.{ownerOf, isPublic}
-use Rattle.definitions.specs.Written.{BodyExpression, Circuit, Variable, supplied, readFrom}
-use Rattle.definitions.specs.Rewriting.{Piece, Generator, kept, onePart, twoParts, supplying, reading, operatorInCircuit, inBody, inCircuit}
+use Rattle.definitions.specs.Syntax.{Owner, everyone, Operator, Expression, Scope, isDivision}
+use Rattle.definitions.specs.Owners.{isPublic}
+use Rattle.definitions.specs.Written.{BodyExpression, Circuit, readFrom}
+use Rattle.definitions.specs.Rewriting.{Generator, kept, onePart, twoParts, supplying, reading, operatorInCircuit, inBody, inCircuit}
 use Rattle.variable_counts.specs.Counts.{operatorCount, bodyCount, circuitCount}
 
 -- A generator makes a number of variables that does not depend on where they begin.

@@ -2,7 +2,6 @@
 use mathlib.Core.Path.{_≡_, refl}
 use mathlib.Core.Bool.{Bool, true, false, _&&_}
 use Prim.Native.Nat.{ℕ, zero, suc}
-use native.Mathlib.Omega.{arith}
 use Rattle.definitions.specs.Syntax.{Expression, Scope, isDivision}
 use Rattle.definitions.specs.Owners.{isPublic}
 use Rattle.definitions.specs.ContractFile.{operatorOf}

@@ -1,11 +1,11 @@
 -- The counts by an expression's kind, as code learns it.
-use mathlib.Core.Path.{_≡_, refl, ap, sym, _∙_}
-use mathlib.Core.Bool.{Bool, true, false, _&&_, cond}
-use Prim.Native.Nat.{ℕ, suc, _+_}
+use mathlib.Core.Path.{_≡_}
+use mathlib.Core.Bool.{true, false, _&&_}
+use Prim.Native.Nat.{ℕ, _+_}
 use native.Mathlib.Numerals.{add-one}
 use Rattle.definitions.specs.Syntax.{DataType, Owner, Operator, Expression, Scope, isDivision}
 use Rattle.definitions.specs.Owners.{isPublic}
-use Rattle.variable_counts.specs.Counts.{operatorCount, bodyCount, circuitCount}
+use Rattle.variable_counts.specs.Counts.{bodyCount, circuitCount}
 
 module _ (scope : Scope) (e : Expression) where
   pub body-constant : (t : DataType) (v : ℕ) → e ≡ Expression.constant t v → 0 ≡ bodyCount scope e

@@ -1,25 +1,24 @@
 -- What the parameters and the log tell of a function's variables is what their origins tell.
 use mathlib.Core.Path.{_≡_, refl, ap, ap₂, sym, _∙_}
-use mathlib.Core.Bool.{Bool, true, false, _&&_, cond}
+use mathlib.Core.Bool.{Bool, false, _&&_}
 use mathlib.Core.List.{List, [], _∷_, _++_, map}
-use Prim.Native.Nat.{ℕ, zero, suc, _+_, _*_, _<_}
+use Prim.Native.Nat.{ℕ, suc, _+_, _*_}
 use native.Mathlib.Omega.{arith}
 use borrow.Author.Tests.{ne-eqb, lt-ltb}
-use lib.Dec.{eqb, ltb}
 use lib.ListN.{length, drop, take, getD, length-map}
 use lib.Seq.{take-at}
-use Rattle.definitions.specs.Syntax.{boolean, Name, meName, finalName, parameterName, Owner, everyone, ownedBy, Parameter, Scope}
-use Rattle.definitions.specs.ContractFile.{byteAt, nodesAt, ownerCode}
+use Rattle.definitions.specs.Syntax.{boolean, meName, finalName, parameterName, Owner, everyone, ownedBy}
+use Rattle.definitions.specs.ContractFile.{nodesAt, ownerCode}
 use Rattle.definitions.specs.DataTypes.{typeOf}
 use Rattle.definitions.specs.Written.{Variable, always}
 use Rattle.definitions.specs.Rewriting.{privateParameters, openings, rewriteStatement, rewriteFunction}
-use Rattle.definitions.specs.Places.{Reader, anyone, only, readerOf}
+use Rattle.definitions.specs.Places.{anyone, readerOf}
 use Rattle.definitions.specs.Ledger.{Content}
 use Rattle.definitions.specs.Calls.{Form, allFit}
 use Rattle.trees.specs.Trees.{expressionIn, statementIn}
 use Rattle.context.specs.Context.{Context, nodesIn, parametersIn, scopeIn}
 use Rattle.context.specs.Functions.{rootAt}
-use Rattle.events.specs.Events.{Event, variablesOf, variableCount}
+use Rattle.events.specs.Events.{Event, variablesOf}
 use Rattle.events.proofs.Statements.{statement-made}
 use Rattle.entries.specs.Entries.{Entries, noEntry, entryThen, suppliedEntry, claimedEntry, readEntry, guardEntry}
 use Rattle.entries.proofs.Laws.{entries-length}
@@ -31,7 +30,7 @@ use Rattle.parameter_output.specs.Parameters.{privateCount}
 use Rattle.function_room.specs.Functions.{writtenIn, eventsIn, privateIn}
 use Rattle.forms_test.specs.Forms.{fitsOrZero, frontFits}
 use Rattle.forms_test.proofs.Laws.{all-front}
-use Rattle.variable_test.specs.Variables.{variableForm, openingForm, openingForms, codeReader, entryForm, loggedForms}
+use Rattle.variable_test.specs.Variables.{variableForm, openingForm, openingForms, codeReader, loggedForms}
 
 -- The address at an owner's code is the owner's.
 reader-told : (addresses : List ℕ) (o : Owner) → Listed o → codeReader addresses (ownerCode o) ≡ readerOf (addressFrom addresses) o

@@ -2,14 +2,14 @@
 use mathlib.Core.Path.{_≡_, refl, ap, sym, _∙_}
 use mathlib.Core.Bool.{Bool, true, false, cond}
 use mathlib.Core.List.{List, [], _∷_}
-use Prim.Native.Nat.{ℕ, zero, suc, _+_, _/_, _<_, _≤_}
+use Prim.Native.Nat.{ℕ, suc, _+_, _/_, _<_, _≤_}
 use native.Mathlib.Omega.{arith}
 use borrow.Author.Tests.{eq-eqb, ne-eqb}
 use lib.Dec.{eqb, leb}
 use lib.ListN.{length, drop, getD, length-drop, length-map, List·getD-eq-default}
 use lib.Seq.{drop-cons}
-use Rattle.definitions.specs.Syntax.{DataType, boolean, address, Expression, Scope}
-use Rattle.definitions.specs.ContractFile.{twoBytesAt, nodesAt, nodeCount, sectionsOf, dataTypeOf}
+use Rattle.definitions.specs.Syntax.{DataType, boolean, Expression}
+use Rattle.definitions.specs.ContractFile.{twoBytesAt, nodeCount, sectionsOf, dataTypeOf}
 use Rattle.definitions.specs.Nodes.{Node, unknownNode, nodeOf, nodeAt, expressionOf}
 use Rattle.definitions.specs.DataTypes.{typeOf}
 use Rattle.definitions.specs.Places.{anyone, only}

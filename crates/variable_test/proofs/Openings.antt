@@ -1,13 +1,12 @@
 -- The reads of private parameters are tested one after another.
-use mathlib.Core.Path.{_≡_, refl, ap, sym, _∙_}
+use mathlib.Core.Path.{_≡_, ap, sym, _∙_}
 use mathlib.Core.Bool.{Bool, true, false, not, cond}
-use mathlib.Core.List.{List, [], _∷_, map}
-use Prim.Native.Nat.{ℕ, zero, suc, _+_, _*_, _<_, _≤_}
+use mathlib.Core.List.{List, _∷_, map}
+use Prim.Native.Nat.{ℕ, suc, _+_, _*_, _<_, _≤_}
 use native.Mathlib.Numerals.{add-one}
-use native.Mathlib.Omega.{arith}
 use borrow.Author.Tests.{eq-eqb, ne-eqb}
 use lib.Dec.{eqb}
-use lib.ListN.{length, drop, getD, length-map, drop-of-length-le}
+use lib.ListN.{length, drop, length-map, drop-of-length-le}
 use lib.Seq.{drop-cons}
 use Rattle.definitions.specs.Syntax.{Parameter, parameterAt}
 use Rattle.definitions.specs.ContractFile.{byteAt, parameterRecords, parameterOf, dataTypeOf}

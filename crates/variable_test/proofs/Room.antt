@@ -1,13 +1,13 @@
 -- The log of a function's events has room, and what it holds is tested.
-use mathlib.Core.Path.{_≡_, refl, ap, ap₂, sym, _∙_, subst}
-use mathlib.Core.Bool.{Bool, true, false, _&&_}
+use mathlib.Core.Path.{_≡_, ap, ap₂, sym, _∙_}
+use mathlib.Core.Bool.{Bool, true, _&&_}
 use mathlib.Core.List.{List, map}
-use Prim.Native.Nat.{ℕ, _+_, _*_, _<_, _≤_}
+use Prim.Native.Nat.{ℕ, _+_, _≤_}
 use native.Mathlib.Omega.{arith}
 use lib.ListN.{length, drop, take, getD}
 use lib.Seq.{length-take-le}
 use Rattle.definitions.specs.ContractFile.{byteAt, nodesAt}
-use Rattle.definitions.specs.Calls.{Form, allFit}
+use Rattle.definitions.specs.Calls.{allFit}
 use Rattle.context.specs.Context.{Context, nodesIn, parametersIn, scopeIn}
 use Rattle.context.specs.Functions.{rootAt}
 use Rattle.contents.specs.Contents.{contentsOf}

@@ -1,26 +1,20 @@
 -- The parts of a view's bytes one behind another, and the cases of a request.
 use mathlib.Core.Path.{_≡_, refl, ap, sym, _∙_}
-use mathlib.Core.Bool.{Bool, true, false, not, _||_, cond}
 use mathlib.Core.List.{List, [], _∷_, _++_, map, append-assoc}
-use Prim.Native.Nat.{ℕ, zero, suc, _+_, _*_, _<_, _≤_, min}
-use native.Mathlib.Nat.{zero-add}
+use Prim.Native.Nat.{ℕ, _+_, _*_, _≤_, min}
 use native.Mathlib.Omega.{arith}
-use borrow.Author.Tests.{lt-ltb, le-ltb}
-use lib.Dec.{ltb, eqb}
-use lib.ListN.{length, take, drop, set, length-append}
+use lib.ListN.{length, set, length-append}
 use lib.Seq.{sets-eq}
 use Rattle.buffer.specs.Buffer.{stored}
 use Rattle.buffer.proofs.Laws.{stored-then}
-use Rattle.definitions.specs.Basics.{flatMap, twoBytes, firstThatHolds}
+use Rattle.definitions.specs.Basics.{flatMap, twoBytes}
 use Rattle.definitions.specs.Ledger as ledger
-use Rattle.definitions.specs.Calls.{isWellFormed}
-use Rattle.definitions.specs.View.{itemFor, itemBytes, itemsFor, viewBytes, viewNumber, viewLength, outputAfterView}
+use Rattle.definitions.specs.View.{itemFor, itemBytes, itemsFor, viewBytes}
 use Rattle.items.specs.Items.{shown}
 use Rattle.items.proofs.Shown.{shown-append, shown-length, contents-length}
-use Rattle.contents.specs.declared.Place.{Place}
 use Rattle.ledgers.specs.declared.Ledger.{Ledger}
 use Rattle.ledgers.specs.Ledgers.{ledgerOf, contentsIn}
-use Rattle.views.specs.Views.{headBytes, Viewed}
+use Rattle.views.specs.Views.{headBytes}
 
 module _ (party : ℕ) where
   shown-items : (contents : List ledger.Content) → flatMap itemBytes (map (itemFor party) contents) ≡ shown party contents

@@ -2,7 +2,7 @@
 use ledgers::Ledger;
 ghost use mathlib.Core.Path.{_≡_};
 ghost use lib.ListN.{length};
-ghost use Prim.Native.Nat.{ℕ, _+_, _*_, _≤_};
+ghost use Prim.Native.Nat.{_+_, _*_, _≤_};
 ghost use Rattle.buffer.specs.Buffer.{stored};
 ghost use Rattle.definitions.specs.Calls.{isWellFormed};
 ghost use Rattle.definitions.specs.View.{viewBytes};

@@ -10,7 +10,7 @@ use file::read_node;
 use positions::position;
 ghost use mathlib.Core.Path.{_≡_};
 ghost use mathlib.Core.Bool.{true, false, _&&_, cond};
-ghost use Prim.Native.Nat.{_+_, _*_, _<_, _≤_};
+ghost use Prim.Native.Nat.{_*_, _<_, _≤_};
 ghost use lib.ListN.{set};
 ghost use Rattle.definitions.specs.Basics.{isTrue};
 ghost use Rattle.definitions.specs.ContractFile.{fieldCount};

@@ -1,13 +1,13 @@
 -- What a node's number stands for as a body, a circuit or a command, by the node's kind, and that its children's numbers are below it.
-use mathlib.Core.Path.{_≡_, refl, ap, sym, _∙_}
+use mathlib.Core.Path.{_≡_, refl, ap, _∙_}
 use mathlib.Core.Bool.{Bool, true, false, _||_, cond}
-use mathlib.Core.List.{List, [], _∷_}
-use Prim.Native.Nat.{ℕ, suc, _+_, _*_, _<_}
+use mathlib.Core.List.{List}
+use Prim.Native.Nat.{ℕ, _+_, _*_, _<_}
 use borrow.Author.Tests.{ne-eqb}
 use lib.Dec.{eqb}
 use Rattle.definitions.specs.ContractFile.{NodeRecord, dataTypeOf, operatorOf}
 use Rattle.definitions.specs.Written.{BodyExpression, Circuit, Command}
-use Rattle.definitions.specs.WrittenFile.{Tree, leaf, oneChild, twoChildren, threeChildren, setting}
+use Rattle.definitions.specs.WrittenFile.{Tree}
 use Rattle.written_trees.specs.Trees.{Form, leafForm, oneForm, twoForm, threeForm, settingForm, formOf, recordAt, treeOf, treeIn, FallsBy, Falling, bodyOf, circuitOf, commandOf, bodyIn, circuitIn, commandIn}
 use Rattle.written_trees.proofs.Unfolding.{tree-unfolds}
 

@@ -1,7 +1,7 @@
 -- A function's body reads back at the root that the written file gives, behind the nodes of the function's circuits.
 use mathlib.Core.Path.{_≡_, refl, ap, sym, _∙_}
 use mathlib.Core.List.{List, [], _∷_, _++_, append-assoc, append-nil}
-use Prim.Native.Nat.{ℕ, suc, _+_, _-_, _≤_}
+use Prim.Native.Nat.{ℕ, suc, _+_, _-_}
 use native.Mathlib.Nat.{add-zero, add-assoc}
 use native.Mathlib.Omega.{arith}
 use lib.ListN.{length, length-append}
@@ -9,7 +9,7 @@ use Rattle.definitions.specs.Basics.{flatMap}
 use Rattle.definitions.specs.ContractFile.{NodeRecord}
 use Rattle.definitions.specs.Written.{Command, WrittenFunction}
 use Rattle.definitions.specs.WrittenFile.{Tree, size, sizes, numbered, numberedAll, commandTree, claimTrees, functionTrees}
-use Rattle.written_trees.specs.Trees.{treeAt, commandOf, commandIn}
+use Rattle.written_trees.specs.Trees.{commandOf, commandIn}
 use Rattle.written_trees.proofs.Numbering.{size-positive, numbered-length, reads-back}
 use Rattle.written_trees.proofs.RoundTrip.{command-shaped, command-said}
 

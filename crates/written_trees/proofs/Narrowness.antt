@@ -1,12 +1,10 @@
 -- The nodes of a numbered tree fit the bytes that they are written to, where the tree's own numbers and its nodes' numbers do.
-use mathlib.Core.Path.{_≡_, refl}
 use mathlib.Core.List.{List, [], _∷_, _++_}
 use Prim.Native.Nat.{ℕ, _+_, _-_, _<_, _≤_}
 use native.Mathlib.Omega.{arith}
 use Rattle.definitions.specs.ContractFile.{NodeRecord, node}
 use Rattle.definitions.specs.WrittenFile.{Tree, leaf, oneChild, twoChildren, threeChildren, setting, size, numbered, sizes, numberedAll}
-use Rattle.written_trees.proofs.Tables.{Narrow, AllNarrow, none, more}
-use Rattle.written_trees.proofs.Numbering.{size-positive}
+use Rattle.written_trees.proofs.Tables.{AllNarrow, none, more}
 
 pub data NarrowTree : Tree → Type 0 where
   narrowLeaf : (kind arg first second : ℕ) → kind < 256 → arg < 256 → first < 65536 → second < 65536 → NarrowTree (leaf kind arg first second)

@@ -1,5 +1,5 @@
 -- The written trees of bodies, circuits and commands have the forms of their kinds, and say what they were written for.
-use mathlib.Core.Path.{_≡_, refl, ap, ap₂, sym, _∙_}
+use mathlib.Core.Path.{_≡_, refl, ap, ap₂, _∙_}
 use mathlib.Core.List.{List, [], _∷_, _++_}
 use Prim.Native.Nat.{ℕ, suc, _+_, _*_, _-_, _/_, _%_, _≤_}
 use native.Mathlib.Omega.{arith}
@@ -7,11 +7,11 @@ use lib.ListN.{length}
 use Rattle.definitions.specs.Basics.{flatMap}
 use Rattle.definitions.specs.Syntax.{DataType, boolean, uint, address, Operator, plus, minus, times, divide, remainder, less, lessOrEqual, equal, unequal, conjunction, disjunction, operatorCode, dataTypeCode}
 use Rattle.definitions.specs.ContractFile.{NodeRecord, dataTypeOf, operatorOf}
-use Rattle.definitions.specs.Written.{BodyExpression, Circuit, Command, Claim, equals, opensForCaller, Constraint, WrittenFunction, WrittenContract}
-use Rattle.definitions.specs.WrittenFile.{Tree, leaf, oneChild, twoChildren, threeChildren, setting, size, numbered, numberedAll, bodyTree, circuitTree, commandTree, claimTrees, functionTrees}
-use Rattle.written_trees.specs.Trees.{formOf, treeAt, treeIn, bodyOf, circuitOf, commandOf, bodyAt, circuitAt, commandAt, bodyIn, circuitIn, commandIn, FallingFrom, Falling}
+use Rattle.definitions.specs.Written.{BodyExpression, Circuit, Command, Claim, equals, opensForCaller, Constraint, WrittenFunction}
+use Rattle.definitions.specs.WrittenFile.{size, numbered, bodyTree, circuitTree, commandTree, claimTrees, functionTrees}
+use Rattle.written_trees.specs.Trees.{formOf, bodyOf, circuitOf, commandOf, bodyAt, circuitAt, circuitIn}
 use Rattle.written_trees.proofs.Numbering.{Shaped, leafShaped, oneShaped, twoShaped, threeShaped, settingShaped, size-positive, reads-back}
-use Rattle.written_trees.proofs.Falls.{AllShaped, none, more, shaped-append, all-numbered-falls, falling-whole}
+use Rattle.written_trees.proofs.Falls.{AllShaped, none, more, shaped-append}
 
 pub body-shaped : (e : BodyExpression) → Shaped (bodyTree e)
 unfolding bodyTree formOf
@@ -106,20 +106,10 @@ module _ (levels : ℕ) (before after : List NodeRecord) where
       → circuitAt levels (before ++ (numbered (length before) (circuitTree e) ++ after)) (length before + size (circuitTree e) - 1) ≡ e
   circuit-back e h = ap circuitOf (reads-back (circuitTree e) (circuit-shaped e) levels _ before after _ refl refl h) ∙ circuit-said e
 
-  pub command-back : (c : Command) → size (commandTree c) ≤ levels
-      → commandAt levels (before ++ (numbered (length before) (commandTree c) ++ after)) (length before + size (commandTree c) - 1) ≡ c
-  command-back c h = ap commandOf (reads-back (commandTree c) (command-shaped c) levels _ before after _ refl refl h) ∙ command-said c
-
 -- With just the levels that a node's number gives.
 module _ (before after : List NodeRecord) where
-  pub body-is-back : (e : BodyExpression) → bodyIn (before ++ (numbered (length before) (bodyTree e) ++ after)) (length before + size (bodyTree e) - 1) ≡ e
-  body-is-back e = let p = size-positive (bodyTree e) in body-back (suc (length before + size (bodyTree e) - 1)) before after e (omega arith)
-
   pub circuit-is-back : (e : Circuit) → circuitIn (before ++ (numbered (length before) (circuitTree e) ++ after)) (length before + size (circuitTree e) - 1) ≡ e
   circuit-is-back e = let p = size-positive (circuitTree e) in circuit-back (suc (length before + size (circuitTree e) - 1)) before after e (omega arith)
-
-  pub command-is-back : (c : Command) → commandIn (before ++ (numbered (length before) (commandTree c) ++ after)) (length before + size (commandTree c) - 1) ≡ c
-  command-is-back c = let p = size-positive (commandTree c) in command-back (suc (length before + size (commandTree c) - 1)) before after c (omega arith)
 
 -- All nodes of a written contract.
 claims-shaped : (constraints : List Constraint) → AllShaped (flatMap (λ c. claimTrees (c .claim)) constraints)
@@ -136,6 +126,3 @@ unfolding flatMap
 functions-shaped [] = none
 functions-shaped (g ∷ gs) =
     shaped-append _ _ (shaped-append _ _ (claims-shaped (g .constraints)) (more _ _ (command-shaped (g .body)) none)) (functions-shaped gs)
-
-pub contract-falls : (c : WrittenContract) → Falling (numberedAll 0 (flatMap functionTrees (c .functions)))
-contract-falls c = falling-whole _ (all-numbered-falls _ (functions-shaped (c .functions)) 0)

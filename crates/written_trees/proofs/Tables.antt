@@ -1,10 +1,10 @@
 -- The node at a number of the table, and a table read back from the bytes that it was written to.
 use mathlib.Core.Path.{_≡_, refl, ap, ap₂, sym, _∙_}
 use mathlib.Core.List.{List, [], _∷_, _++_, append-assoc, append-nil}
-use Prim.Native.Nat.{ℕ, zero, suc, _+_, _*_, _/_, _%_, _<_, _≤_}
+use Prim.Native.Nat.{ℕ, _+_, _*_, _/_, _%_, _<_, _≤_}
 use native.Mathlib.Nat.{zero-add, add-zero}
 use native.Mathlib.Omega.{arith}
-use lib.ListN.{length, getD, List·getD-eq-default, length-append}
+use lib.ListN.{length, List·getD-eq-default, length-append}
 use Rattle.definitions.specs.Basics.{flatMap}
 use lib.Seq.{getD-append-add}
 use Rattle.definitions.specs.ContractFile.{NodeRecord, byteAt, twoBytesAt, nodeRecord, nodeRecords, node}

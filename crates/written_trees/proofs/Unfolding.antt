@@ -1,11 +1,11 @@
 -- The tree of a node unfolds into its children's trees: more levels than a node's number change nothing.
-use mathlib.Core.Path.{_≡_, refl, ap, ap₂, sym, _∙_}
-use mathlib.Core.List.{List, [], _∷_}
+use mathlib.Core.Path.{_≡_, refl, ap, ap₂}
+use mathlib.Core.List.{List}
 use Prim.Native.Nat.{ℕ, zero, suc, _<_}
 use native.Mathlib.Omega.{arith}
 use Rattle.definitions.specs.ContractFile.{NodeRecord}
-use Rattle.definitions.specs.WrittenFile.{Tree, leaf, oneChild, twoChildren, threeChildren, setting}
-use Rattle.written_trees.specs.Trees.{Form, leafForm, oneForm, twoForm, threeForm, settingForm, formOf, recordAt, treeOf, treeAt, treeIn, FallsBy, Falls, Falling}
+use Rattle.definitions.specs.WrittenFile.{Tree, oneChild, twoChildren, threeChildren, setting}
+use Rattle.written_trees.specs.Trees.{Form, leafForm, oneForm, twoForm, threeForm, settingForm, formOf, recordAt, treeOf, treeAt, treeIn, FallsBy, Falling}
 
 -- Two readings of the children agree below n, so the node's tree is the same by either.
 module _ (n : ℕ) (f g : ℕ → Tree) (same : (m : ℕ) → m < n → f m ≡ g m) where

@@ -1,6 +1,5 @@
 -- A table of written nodes read back: a node's tree by its kind, and what a tree says as a body, a circuit or a command.
-use mathlib.Core.Path.{_≡_}
-use mathlib.Core.Bool.{Bool, true, false, _||_, cond}
+use mathlib.Core.Bool.{_||_, cond}
 use mathlib.Core.List.{List, [], _∷_}
 use Prim.Native.Nat.{ℕ, zero, suc, _+_, _*_, _<_}
 use lib.Dec.{eqb}
@@ -91,9 +90,6 @@ bodyAt levels nodes n = bodyOf (treeAt levels nodes n)
 
 abbrev pub circuitAt : ℕ → List NodeRecord → ℕ → Circuit
 circuitAt levels nodes n = circuitOf (treeAt levels nodes n)
-
-abbrev pub commandAt : ℕ → List NodeRecord → ℕ → Command
-commandAt levels nodes n = commandOf (treeAt levels nodes n)
 
 abbrev pub bodyIn : List NodeRecord → ℕ → BodyExpression
 bodyIn nodes n = bodyOf (treeIn nodes n)

@@ -1,10 +1,8 @@
 -- The loop's invariant: the bytes passed are stored, and the buffer keeps its length.
-use mathlib.Core.Path.{_≡_, refl, ap, sym, _∙_}
-use mathlib.Core.List.{[], _∷_}
-use Prim.Native.Nat.{ℕ, _+_, _-_, _≤_}
+use mathlib.Core.Path.{_≡_, refl}
+use Prim.Native.Nat.{_-_, _≤_}
 use native.Mathlib.Omega.{arith}
-use lib.ListN.{length, take, getD}
-use lib.Seq.{take-all}
+use lib.ListN.{length, take}
 use borrow.Author.Needs.{needs}
 use Rattle.buffer.specs.Buffer.{stored}
 use Rattle.append.proofs.Laws.{copied-start, copied-next, copied-all}

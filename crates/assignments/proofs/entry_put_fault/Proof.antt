@@ -1,7 +1,7 @@
 -- `assignments::entry_put_fault` meets its contract.
 use Rattle.codes.proofs.Codes.{place-listed}
 use Rattle.definitions.specs.Numbers.{targetInTables}
-use mathlib.Core.Path.{_≡_, refl, ap, sym, _∙_}
+use mathlib.Core.Path.{ap, _∙_}
 use borrow.Author.Needs.{needs}
 use Rattle.assignments.proofs.entry_put_fault.Statement.{statement}
 use Rattle.assignments.proofs.entry_put_fault.Tie as tie

@@ -1,7 +1,7 @@
 -- `assignments::field_fault` meets its contract.
 use Rattle.codes.proofs.Codes.{place-listed}
 use Rattle.definitions.specs.Numbers.{targetInTables}
-use mathlib.Core.Path.{_≡_, refl, ap, sym, _∙_}
+use mathlib.Core.Path.{refl, ap, _∙_}
 use borrow.Author.Needs.{needs}
 use Rattle.assignments.proofs.field_fault.Statement.{statement}
 use Rattle.assignments.proofs.field_fault.Tie as tie

@@ -1,5 +1,5 @@
 -- `codes::data_type` meets its contract.
-use borrow.Author.Tests.{eq-eqb, ne-eqb}
+use borrow.Author.Tests.{ne-eqb}
 use Rattle.codes.proofs.data_type.Statement.{statement}
 use Rattle.codes.proofs.data_type.Tie as tie
 

@@ -1,6 +1,6 @@
 -- `codes::is_division` meets its contract.
 use Rattle.codes.proofs.Codes.{division-code}
-use mathlib.Core.Path.{_≡_, refl, sym, _∙_}
+use mathlib.Core.Path.{_∙_}
 use borrow.Author.Needs.{needs}
 use Rattle.codes.proofs.is_division.Statement.{statement}
 use Rattle.codes.proofs.is_division.Tie as tie

@@ -1,6 +1,6 @@
 -- `codes::misplaced` meets its contract.
 use Rattle.codes.proofs.Codes.{put-by-all, put-for-all, put-linked}
-use mathlib.Core.Path.{_≡_, refl, sym, _∙_}
+use mathlib.Core.Path.{_∙_}
 use borrow.Author.Needs.{needs}
 use Rattle.codes.proofs.misplaced.Statement.{statement}
 use Rattle.codes.proofs.misplaced.Tie as tie

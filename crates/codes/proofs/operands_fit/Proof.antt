@@ -1,6 +1,6 @@
 -- `codes::operands_fit` meets its contract.
 use Rattle.codes.proofs.Codes.{fit-rest}
-use mathlib.Core.Path.{_≡_, refl, sym, _∙_}
+use mathlib.Core.Path.{sym, _∙_}
 use borrow.Author.Needs.{needs}
 use Rattle.codes.proofs.operands_fit.Statement.{statement}
 use Rattle.codes.proofs.operands_fit.Tie as tie

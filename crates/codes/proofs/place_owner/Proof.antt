@@ -1,5 +1,5 @@
 -- `codes::place_owner` meets its contract.
-use borrow.Author.Tests.{eq-eqb, ne-eqb}
+use borrow.Author.Tests.{ne-eqb}
 use Rattle.codes.proofs.place_owner.Statement.{statement}
 use Rattle.codes.proofs.place_owner.Tie as tie
 

@@ -1,6 +1,6 @@
 -- `codes::result_type` meets its contract.
 use Rattle.codes.proofs.Codes.{result-rest}
-use mathlib.Core.Path.{_≡_, refl, sym, _∙_}
+use mathlib.Core.Path.{sym}
 use Rattle.codes.proofs.result_type.Statement.{statement}
 use Rattle.codes.proofs.result_type.Tie as tie
 

@@ -1,6 +1,6 @@
 -- `codes::unread` meets its contract.
 use Rattle.codes.proofs.Codes.{read-by-all, read-by-caller}
-use mathlib.Core.Path.{_≡_, refl, sym, _∙_}
+use mathlib.Core.Path.{_∙_}
 use borrow.Author.Needs.{needs}
 use Rattle.codes.proofs.unread.Statement.{statement}
 use Rattle.codes.proofs.unread.Tie as tie

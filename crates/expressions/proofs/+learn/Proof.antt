@@ -6,7 +6,7 @@ use Rattle.scopes.proofs.ByKind.{operator-tree, no-links-learnt, left-below, ri
 use Rattle.file.specs.Node.{recordOf}
 use borrow.Author.Needs.{needs}
 use native.Mathlib.Omega.{arith}
-use mathlib.Core.Path.{_≡_, refl, ap, sym, _∙_}
+use mathlib.Core.Path.{_≡_, sym, _∙_}
 use Prim.Native.Nat.{ℕ, _<_}
 use borrow.Fn.Kinds.{In}
 use borrow.Fn.PlainCycle.{Measures, is, falls, and}

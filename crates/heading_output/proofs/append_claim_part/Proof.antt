@@ -1,9 +1,8 @@
 -- The count, the constraints of the private parameters, and those of the log.
 use Prim.Native.Nat.{_+_}
 use Rattle.definitions.specs.Basics.{twoBytes}
-use Rattle.logged_variables.specs.PerEntry.{perEntry, countTag}
-use Rattle.logged_variables.specs.Variables.{variableOf}
-use Rattle.parameter_output.specs.Parameters.{openingVariables, openingClaims}
+use Rattle.logged_variables.specs.PerEntry.{countTag}
+use Rattle.parameter_output.specs.Parameters.{openingClaims}
 use Rattle.append.proofs.Laws.{second-room, third-room, three-appended}
 use Rattle.heading_output.proofs.Parts.{counted}
 use borrow.Author.Needs.{needs}

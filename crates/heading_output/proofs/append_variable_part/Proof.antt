@@ -1,9 +1,9 @@
 -- The count, the reads of private parameters, and the variables of the log.
 use Prim.Native.Nat.{_+_}
 use Rattle.definitions.specs.Basics.{twoBytes}
-use Rattle.logged_variables.specs.PerEntry.{perEntry, countTag}
+use Rattle.logged_variables.specs.PerEntry.{perEntry}
 use Rattle.logged_variables.specs.Variables.{variableOf}
-use Rattle.parameter_output.specs.Parameters.{openingVariables, openingClaims}
+use Rattle.parameter_output.specs.Parameters.{openingVariables}
 use Rattle.append.proofs.Laws.{second-room, third-room, three-appended}
 use borrow.Author.Needs.{needs}
 use Rattle.heading_output.proofs.append_variable_part.Statement.{statement}

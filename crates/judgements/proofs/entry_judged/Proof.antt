@@ -1,6 +1,6 @@
 -- `judgements::entry_judged` meets its contract.
 use Rattle.definitions.specs.Numbers.{targetInTables}
-use mathlib.Core.Path.{_≡_, refl, ap, sym, _∙_}
+use mathlib.Core.Path.{ap, _∙_}
 use Rattle.codes.proofs.Codes.{place-listed}
 use borrow.Author.Needs.{needs}
 use Rattle.judgements.proofs.entry_judged.Statement.{statement}

@@ -1,7 +1,7 @@
 -- `judgements::field_judged` meets its contract.
 use Rattle.codes.proofs.Codes.{place-listed}
 use Rattle.definitions.specs.Numbers.{targetInTables}
-use mathlib.Core.Path.{_≡_, refl, ap, sym, _∙_}
+use mathlib.Core.Path.{refl, ap, _∙_}
 use borrow.Author.Needs.{needs}
 use Rattle.judgements.proofs.field_judged.Statement.{statement}
 use Rattle.judgements.proofs.field_judged.Tie as tie

@@ -1,6 +1,6 @@
 -- `judgements::parameter_judged` meets its contract.
 use Rattle.definitions.specs.Numbers.{targetInTables}
-use mathlib.Core.Path.{_≡_, refl, ap, sym, _∙_}
+use mathlib.Core.Path.{ap, _∙_}
 use lib.Dec.{eqb}
 use mathlib.Core.Bool.{not}
 use Rattle.codes.proofs.Codes.{caller-listed}

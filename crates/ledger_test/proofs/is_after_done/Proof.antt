@@ -1,7 +1,6 @@
 -- The parameters are tested, then the variables.
 use mathlib.Core.Path.{sym}
 use native.Mathlib.Omega.{arith}
-use Rattle.contents.specs.Contents.{contentsOf}
 use Rattle.ledgers.specs.Ledgers.{ledgerOf}
 use Rattle.ledger_test.proofs.Flats.{flat-cut}
 use Rattle.ledger_test.proofs.Files.{room-at, parameters-few}

@@ -1,5 +1,5 @@
 -- The places are tested, then the last call.
-use mathlib.Core.Path.{_≡_, ap, sym, _∙_}
+use mathlib.Core.Path.{sym}
 use native.Mathlib.Omega.{arith}
 use Rattle.ledgers.specs.Ledgers.{ledgerOf}
 use Rattle.ledger_test.proofs.Flats.{flat-cut, numbers-are, numbers-long}

@@ -1,9 +1,9 @@
 -- `links::joined` meets its contract: the classes passed are exchanged, those ahead are as before.
-use mathlib.Core.Path.{_≡_, refl, _∙_}
-use Prim.Native.Nat.{ℕ, _≤_, _<_, _-_}
+use mathlib.Core.Path.{_≡_}
+use Prim.Native.Nat.{_≤_, _<_, _-_}
 use native.Mathlib.Omega.{arith}
 use borrow.Author.Needs.{needs}
-use lib.ListN.{length, getD}
+use lib.ListN.{length}
 use Rattle.links.proofs.Joining.{UpTo, up-to-start, up-to-next}
 use Rattle.links.proofs.joined.Statement.{statement}
 use Rattle.links.proofs.joined.Tie as tie

@@ -1,8 +1,7 @@
 -- `owners::owner_code` meets its contract, by recursion with the node number falling.
 use borrow.Author.Needs.{needs}
-use mathlib.Core.Path.{sym, _∙_}
 use native.Mathlib.Omega.{arith}
-use Rattle.context.proofs.Nodes.{constant-is, field-is, entry-is, parameter-is, operator-is, negation-is, reveal-is, other-is, key-below, operands-below, part-below, listed-is}
+use Rattle.context.proofs.Nodes.{constant-is, field-is, entry-is, parameter-is, operator-is, negation-is, reveal-is, other-is, key-below, operands-below, part-below}
 use Rattle.owners.proofs.Names.{owned-constant, owned-me, owned-field, owned-entry, owned-parameter, owned-operator, owned-negation, owned-reveal}
 use Rattle.owners.proofs.Targets.{target-listed}
 use Prim.Native.Nat.{ℕ, _<_}

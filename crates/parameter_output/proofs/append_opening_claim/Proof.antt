@@ -1,6 +1,4 @@
 -- Guard, variable and root.
-use Prim.Native.Nat.{_+_}
-use native.Mathlib.Omega.{arith}
 use Rattle.definitions.specs.Basics.{twoBytes}
 use Rattle.append.proofs.Laws.{three-appended}
 use borrow.Author.Needs.{needs}

@@ -1,8 +1,7 @@
 -- The loop's invariant: those counted and those left are all.
-use mathlib.Core.Path.{_≡_, refl}
-use Prim.Native.Nat.{_+_, _*_, _-_, _≤_}
+use mathlib.Core.Path.{_≡_}
+use Prim.Native.Nat.{_+_, _*_, _≤_}
 use native.Mathlib.Omega.{arith}
-use lib.ListN.{length}
 use borrow.Author.Needs.{needs}
 use Rattle.parameter_output.specs.Parameters.{privateCount}
 use Rattle.parameter_output.proofs.Parameters.{private-next, private-done}

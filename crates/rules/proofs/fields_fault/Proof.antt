@@ -9,7 +9,7 @@ use lib.ListN.{drop}
 use Prim.Native.Nat.{_≤_, _-_, min}
 use borrow.Author.Needs.{needs}
 use native.Mathlib.Omega.{arith}
-use mathlib.Core.Path.{_≡_, refl, ap, sym, _∙_}
+use mathlib.Core.Path.{_≡_, ap, _∙_}
 use Rattle.rules.proofs.fields_fault.Statement.{statement}
 use Rattle.rules.proofs.fields_fault.Tie as tie
 

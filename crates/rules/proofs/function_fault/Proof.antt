@@ -4,7 +4,7 @@ use Rattle.scopes.proofs.Lists.{length-parameterRecords}
 use Rattle.definitions.specs.ContractFile.{byteAt}
 use Prim.Native.Nat.{_+_}
 use native.Mathlib.Omega.{arith}
-use mathlib.Core.Path.{_≡_, refl, ap, sym, _∙_}
+use mathlib.Core.Path.{sym}
 use borrow.Author.Needs.{needs}
 use Rattle.rules.proofs.function_fault.Statement.{statement}
 use Rattle.rules.proofs.function_fault.Tie as tie

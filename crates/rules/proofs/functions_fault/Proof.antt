@@ -4,7 +4,7 @@ use Rattle.rules.specs.Sections.{allFunctionsFault}
 use Prim.Native.Nat.{_≤_, min}
 use borrow.Author.Needs.{needs}
 use native.Mathlib.Omega.{arith}
-use mathlib.Core.Path.{_≡_, refl, ap, sym, _∙_}
+use mathlib.Core.Path.{_≡_, ap, _∙_}
 use Rattle.rules.proofs.functions_fault.Statement.{statement}
 use Rattle.rules.proofs.functions_fault.Tie as tie
 

@@ -1,6 +1,5 @@
 -- `rules::rules_number` meets its contract.
 use Rattle.rules.proofs.Functions.{number-is, least-parts, number-none, number-some}
-use mathlib.Core.Path.{_≡_, refl, ap, sym, _∙_}
 use borrow.Author.Needs.{needs}
 use Rattle.rules.proofs.rules_number.Statement.{statement}
 use Rattle.rules.proofs.rules_number.Tie as tie

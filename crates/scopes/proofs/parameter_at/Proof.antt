@@ -1,7 +1,7 @@
 -- `scopes::parameter_at` meets its contract.
 use Rattle.definitions.specs.ContractFile.{dataTypeOf}
 use Rattle.definitions.specs.Syntax.{dataTypeCode}
-use mathlib.Core.Path.{_≡_, refl, ap, sym, _∙_}
+use mathlib.Core.Path.{ap, _∙_}
 use native.Mathlib.Omega.{arith}
 use Rattle.scopes.proofs.Settling.{parameter-there, parameter-missing}
 use borrow.Author.Needs.{needs}

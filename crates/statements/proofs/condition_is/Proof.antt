@@ -1,6 +1,6 @@
 -- `statements::condition_is` meets its contract.
 use Rattle.assignments.proofs.Putting.{condition-fault-is}
-use mathlib.Core.Path.{_≡_, sym, _∙_}
+use mathlib.Core.Path.{sym, _∙_}
 use borrow.Author.Needs.{needs}
 use Rattle.statements.proofs.condition_is.Statement.{statement}
 use Rattle.statements.proofs.condition_is.Tie as tie

@@ -1,6 +1,6 @@
 -- `step_output::close_steps` meets its contract, by recursion with the count falling.
 use borrow.Author.Needs.{needs}
-use mathlib.Core.Path.{sym, _∙_}
+use mathlib.Core.Path.{_∙_}
 use native.Mathlib.Omega.{arith}
 use Prim.Native.Nat.{_-_}
 use Rattle.step_output.proofs.Closing.{closed-none, closed-next}

@@ -1,6 +1,5 @@
 -- `step_output::put_steps` meets its contract, by recursion with the entries left falling.
-use borrow.Author.Needs.{needs}
-use mathlib.Core.Path.{refl, sym, _∙_}
+use mathlib.Core.Path.{refl, _∙_}
 use native.Mathlib.Omega.{arith}
 use Prim.Native.Nat.{_+_}
 use Rattle.step_output.proofs.Entries.{steps-none, steps-read, steps-other, readable-next, readable-inside, readable-few}

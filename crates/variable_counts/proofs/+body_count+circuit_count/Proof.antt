@@ -1,6 +1,5 @@
 -- The two counts meet their contracts, as a cycle: around it the node number falls, or a body's count asks for the same node's circuit.
-use borrow.Author.Needs.{needs}
-use mathlib.Core.Path.{sym, _∙_, ap}
+use mathlib.Core.Path.{sym, _∙_}
 use Prim.Native.Nat.{_+_, _*_}
 use native.Mathlib.Omega.{arith}
 use Rattle.context.specs.Context.{scopeIn}

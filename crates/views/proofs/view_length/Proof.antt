@@ -1,7 +1,6 @@
 -- The three counts make the length.
 use mathlib.Core.Path.{_≡_}
 use lib.ListN.{length}
-use native.Mathlib.Omega.{arith}
 use Rattle.ledgers.proofs.Flat.{unmapped}
 use Rattle.views.proofs.Views.{view-length}
 use borrow.Author.Needs.{needs}

@@ -1,5 +1,5 @@
 -- `walk::hands_on` meets its contract.
-use mathlib.Core.Path.{_≡_, ap, sym, _∙_}
+use mathlib.Core.Path.{ap, sym, _∙_}
 use native.Mathlib.Omega.{arith}
 use Rattle.definitions.specs.ContractFile.{NodeRecord}
 use Rattle.written_trees.proofs.Read.{read-here}
