@@ -160,8 +160,7 @@ module _ (l : Ledger) (function caller : ℕ) where
     unfoldable pub callWith : Ledger
     callWith = cond isDone afterDone afterFailed
 
--- "An honest supplied variable holds what the original works out for its expression, as a cell of its owner if a cell; in an untaken
--- branch it stays plain 0."
+-- "An honest supplied variable holds what the original works out for its expression, as a cell of its owner if a cell; in an untaken branch it stays plain 0."
 module _ (scope : Scope) (address : Name → ℕ) (call : ℕ) (arguments : List ℕ) where
   abbrev pub valueIn : List ℕ → Expression → ℕ
   valueIn = value (scope .fields) address arguments

@@ -15,8 +15,8 @@ kindOf n =
     (cond (eqb n 16) skipKind (cond (eqb n 17) sequenceKind (cond (eqb n 18) assignFieldKind (cond (eqb n 19) assignEntryKind
     (cond (eqb n 20) requireKind (cond (eqb n 21) conditionalKind noKind)))))))))))))
 
--- A node as its kind uses it: the fields that it names, "in owner codes too"; the children that are due to be expressions, and those that
--- are due to be statements; the tree that it makes of its children's.
+-- A node as its kind uses it: the fields that it names, "in owner codes too"; its children, those that are due to be expressions and then
+-- those that are due to be statements; the tree that it makes of theirs.
 pub data Node : Type 0 where
   expressionNode : (fields expressions : List ℕ) → ((ℕ → Expression) → Expression) → Node
   statementNode : (fields expressions statements : List ℕ) → ((ℕ → Expression) → (ℕ → Statement) → Statement) → Node
@@ -59,38 +59,37 @@ abbrev pub nodeAt : List Node → ℕ → Node
 nodeAt nodes n = getD nodes n unknownNode
 
 unfoldable pub fieldsNamed : Node → List ℕ
-fieldsNamed = elim [ expressionNode fields es make ↦ fields | statementNode fields es ss make ↦ fields | unknownNode ↦ [] ]
+fieldsNamed = elim [ expressionNode fields _ _ ↦ fields | statementNode fields _ _ _ ↦ fields | unknownNode ↦ [] ]
 
 unfoldable pub expressionParts : Node → List ℕ
-expressionParts = elim [ expressionNode fields es make ↦ es | statementNode fields es ss make ↦ es | unknownNode ↦ [] ]
+expressionParts = elim [ expressionNode _ expressions _ ↦ expressions | statementNode _ expressions _ _ ↦ expressions | unknownNode ↦ [] ]
 
 unfoldable pub statementParts : Node → List ℕ
-statementParts = elim [ expressionNode fields es make ↦ [] | statementNode fields es ss make ↦ ss | unknownNode ↦ [] ]
+statementParts = elim [ expressionNode _ _ _ ↦ [] | statementNode _ _ statements _ ↦ statements | unknownNode ↦ [] ]
 
 abbrev pub children : Node → List ℕ
 children node = expressionParts node ++ statementParts node
 
 abbrev pub isExpression : Node → Bool
-isExpression = elim [ expressionNode fields es make ↦ true | statementNode fields es ss make ↦ false | unknownNode ↦ false ]
+isExpression = elim [ expressionNode _ _ _ ↦ true | statementNode _ _ _ _ ↦ false | unknownNode ↦ false ]
 
 abbrev pub isStatement : Node → Bool
-isStatement = elim [ expressionNode fields es make ↦ false | statementNode fields es ss make ↦ true | unknownNode ↦ false ]
+isStatement = elim [ expressionNode _ _ _ ↦ false | statementNode _ _ _ _ ↦ true | unknownNode ↦ false ]
 
--- How many nodes the longest chain from node n to a leaf has. A child's number is below its parent's, so n + 1 levels hold
--- the whole tree of node n; so for the trees below.
+-- How many nodes the longest chain from node n to a leaf has. Children's numbers fall, so n + 1 levels hold all of node n's tree.
 unfoldable pub chainLength : ℕ → List Node → ℕ → ℕ
 chainLength zero nodes n = 0
 chainLength (suc levels) nodes n = suc (largest (map (chainLength levels nodes) (children (nodeAt nodes n))))
 
 unfoldable pub expressionOf : Node → (ℕ → Expression) → Expression
-expressionOf node below = elim node [ expressionNode fields es make ↦ make below | statementNode fields es ss make ↦ me | unknownNode ↦ me ]
+expressionOf node below = elim node [ expressionNode _ _ make ↦ make below | statementNode _ _ _ _ ↦ me | unknownNode ↦ me ]
 
 unfoldable pub expressionAt : ℕ → List Node → ℕ → Expression
 expressionAt zero nodes n = me
 expressionAt (suc levels) nodes n = expressionOf (nodeAt nodes n) (expressionAt levels nodes)
 
 unfoldable pub statementOf : Node → (ℕ → Expression) → (ℕ → Statement) → Statement
-statementOf node expression below = elim node [ expressionNode fields es make ↦ skip | statementNode fields es ss make ↦ make expression below | unknownNode ↦ skip ]
+statementOf node expression below = elim node [ expressionNode _ _ _ ↦ skip | statementNode _ _ _ make ↦ make expression below | unknownNode ↦ skip ]
 
 unfoldable pub statementAt : ℕ → List Node → ℕ → Statement
 statementAt zero nodes n = skip

@@ -68,8 +68,7 @@ module _ (fields : List Field) (address : Name → ℕ) (arguments : List ℕ) w
   completes places (conditional condition then else) =
       isWorkedOut places condition && cond (isTrue (value places condition)) (completes places then) (completes places else)
 
-  -- "Each reveal to all or to the party's address, once worked out, adds its value to what the call discloses to the party, up to a
-  -- failure."
+  -- "Each reveal to all or to the party's address, once worked out, adds its value to what the call discloses to the party, up to a failure."
   module _ (party : ℕ) where
     unfoldable pub disclosed : List ℕ → Expression → List ℕ
     disclosed places (constant t v) = []
@@ -93,8 +92,7 @@ module _ (fields : List Field) (address : Name → ℕ) (arguments : List ℕ) w
         disclosed places condition
         ++ cond (isWorkedOut places condition) (cond (isTrue (value places condition)) (disclosedBy places then) (disclosedBy places else)) []
 
--- A call of the original, by function, caller and arguments: whether it completes, the places after it, and what it discloses to a
--- party. "after failed ones its places are restored"
+-- A call of the original: whether it completes, the places after it ("after failed ones its places are restored"), what it discloses to a party.
 module _ (contract : Contract) (places : List ℕ) (function caller : ℕ) (arguments : List ℕ) where
   abbrev pub callAddress : Name → ℕ
   callAddress = addressIn (scopeOf contract function) caller arguments places

@@ -29,8 +29,7 @@ pub data Command : Type 0 where
   conditional : BodyExpression → Command → Command → Command
   setVariable : ℕ → BodyExpression → Command
 
--- "Origins: 0 supplied plain, 1 supplied cell, 2 read plain, 3 read cell, 4 guard." A variable keeps the expression that it is
--- supplied for or read from, and its owner.
+-- "Origins: 0 supplied plain, 1 supplied cell, 2 read plain, 3 read cell, 4 guard." With its owner, and the expression supplied or read.
 pub data Variable : Type 0 where
   supplied readFrom : Owner → Expression → Variable
   guard : Variable

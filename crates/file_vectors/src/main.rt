@@ -1,10 +1,11 @@
-// Checks and writes each contract on standard input, compares every number and byte with those recorded beside it, and prints how many
-// records were read and how many differ. A record is: length of the file (2), the file, its number (1), length of the written file (2), that file.
+// Checks, writes and reports on each contract on standard input, compares every number and byte with those recorded beside it, and prints how
+// many records were read and how many differ. A record is: length of the file (2), the file, its number (1), length of the written file (2), that
+// file, length of the report (2), the report.
 use file::two_bytes_at;
 use libc::STDIN_FILENO;
 use libc::STDOUT_FILENO;
 ghost use mathlib.Core.Path.{_≡_};
-ghost use Prim.Native.Nat.{_≤_};
+ghost use Prim.Native.Nat.{_≤_, _+_};
 ghost use lib.ListN.{length};
 
 struct Tally {
@@ -62,14 +63,11 @@ fn agrees_in(file: &[u8], number: u8, written: &[u8], out: &mut [u8], room: usiz
 }
 
 // In ample room, in room for just the written file, and in one byte less.
-fn agrees(file: &[u8], number: u8, written: &[u8], out: &mut [u8]) -> bool
+fn writes(file: &[u8], number: u8, written: &[u8], out: &mut [u8]) -> bool
     requires { ⌜ 49152 ≤ length (now out) ⌝ }
 {
     let length = written.len();
     if 49152 < length {
-        return false;
-    }
-    if checking::check(file) != number {
         return false;
     }
     if !agrees_in(file, number, written, out, 49152) {
@@ -84,35 +82,60 @@ fn agrees(file: &[u8], number: u8, written: &[u8], out: &mut [u8]) -> bool
     agrees_in(file, number, written, out, length - 1)
 }
 
+fn reports(file: &[u8], number: u8, text: &[u8], out: &mut [u8]) -> bool {
+    fill(out);
+    let answer = reporting::report(file, out);
+    answer.number == number && answer.length == text.len() && holds(out, text)
+}
+
+fn agrees(file: &[u8], number: u8, written: &[u8], text: &[u8], out: &mut [u8]) -> bool
+    requires { ⌜ 49152 ≤ length (now out) ⌝ }
+{
+    if checking::check(file) != number {
+        return false;
+    }
+    if !writes(file, number, written, out) {
+        return false;
+    }
+    reports(file, number, text, out)
+}
+
+// Where the part that begins at a place, with its length, ends. A length that is not there reads as 0.
+fn part_end(input: &[u8], at: usize) -> usize
+    requires { ⌜ at ≤ 2000000 ⌝ }
+    ensures { λ r. ⌜ (at + 2 ≤ r) × (r ≤ at + 65537) ⌝ }
+{
+    at + 2 + two_bytes_at(input, at)
+}
+
 // A record that is cut short counts as different, and ends the reading.
 fn compare(input: &[u8], out: &mut [u8]) -> Tally
-    requires { ⌜ 49152 ≤ length (now out) ⌝ }
+    requires { ⌜ (length (now input) ≤ 700000) × (49152 ≤ length (now out)) ⌝ }
 {
     let mut records: usize = 0;
     let mut different: usize = 0;
     let mut at: usize = 0;
     while at < input.len() {
-        let length = two_bytes_at(input, at);
-        if input.len() - at < length + 5 {
+        let file_end = part_end(input, at);
+        let written_end = part_end(input, file_end + 1);
+        let end = part_end(input, written_end);
+        if input.len() < end {
             return Tally {
                 records: records,
                 different: different + 1,
             };
         }
-        let end = at + 2 + length;
-        let written = two_bytes_at(input, end + 1);
-        if input.len() - end < written + 3 {
-            return Tally {
-                records: records,
-                different: different + 1,
-            };
-        }
-        let next = end + 3 + written;
-        if !agrees(&input[at + 2..end], input[end], &input[end + 3..next], out) {
+        if !agrees(
+            &input[at + 2..file_end],
+            input[file_end],
+            &input[file_end + 3..written_end],
+            &input[written_end + 2..end],
+            out,
+        ) {
             different += 1;
         }
         records += 1;
-        at = next;
+        at = end;
     }
     Tally {
         records: records,

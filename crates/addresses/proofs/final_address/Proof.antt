@@ -11,39 +11,30 @@ use Rattle.file.proofs.byte_at.Reads as byte-at-reads
 use Rattle.positions.proofs.number_at.Reads as number-at-reads
 use Rattle.positions.proofs.position.Reads as position-reads
 
--- src/lib.rt:19:12
 byte-at-requires : tie.Need-byte-at-requires
 byte-at-requires c κs = search needs
 
--- src/lib.rt:20:30
 mul-byte-at : tie.Need-mul-byte-at
 mul-byte-at c = search needs
 
--- src/lib.rt:20:26
 add-byte-at : tie.Need-add-byte-at
 add-byte-at c = search needs
 
--- src/lib.rt:20:12
 byte-at-requires-2 : tie.Need-byte-at-requires-2
 byte-at-requires-2 c κs = search needs
 
--- src/lib.rt:21:17
 position-requires : tie.Need-position-requires
 position-requires c κs = search needs
 
--- src/lib.rt:22:13
 number-at-requires : tie.Need-number-at-requires
 number-at-requires c κs = search needs
 
--- src/lib.rt:22:13
 returns : tie.Need-returns
 returns c = final-held (c .before .before .before .before .before .before .before .before .args .file .now) 0 0 (c .before .before .before .before .before .before .before .before .args .places .now) (c .before .before .before .before .before .before .before .before .args .places .now) (c .before .before .before .before .before .before .before .before .args .f) _ _ (omega (arith, c .before .before .before .before .before .byte-at .ensures .0, c .before .before .before .before .if1 .taken)) (sym (c .before .before .before .byte-at2 .ensures .0) ∙ c .before .before .if2 .taken) (c .before .position .ensures) (c .number-at .ensures)
 
--- src/lib.rt:15:1
 returns-2 : tie.Need-returns-2
 returns-2 c = final-not (c .before .before .before .before .before .before .args .file .now) 0 0 (c .before .before .before .before .before .before .args .places .now) (c .before .before .before .before .before .before .args .places .now) (c .before .before .before .before .before .before .args .f) (omega (arith, c .before .before .before .byte-at .ensures .0, c .before .before .if1 .taken)) (λ e. c .if2 .left (c .before .byte-at2 .ensures .0 ∙ e))
 
--- src/lib.rt:15:1
 returns-3 : tie.Need-returns-3
 returns-3 c = final-missing (c .before .before .before .before .args .file .now) 0 0 (c .before .before .before .before .args .places .now) (c .before .before .before .before .args .places .now) (c .before .before .before .before .args .f) (omega (arith, c .before .byte-at .ensures .0, c .if1 .left))
 

@@ -10,43 +10,33 @@ use Rattle.addresses.proofs.parameter_address.Lts as lts
 use Rattle.file.proofs.byte_at.Reads as byte-at-reads
 use Rattle.positions.proofs.number_at.Reads as number-at-reads
 
--- src/lib.rt:33:12
 byte-at-requires : tie.Need-byte-at-requires
 byte-at-requires c κs = search needs
 
--- src/lib.rt:34:26
 add-byte-at : tie.Need-add-byte-at
 add-byte-at c = search needs
 
--- src/lib.rt:34:44
 mul-byte-at : tie.Need-mul-byte-at
 mul-byte-at c = search needs
 
--- src/lib.rt:34:26
 add-byte-at-2 : tie.Need-add-byte-at-2
 add-byte-at-2 c = search needs
 
--- src/lib.rt:34:26
 add-byte-at-3 : tie.Need-add-byte-at-3
 add-byte-at-3 c = search needs
 
--- src/lib.rt:34:12
 byte-at-requires-2 : tie.Need-byte-at-requires-2
 byte-at-requires-2 c κs = search needs
 
--- src/lib.rt:35:13
 number-at-requires : tie.Need-number-at-requires
 number-at-requires c κs = search needs
 
--- src/lib.rt:35:13
 returns : tie.Need-returns
 returns c = parameter-held (c .before .before .before .before .before .before .before .args .file .now) (c .before .before .before .before .before .before .before .args .function-at) 0 (c .before .before .before .before .before .before .before .args .arguments .now) (c .before .before .before .before .before .before .before .args .arguments .now) (c .before .before .before .before .before .before .before .args .k) _ (omega (arith, c .before .before .before .before .byte-at .ensures .0, c .before .before .before .if1 .taken)) (sym (c .before .before .byte-at2 .ensures .0) ∙ c .before .if2 .taken) (c .number-at .ensures)
 
--- src/lib.rt:29:1
 returns-2 : tie.Need-returns-2
 returns-2 c = parameter-private (c .before .before .before .before .before .before .args .file .now) (c .before .before .before .before .before .before .args .function-at) 0 (c .before .before .before .before .before .before .args .arguments .now) (c .before .before .before .before .before .before .args .arguments .now) (c .before .before .before .before .before .before .args .k) (omega (arith, c .before .before .before .byte-at .ensures .0, c .before .before .if1 .taken)) (λ e. c .if2 .left (c .before .byte-at2 .ensures .0 ∙ e))
 
--- src/lib.rt:29:1
 returns-3 : tie.Need-returns-3
 returns-3 c = parameter-absent (c .before .before .before .before .args .file .now) (c .before .before .before .before .args .function-at) 0 (c .before .before .before .before .args .arguments .now) (c .before .before .before .before .args .arguments .now) (c .before .before .before .before .args .k) (omega (arith, c .before .byte-at .ensures .0, c .if1 .left))
 

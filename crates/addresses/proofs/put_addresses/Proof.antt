@@ -19,35 +19,27 @@ abbrev μ-loop : tie.MeasureT-loop
 μ-loop file function-at caller arguments places out₀ code₀ out code =
     136 - code
 
--- src/lib.rt:83:5
 loop-holds : tie.Need-loop-holds Inv-loop μ-loop
 loop-holds c = placed-none _ _ _ _ _ _ (c .before .before .before .before .pre .room)
 
--- src/lib.rt:84:13
 address-of-code-requires : tie.Need-address-of-code-requires Inv-loop μ-loop
 address-of-code-requires c κs = c .before .before .before .before .before .before .pre .names
 
--- src/lib.rt:85:9
 put-number-requires : tie.Need-put-number-requires Inv-loop μ-loop
 put-number-requires c κs = search needs
 
--- src/lib.rt:86:9
 add-code : tie.Need-add-code Inv-loop μ-loop
 add-code c = omega arith
 
--- src/lib.rt:83:5
 loop-less : tie.Need-loop-less Inv-loop μ-loop
 loop-less c = omega arith
 
--- src/lib.rt:83:5
 loop-again : tie.Need-loop-again Inv-loop μ-loop
 loop-again c = placed-more (c .before .before .before .before .before .before .before .before .before .before .before .args .file .now) (c .before .before .before .before .before .before .before .before .before .before .before .args .function-at) (c .before .before .before .before .before .before .before .before .before .before .before .args .caller) (c .before .before .before .before .before .before .before .before .before .before .before .args .arguments .now) (c .before .before .before .before .before .before .before .before .before .before .before .args .places .now) _ _ (c .before .before .before .before .before .before .loop .code) _ (c .before .before .before .before .before .before .loop .inv) (omega arith) (c .before .before .before .before .address-of-code .ensures) (c .before .before .put-number .ensures)
 
--- src/lib.rt:71:1
 same-length : tie.Need-same-length Inv-loop μ-loop
 same-length c = c .before .loop .inv .room ∙ sym (c .before .before .before .before .before .before .pre .room)
 
--- src/lib.rt:71:1
 returns : tie.Need-returns Inv-loop μ-loop
 returns c = placed-all _ _ _ _ _ _ (c .before .loop .code) (c .before .before .before .before .before .before .pre .names) (omega arith) (c .before .loop .inv)
 

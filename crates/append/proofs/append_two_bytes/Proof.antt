@@ -8,27 +8,21 @@ use Rattle.append.proofs.append_two_bytes.Reads as reads
 use Rattle.append.proofs.append_two_bytes.Lts as lts
 use Rattle.append.proofs.append_byte.Reads as append-byte-reads
 
--- src/lib.rt:21:28
 cast-append-byte : tie.Need-cast-append-byte
 cast-append-byte c = search needs
 
--- src/lib.rt:21:9
 append-byte-requires : tie.Need-append-byte-requires
 append-byte-requires c κs = search needs
 
--- src/lib.rt:22:17
 cast-append-byte-2 : tie.Need-cast-append-byte-2
 cast-append-byte-2 c = search needs
 
--- src/lib.rt:22:5
 append-byte-requires-2 : tie.Need-append-byte-requires-2
 append-byte-requires-2 c κs = search needs
 
--- src/lib.rt:17:1
 same-length : tie.Need-same-length
 same-length c = search needs
 
--- src/lib.rt:17:1
 returns : tie.Need-returns
 returns c = appended-then _ _ _ _ _ _ _ _ (c .before .before .before .before .before .before .append-byte .ensures) (omega arith) (c .before .before .append-byte2 .ensures)
 

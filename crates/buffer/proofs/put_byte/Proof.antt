@@ -7,15 +7,12 @@ use Rattle.buffer.proofs.put_byte.Tie as tie
 use Rattle.buffer.proofs.put_byte.Reads as reads
 use Rattle.buffer.proofs.put_byte.Lts as lts
 
--- src/lib.rt:12:5
 slice-write-out : tie.Need-slice-write-out
 slice-write-out c = search needs
 
--- src/lib.rt:8:1
 same-length : tie.Need-same-length
 same-length c = search needs
 
--- src/lib.rt:8:1
 returns : tie.Need-returns
 returns c = sym (stored-one _ _ _ (c .pre))
 

@@ -7,19 +7,15 @@ use Rattle.buffer.proofs.put_number.Tie as tie
 use Rattle.buffer.proofs.put_number.Reads as reads
 use Rattle.buffer.proofs.put_number.Lts as lts
 
--- src/lib.rt:19:5
 mul-out : tie.Need-mul-out
 mul-out c = search needs
 
--- src/lib.rt:19:5
 slice-write-out : tie.Need-slice-write-out
 slice-write-out c = search needs
 
--- src/lib.rt:15:1
 same-length : tie.Need-same-length
 same-length c = search needs
 
--- src/lib.rt:15:1
 returns : tie.Need-returns
 returns c = sym (stored-one _ _ _ (c .pre))
 

@@ -24,59 +24,45 @@ abbrev μ-loop : tie.MeasureT-loop
 μ-loop file function-at arguments count k₀ k =
     count - k
 
--- src/lib.rt:29:9
 byte-at-requires : tie.Need-byte-at-requires Inv-loop μ-loop
 byte-at-requires c κs = search needs
 
--- src/lib.rt:31:9
 returns : tie.Need-returns Inv-loop μ-loop
 returns c = off-count (parametersIn (c .before .before .before .before .args .file .now) (c .before .before .before .before .args .function-at)) (c .before .before .before .before .args .arguments .now) (λ e. c .if1 .taken (e ∙ parameters-count (c .before .before .before .before .args .file .now) (c .before .before .before .before .args .function-at) ∙ sym (c .before .byte-at .ensures .0)))
 
--- src/lib.rt:34:5
 loop-holds : tie.Need-loop-holds Inv-loop μ-loop
 loop-holds c = (refl, (omega arith, (c .before .byte-at .ensures .0, c .if1 .left)))
 
--- src/lib.rt:35:34
 add-byte-at : tie.Need-add-byte-at Inv-loop μ-loop
 add-byte-at c = search needs
 
--- src/lib.rt:35:52
 mul-byte-at : tie.Need-mul-byte-at Inv-loop μ-loop
 mul-byte-at c = search needs
 
--- src/lib.rt:35:34
 add-byte-at-2 : tie.Need-add-byte-at-2 Inv-loop μ-loop
 add-byte-at-2 c = search needs
 
--- src/lib.rt:35:13
 byte-at-requires-2 : tie.Need-byte-at-requires-2 Inv-loop μ-loop
 byte-at-requires-2 c κs = search needs
 
--- src/lib.rt:36:13
 number-at-requires : tie.Need-number-at-requires Inv-loop μ-loop
 number-at-requires c κs = search needs
 
--- src/lib.rt:37:12
 is-of-type-requires : tie.Need-is-of-type-requires Inv-loop μ-loop
 is-of-type-requires c κs = search needs
 
--- src/lib.rt:38:13
 add-k : tie.Need-add-k Inv-loop μ-loop
 add-k c = search needs
 
--- src/lib.rt:34:5
 loop-less : tie.Need-loop-less Inv-loop μ-loop
 loop-less c = search needs
 
--- src/lib.rt:34:5
 loop-again : tie.Need-loop-again Inv-loop μ-loop
 loop-again c = (off-next (parametersIn (c .before .before .before .before .before .before .before .before .before .before .args .file .now) (c .before .before .before .before .before .before .before .before .before .before .args .function-at)) (c .before .before .before .before .before .before .before .before .before .before .args .arguments .now) (c .before .before .before .before .before .loop .k) (omega (arith, parameters-count (c .before .before .before .before .before .before .before .before .before .before .args .file .now) (c .before .before .before .before .before .before .before .before .before .before .args .function-at))) (omega arith) _ (c .before .before .before .before .before .loop .inv .0) _ (typed (c .before .before .before .before .before .before .before .before .before .before .args .file .now) (c .before .before .before .before .before .before .before .before .before .before .args .arguments .now) (c .before .before .before .before .before .before .before .before .before .before .args .function-at) (c .before .before .before .before .before .loop .k) _ _ _ (omega arith) (c .before .before .before .byte-at2 .ensures .0) (c .before .before .number-at .ensures) (c .before .is-of-type .ensures)) (c .if2 .taken), (omega arith, (c .before .before .before .before .before .loop .inv .1 .1 .0, c .before .before .before .before .before .loop .inv .1 .1 .1)))
 
--- src/lib.rt:40:13
 returns-2 : tie.Need-returns-2 Inv-loop μ-loop
 returns-2 c = off-types (parametersIn (c .before .before .before .before .before .before .before .before .before .before .args .file .now) (c .before .before .before .before .before .before .before .before .before .before .args .function-at)) (c .before .before .before .before .before .before .before .before .before .before .args .arguments .now) (c .before .before .before .before .before .loop .inv .1 .1 .1 ∙ c .before .before .before .before .before .loop .inv .1 .1 .0 ∙ sym (parameters-count (c .before .before .before .before .before .before .before .before .before .before .args .file .now) (c .before .before .before .before .before .before .before .before .before .before .args .function-at))) _ (off-found (parametersIn (c .before .before .before .before .before .before .before .before .before .before .args .file .now) (c .before .before .before .before .before .before .before .before .before .before .args .function-at)) (c .before .before .before .before .before .before .before .before .before .before .args .arguments .now) (c .before .before .before .before .before .loop .k) (omega (arith, parameters-count (c .before .before .before .before .before .before .before .before .before .before .args .file .now) (c .before .before .before .before .before .before .before .before .before .before .args .function-at))) (omega arith) _ (c .before .before .before .before .before .loop .inv .0) _ (typed (c .before .before .before .before .before .before .before .before .before .before .args .file .now) (c .before .before .before .before .before .before .before .before .before .before .args .arguments .now) (c .before .before .before .before .before .before .before .before .before .before .args .function-at) (c .before .before .before .before .before .loop .k) _ _ _ (omega arith) (c .before .before .before .byte-at2 .ensures .0) (c .before .before .number-at .ensures) (c .before .is-of-type .ensures)) (c .if2 .left))
 
--- src/lib.rt:25:1
 returns-3 : tie.Need-returns-3 Inv-loop μ-loop
 returns-3 c = off-types (parametersIn (c .before .before .before .before .before .before .args .file .now) (c .before .before .before .before .before .before .args .function-at)) (c .before .before .before .before .before .before .args .arguments .now) (c .before .loop .inv .1 .1 .1 ∙ c .before .loop .inv .1 .1 .0 ∙ sym (parameters-count (c .before .before .before .before .before .before .args .file .now) (c .before .before .before .before .before .before .args .function-at))) _ (off-none (parametersIn (c .before .before .before .before .before .before .args .file .now) (c .before .before .before .before .before .before .args .function-at)) (c .before .before .before .before .before .before .args .arguments .now) (c .before .loop .k) _ (omega (arith, parameters-count (c .before .before .before .before .before .before .args .file .now) (c .before .before .before .before .before .before .args .function-at))) (c .before .loop .inv .0))
 

@@ -7,31 +7,24 @@ use Rattle.call_parameters.proofs.parameter_reader.Reads as reads
 use Rattle.call_parameters.proofs.parameter_reader.Lts as lts
 use Rattle.file.proofs.byte_at.Reads as byte-at-reads
 
--- src/lib.rt:25:22
 add-byte-at : tie.Need-add-byte-at
 add-byte-at c = search needs
 
--- src/lib.rt:25:40
 mul-byte-at : tie.Need-mul-byte-at
 mul-byte-at c = search needs
 
--- src/lib.rt:25:22
 add-byte-at-2 : tie.Need-add-byte-at-2
 add-byte-at-2 c = search needs
 
--- src/lib.rt:25:22
 add-byte-at-3 : tie.Need-add-byte-at-3
 add-byte-at-3 c = search needs
 
--- src/lib.rt:25:8
 byte-at-requires : tie.Need-byte-at-requires
 byte-at-requires c κs = search needs
 
--- src/lib.rt:20:1
 returns : tie.Need-returns
 returns c = (reader-public _ _ _ _ (c .before .before .before .pre .1) (c .before .byte-at .ensures .0) _ (c .if1 .taken), search needs)
 
--- src/lib.rt:20:1
 returns-2 : tie.Need-returns-2
 returns-2 c = (reader-private _ _ _ _ (c .before .before .before .pre .1) (c .before .byte-at .ensures .0) _ (c .if1 .left), search needs)
 

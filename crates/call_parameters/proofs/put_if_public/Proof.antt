@@ -14,47 +14,36 @@ use Rattle.contents.proofs.content_at.Reads as content-at-reads
 use Rattle.contents.proofs.put_content.Reads as put-content-reads
 use Rattle.file.proofs.byte_at.Reads as byte-at-reads
 
--- src/lib.rt:67:22
 add-byte-at : tie.Need-add-byte-at
 add-byte-at c = search needs
 
--- src/lib.rt:67:40
 mul-byte-at : tie.Need-mul-byte-at
 mul-byte-at c = search needs
 
--- src/lib.rt:67:22
 add-byte-at-2 : tie.Need-add-byte-at-2
 add-byte-at-2 c = search needs
 
--- src/lib.rt:67:22
 add-byte-at-3 : tie.Need-add-byte-at-3
 add-byte-at-3 c = search needs
 
--- src/lib.rt:67:8
 byte-at-requires : tie.Need-byte-at-requires
 byte-at-requires c κs = search needs
 
--- src/lib.rt:68:13
 content-at-requires : tie.Need-content-at-requires
 content-at-requires c κs = search needs
 
--- src/lib.rt:69:9
 put-content-requires : tie.Need-put-content-requires
 put-content-requires c κs = search needs
 
--- src/lib.rt:70:9
 add-result : tie.Need-add-result
 add-result c = search needs
 
--- src/lib.rt:56:1
 same-length : tie.Need-same-length
 same-length c = search needs
 
--- src/lib.rt:56:1
 returns : tie.Need-returns
 returns c = picked _ (c .before .before .before .before .before .before .before .before .before .before .args .flat .now) _ (c .before .before .before .before .before .before .before .before .before .before .args .r) _ (public-here (c .before .before .before .before .before .before .before .before .before .before .args .file .now) (c .before .before .before .before .before .before .before .before .before .before .args .function-at) (c .before .before .before .before .before .before .before .before .before .before .args .k) _ (c .before .before .before .before .before .before .before .before .before .before .pre .1 .0) (c .before .before .before .before .before .before .byte-at .ensures .0) (c .before .before .before .before .before .if1 .taken)) (c .before .before .before .before .before .before .before .before .before .before .pre .1 .1) (c .before .before .put-content .ensures ∙ ap (λ (item : Content). set (contentsOf (c .before .before .before .before .before .before .before .before .before .before .args .flat .now)) (c .before .before .before .before .before .before .before .before .before .before .args .r) item) (c .before .before .before .before .content-at .ensures))
 
--- src/lib.rt:56:1
 returns-2 : tie.Need-returns-2
 returns-2 c = not-picked _ (c .before .before .before .before .before .args .flat .now) (c .before .before .before .before .before .args .flat .now) (c .before .before .before .before .before .args .r) _ (private-here (c .before .before .before .before .before .args .file .now) (c .before .before .before .before .before .args .function-at) (c .before .before .before .before .before .args .k) _ (c .before .before .before .before .before .pre .1 .0) (c .before .byte-at .ensures .0) (c .if1 .left))
 

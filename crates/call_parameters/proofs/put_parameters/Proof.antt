@@ -25,47 +25,36 @@ abbrev μ-loop : tie.MeasureT-loop
 μ-loop file function-at caller call arguments flat₀ count k₀ flat k =
     count - k
 
--- src/lib.rt:46:5
 loop-holds : tie.Need-loop-holds Inv-loop μ-loop
 loop-holds c = (refl, (omega arith, (refl, refl)))
 
--- src/lib.rt:47:13
 parameter-reader-requires : tie.Need-parameter-reader-requires Inv-loop μ-loop
 parameter-reader-requires c κs = (c .before .before .before .before .before .pre .place, omega (arith, c .before .before .before .before .before .pre .count))
 
--- src/lib.rt:48:13
 number-at-requires : tie.Need-number-at-requires Inv-loop μ-loop
 number-at-requires c κs = search needs
 
--- src/lib.rt:49:49
 cast-content-for : tie.Need-cast-content-for Inv-loop μ-loop
 cast-content-for c = omega (arith, c .before .before .before .before .before .before .before .pre .count, c .before .before .before .before .before .before .before .pre .place .few)
 
--- src/lib.rt:49:13
 content-for-requires : tie.Need-content-for-requires Inv-loop μ-loop
 content-for-requires c κs = c .before .parameter-reader .ensures .1
 
--- src/lib.rt:50:9
 put-content-requires : tie.Need-put-content-requires Inv-loop μ-loop
 put-content-requires c κs = search needs
 
--- src/lib.rt:51:9
 add-k : tie.Need-add-k Inv-loop μ-loop
 add-k c = omega arith
 
--- src/lib.rt:46:5
 loop-less : tie.Need-loop-less Inv-loop μ-loop
 loop-less c = omega arith
 
--- src/lib.rt:46:5
 loop-again : tie.Need-loop-again Inv-loop μ-loop
 loop-again c = (parameter-more (c .before .before .before .before .before .before .before .before .before .before .before .before .args .caller) (c .before .before .before .before .before .before .before .before .before .before .before .before .args .call) (c .before .before .before .before .before .before .before .before .before .before .before .before .args .file .now) (c .before .before .before .before .before .before .before .before .before .before .before .before .args .function-at) (c .before .before .before .before .before .before .before .before .before .before .before .before .args .arguments .now) (c .before .before .before .before .before .before .before .before .before .before .before .before .args .flat .now) (c .before .before .before .before .before .before .before .before .before .before .before .before .pre) _ _ (c .before .before .before .before .before .before .before .before .loop .k) _ _ _ (omega arith) (c .before .before .before .before .before .before .before .before .loop .inv .1 .1 .1) (c .before .before .before .before .before .before .before .before .loop .inv .0) (c .before .before .before .before .before .before .parameter-reader .ensures .0) (c .before .before .before .before .before .number-at .ensures) (c .before .before .before .before .content-for .ensures) (c .before .before .put-content .ensures), (omega arith, (c .before .before .before .before .before .before .before .before .loop .inv .1 .1 .0, search needs)))
 
--- src/lib.rt:33:1
 same-length : tie.Need-same-length Inv-loop μ-loop
 same-length c = c .before .loop .inv .1 .1 .1
 
--- src/lib.rt:33:1
 returns : tie.Need-returns Inv-loop μ-loop
 returns c = parameters-done (c .before .before .before .before .before .args .caller) (c .before .before .before .before .before .args .call) (c .before .before .before .before .before .args .file .now) (c .before .before .before .before .before .args .function-at) (c .before .before .before .before .before .args .arguments .now) (c .before .before .before .before .before .args .flat .now) (c .before .before .before .before .before .pre) _ (c .before .loop .k) (omega arith) (c .before .loop .inv .1 .1 .1) (c .before .loop .inv .0)
 

@@ -20,35 +20,27 @@ abbrev μ-loop : tie.MeasureT-loop
 μ-loop file function-at parameters flat₀ count k₀ r₀ flat k r =
     count - k
 
--- src/lib.rt:81:9
 byte-at-requires : tie.Need-byte-at-requires Inv-loop μ-loop
 byte-at-requires c κs = search needs
 
--- src/lib.rt:84:5
 loop-holds : tie.Need-loop-holds Inv-loop μ-loop
 loop-holds c = (picking-none (c .before .before .before .before .args .file .now) (c .before .before .before .before .args .function-at) (c .before .before .before .before .args .parameters .now) (c .before .before .before .before .args .flat .now) (c .before .before .before .before .pre), c .byte-at .ensures .0)
 
--- src/lib.rt:85:9
 put-if-public-requires : tie.Need-put-if-public-requires Inv-loop μ-loop
 put-if-public-requires c κs = (c .before .before .before .before .before .before .before .pre .place, (omega arith, picking-room (c .before .before .before .before .before .before .before .args .file .now) (c .before .before .before .before .before .before .before .args .function-at) (c .before .before .before .before .before .before .before .args .parameters .now) (c .before .before .before .before .before .before .before .args .flat .now) (c .before .before .before .before .before .before .before .pre) _ (c .before .before .loop .k) (c .before .before .loop .r) (c .before .before .loop .inv .0) (omega arith)))
 
--- src/lib.rt:86:9
 add-k : tie.Need-add-k Inv-loop μ-loop
 add-k c = omega arith
 
--- src/lib.rt:84:5
 loop-less : tie.Need-loop-less Inv-loop μ-loop
 loop-less c = omega arith
 
--- src/lib.rt:84:5
 loop-again : tie.Need-loop-again Inv-loop μ-loop
 loop-again c = (picking-more (c .before .before .before .before .before .before .before .before .before .before .args .file .now) (c .before .before .before .before .before .before .before .before .before .before .args .function-at) (c .before .before .before .before .before .before .before .before .before .before .args .parameters .now) (c .before .before .before .before .before .before .before .before .before .before .args .flat .now) (c .before .before .before .before .before .before .before .before .before .before .pre) _ _ (c .before .before .before .before .before .loop .k) (c .before .before .before .before .before .loop .r) _ (c .before .before .before .before .before .loop .inv .0) (omega arith) (search needs) (c .before .before .put-if-public .ensures), c .before .before .before .before .before .loop .inv .1)
 
--- src/lib.rt:77:1
 same-length : tie.Need-same-length Inv-loop μ-loop
 same-length c = c .before .loop .inv .0 .size
 
--- src/lib.rt:77:1
 returns : tie.Need-returns Inv-loop μ-loop
 returns c = picking-done (c .before .before .before .before .before .before .args .file .now) (c .before .before .before .before .before .before .args .function-at) (c .before .before .before .before .before .before .args .parameters .now) (c .before .before .before .before .before .before .args .flat .now) (c .before .before .before .before .before .before .pre) _ (c .before .loop .k) (c .before .loop .r) (c .before .loop .inv .0) (omega arith)
 

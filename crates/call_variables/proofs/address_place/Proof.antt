@@ -6,23 +6,18 @@ use Rattle.call_variables.proofs.address_place.Tie as tie
 use Rattle.call_variables.proofs.address_place.Reads as reads
 use Rattle.call_variables.proofs.address_place.Lts as lts
 
--- src/lib.rt:74:9
 returns : tie.Need-returns
 returns c = place-caller (c .before .args .code) (c .if1 .taken)
 
--- src/lib.rt:77:9
 returns-2 : tie.Need-returns-2
 returns-2 c = place-low (c .before .before .args .code) (c .before .before .pre) (c .before .if1 .left) (c .if2 .taken)
 
--- src/lib.rt:80:9
 returns-3 : tie.Need-returns-3
 returns-3 c = place-final (c .before .before .before .args .code) (omega arith) (omega arith)
 
--- src/lib.rt:83:9
 returns-4 : tie.Need-returns-4
 returns-4 c = place-between (c .before .before .before .before .args .code) (omega arith) (omega arith)
 
--- src/lib.rt:69:1
 returns-5 : tie.Need-returns-5
 returns-5 c = place-parameter (c .before .before .before .before .args .code) (omega arith)
 

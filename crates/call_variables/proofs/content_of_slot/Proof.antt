@@ -11,35 +11,27 @@ use Rattle.call_variables.proofs.content_of_slot.Lts as lts
 use Rattle.call_variables.proofs.reader_of.Reads as reader-of-reads
 use Rattle.readers.proofs.content_for.Reads as content-for-reads
 
--- src/lib.rt:107:13
 reader-of-requires : tie.Need-reader-of-requires
 reader-of-requires c κs = search needs
 
--- src/lib.rt:108:36
 add-content-for : tie.Need-add-content-for
 add-content-for c = search needs
 
--- src/lib.rt:108:35
 cast-content-for : tie.Need-cast-content-for
 cast-content-for c = search needs
 
--- src/lib.rt:108:52
 sub-content-for : tie.Need-sub-content-for
 sub-content-for c = search needs
 
--- src/lib.rt:108:51
 cast-content-for-2 : tie.Need-cast-content-for-2
 cast-content-for-2 c = search needs
 
--- src/lib.rt:108:9
 content-for-requires : tie.Need-content-for-requires
 content-for-requires c κs = reader-short (c .before .before .before .args .addresses .now) (c .before .before .before .args .code) (c .reader-of .result) (c .reader-of .ensures) (c .before .before .before .pre .narrow)
 
--- src/lib.rt:100:1
 returns : tie.Need-returns
 returns c = slot-none (addressFrom (c .before .before .args .addresses .now)) (c .before .before .args .call) (c .before .before .args .n) (ownerOfCode (c .before .before .args .code)) (c .before .before .args .slot) (c .if1 .taken)
 
--- src/lib.rt:100:1
 returns-2 : tie.Need-returns-2
 returns-2 c = slot-some (addressFrom (c .before .before .before .before .args .addresses .now)) (c .before .before .before .before .args .call) (c .before .before .before .before .args .n) (ownerOfCode (c .before .before .before .before .args .code)) (c .before .before .before .before .args .slot) _ _ _ _ (c .before .before .if1 .left) (c .before .reader-of .ensures) refl refl (c .content-for .ensures)
 

@@ -26,55 +26,42 @@ abbrev μ-loop : tie.MeasureT-loop
 μ-loop file function-at nodes-at numbers arguments caller slots₀ count private i₀ slots i =
     private - i
 
--- src/lib.rt:46:9
 byte-at-requires : tie.Need-byte-at-requires Inv-loop μ-loop
 byte-at-requires c κs = search needs
 
--- src/lib.rt:47:39
 add-count-private : tie.Need-add-count-private Inv-loop μ-loop
 add-count-private c = omega (arith, c .before .before .before .before .before .pre .context .nearFunction)
 
--- src/lib.rt:47:9
 count-private-requires : tie.Need-count-private-requires Inv-loop μ-loop
 count-private-requires c κs = omega (arith, c .before .before .before .before .before .pre .context .nearFunction, c .byte-at .ensures .1)
 
--- src/lib.rt:49:5
 loop-holds : tie.Need-loop-holds Inv-loop μ-loop
 loop-holds c = (zeros-none (c .before .before .before .before .before .before .args .slots .now), (omega arith, (c .count-private .ensures ∙ ap (λ (n : ℕ). privateCount n (c .before .before .before .before .before .before .args .file .now) (c .before .before .before .before .before .before .args .function-at + 1)) (c .before .byte-at .ensures .0), refl)))
 
--- src/lib.rt:50:9
 put-slot-requires : tie.Need-put-slot-requires Inv-loop μ-loop
 put-slot-requires c κs = omega (arith, c .before .before .before .before .before .before .before .before .before .pre .room)
 
--- src/lib.rt:51:9
 add-i : tie.Need-add-i Inv-loop μ-loop
 add-i c = search needs
 
--- src/lib.rt:49:5
 loop-less : tie.Need-loop-less Inv-loop μ-loop
 loop-less c = search needs
 
--- src/lib.rt:49:5
 loop-again : tie.Need-loop-again Inv-loop μ-loop
 loop-again c = (zeros-more (c .before .before .before .before .before .before .before .before .before .before .before .before .args .slots .now) _ _ (c .before .before .before .before .before .loop .i) (omega (arith, c .before .before .before .before .before .before .before .before .before .before .before .before .pre .room)) (c .before .before .before .before .before .loop .inv .0) (c .before .before .put-slot .ensures), (omega arith, (c .before .before .before .before .before .loop .inv .1 .1 .0, search needs)))
 
--- src/lib.rt:53:9
 root-at-requires : tie.Need-root-at-requires Inv-loop μ-loop
 root-at-requires c κs = c .before .before .before .before .before .before .before .before .pre .context .nearFunction
 
--- src/lib.rt:54:5
 statement-slots-requires : tie.Need-statement-slots-requires Inv-loop μ-loop
 statement-slots-requires c κs = body-startable (c .before .before .before .before .before .before .before .before .before .before .before .args .file .now) (c .before .before .before .before .before .before .before .before .before .before .before .args .function-at) (c .before .before .before .before .before .before .before .before .before .before .before .args .arguments .now) (c .before .before .before .before .before .before .before .before .before .before .before .args .caller) (c .before .before .before .before .before .before .before .before .before .before .before .args .numbers .now) (c .before .before .before .before .before .before .before .before .before .before .before .args .nodes-at) (c .before .before .before .before .before .before .before .before .before .before .before .args .slots .now) (c .before .before .before .before .before .before .before .before .before .before .before .pre) _ _ _ (c .before .before .before .before .loop .inv .1 .1 .0) (c .before .before .root-at .ensures) (c .before .before .before .before .loop .inv .1 .1 .1)
 
--- src/lib.rt:34:1
 same-length : tie.Need-same-length Inv-loop μ-loop
 same-length c = search needs
 
--- src/lib.rt:34:1
 same-length-2 : tie.Need-same-length-2 Inv-loop μ-loop
 same-length-2 c = search needs
 
--- src/lib.rt:34:1
 returns : tie.Need-returns Inv-loop μ-loop
 returns c = slots-done (c .before .before .before .before .before .before .before .before .before .before .before .before .before .before .before .before .args .file .now) (c .before .before .before .before .before .before .before .before .before .before .before .before .before .before .before .before .args .function-at) (c .before .before .before .before .before .before .before .before .before .before .before .before .before .before .before .before .args .arguments .now) (c .before .before .before .before .before .before .before .before .before .before .before .before .before .before .before .before .args .caller) (c .before .before .before .before .before .before .before .before .before .before .before .before .before .before .before .before .args .numbers .now) (c .before .before .before .before .before .before .before .before .before .before .before .before .before .before .before .before .args .nodes-at) (c .before .before .before .before .before .before .before .before .before .before .before .before .before .before .before .before .args .slots .now) (c .before .before .before .before .before .before .before .before .before .before .before .before .before .before .before .before .pre) _ _ _ _ _ (c .before .before .before .before .before .before .before .before .before .loop .i) _ (c .before .before .before .before .before .before .before .before .before .loop .inv .1 .1 .0) (c .before .before .before .before .before .before .before .root-at .ensures) (omega arith) (c .before .before .before .before .before .before .before .before .before .loop .inv .0) (search needs) (c .before .before .before .before .statement-slots .ensures)
 

@@ -10,11 +10,9 @@ use Rattle.call_variables.proofs.content_of_slot.Reads as content-of-sl
 use Rattle.call_variables.proofs.slot_at.Reads as slot-at-reads
 use Rattle.contents.proofs.put_content.Reads as put-content-reads
 
--- src/lib.rt:134:13
 slot-at-requires : tie.Need-slot-at-requires
 slot-at-requires c κs = search needs
 
--- src/lib.rt:135:13
 content-of-slot-requires : tie.Need-content-of-slot-requires
 content-of-slot-requires c κs =
     record {
@@ -23,23 +21,18 @@ content-of-slot-requires c κs =
       few = omega (arith, c .before .before .before .before .before .pre .few, entry-inside (c .before .before .before .before .before .args .call) (c .before .before .before .before .before .args .slots .now) (c .before .before .before .before .before .args .addresses .now) (c .before .before .before .before .before .args .tag) (c .before .before .before .before .before .args .code) (c .before .before .before .before .before .args .n) (c .before .if1 .left) (c .before .before .before .before .before .pre .inside));
     }
 
--- src/lib.rt:136:9
 put-content-requires : tie.Need-put-content-requires
 put-content-requires c κs = search needs
 
--- src/lib.rt:137:9
 add-result : tie.Need-add-result
 add-result c = search needs
 
--- src/lib.rt:119:1
 returns : tie.Need-returns
 returns c = entry-claim (c .before .before .before .before .args .call) (c .before .before .before .before .args .slots .now) (c .before .before .before .before .args .addresses .now) (c .before .before .before .before .args .tag) (c .before .before .before .before .args .code) (c .before .before .before .before .args .flat .now) (c .before .before .before .before .args .n) (c .if1 .taken)
 
--- src/lib.rt:119:1
 same-length : tie.Need-same-length
 same-length c = search needs
 
--- src/lib.rt:119:1
 returns-2 : tie.Need-returns-2
 returns-2 c = entry-other (c .before .before .before .before .before .before .before .before .before .before .args .call) (c .before .before .before .before .before .before .before .before .before .before .args .slots .now) (c .before .before .before .before .before .before .before .before .before .before .args .addresses .now) (c .before .before .before .before .before .before .before .before .before .before .args .tag) (c .before .before .before .before .before .before .before .before .before .before .args .code) (c .before .before .before .before .before .before .before .before .before .before .args .flat .now) _ (c .before .before .before .before .before .before .before .before .before .before .args .n) _ _ (c .before .before .before .before .before .before .if1 .left) (c .before .before .before .before .before .slot-at .ensures) (c .before .before .before .before .content-of-slot .ensures) (c .before .before .put-content .ensures) (search needs)
 

@@ -29,77 +29,59 @@ abbrev μ-loop2 : tie.MeasureT-loop2
 μ-loop2 log private slots addresses call flat₀ n₀ left i₀ flat n i =
     length log - i
 
--- src/lib.rt:155:5
 loop-holds : tie.Need-loop-holds Inv-loop μ-loop Inv-loop2 μ-loop2
 loop-holds c = (opening-start (c .before .before .before .before .args .log .now) (c .before .before .before .before .args .private) (c .before .before .before .before .args .slots .now) (c .before .before .before .before .args .addresses .now) (c .before .before .before .before .args .flat .now) (c .before .before .before .before .args .call) (c .before .before .before .before .pre), refl)
 
--- src/lib.rt:156:9
 put-entry-requires : tie.Need-put-entry-requires Inv-loop μ-loop Inv-loop2 μ-loop2
 put-entry-requires c κs = entry-ready (c .before .before .before .before .before .before .before .args .call) (c .before .before .before .before .before .before .before .args .slots .now) (c .before .before .before .before .before .before .before .args .addresses .now) 2 1 _ _ (codesOf (c .before .before .loop .left - 1) (c .before .before .before .before .before .before .before .args .log .now)) _ (c .before .before .loop .n) (c .before .before .before .before .before .before .before .pre .small) (c .before .before .before .before .before .before .before .pre .few) (opening-next (c .before .before .before .before .before .before .before .args .log .now) (c .before .before .before .before .before .before .before .args .private) (c .before .before .before .before .before .before .before .args .slots .now) (c .before .before .before .before .before .before .before .args .addresses .now) (c .before .before .before .before .before .before .before .args .flat .now) (c .before .before .before .before .before .before .before .args .call) (c .before .before .loop .left) _ (c .before .before .loop .n) (omega arith) (c .before .before .loop .inv .0))
 
--- src/lib.rt:157:9
 sub-left : tie.Need-sub-left Inv-loop μ-loop Inv-loop2 μ-loop2
 sub-left c = search needs
 
--- src/lib.rt:155:5
 loop-less : tie.Need-loop-less Inv-loop μ-loop Inv-loop2 μ-loop2
 loop-less c = search needs
 
--- src/lib.rt:155:5
 loop-again : tie.Need-loop-again Inv-loop μ-loop Inv-loop2 μ-loop2
 loop-again c = (c .before .before .put-entry .ensures .passes _ _ (opening-next (c .before .before .before .before .before .before .before .before .before .before .args .log .now) (c .before .before .before .before .before .before .before .before .before .before .args .private) (c .before .before .before .before .before .before .before .before .before .before .args .slots .now) (c .before .before .before .before .before .before .before .before .before .before .args .addresses .now) (c .before .before .before .before .before .before .before .before .before .before .args .flat .now) (c .before .before .before .before .before .before .before .before .before .before .args .call) (c .before .before .before .before .before .loop .left) _ (c .before .before .before .before .before .loop .n) (omega arith) (c .before .before .before .before .before .loop .inv .0)), search needs)
 
--- src/lib.rt:160:5
 loop2-holds : tie.Need-loop2-holds Inv-loop μ-loop Inv-loop2 μ-loop2
 loop2-holds c = (opening-done (c .before .before .before .before .before .before .args .log .now) (c .before .before .before .before .before .before .args .private) (c .before .before .before .before .before .before .args .slots .now) (c .before .before .before .before .before .before .args .addresses .now) (c .before .before .before .before .before .before .args .flat .now) (c .before .before .before .before .before .before .args .call) (c .before .loop .left) _ (c .before .loop .n) (omega arith) (c .before .loop .inv .0), (omega arith, refl))
 
--- src/lib.rt:160:11
 add-loop2 : tie.Need-add-loop2 Inv-loop μ-loop Inv-loop2 μ-loop2
 add-loop2 c = search needs
 
--- src/lib.rt:161:23
 mul-put-entry : tie.Need-mul-put-entry Inv-loop μ-loop Inv-loop2 μ-loop2
 mul-put-entry c = search needs
 
--- src/lib.rt:161:23
 shared-slice-read-put-entry :
     tie.Need-shared-slice-read-put-entry Inv-loop μ-loop Inv-loop2 μ-loop2
 shared-slice-read-put-entry c = search needs
 
--- src/lib.rt:161:35
 add-put-entry : tie.Need-add-put-entry Inv-loop μ-loop Inv-loop2 μ-loop2
 add-put-entry c = search needs
 
--- src/lib.rt:161:31
 mul-put-entry-2 : tie.Need-mul-put-entry-2 Inv-loop μ-loop Inv-loop2 μ-loop2
 mul-put-entry-2 c = search needs
 
--- src/lib.rt:161:31
 shared-slice-read-put-entry-2 :
     tie.Need-shared-slice-read-put-entry-2 Inv-loop μ-loop Inv-loop2 μ-loop2
 shared-slice-read-put-entry-2 c = search needs
 
--- src/lib.rt:161:9
 put-entry-requires-2 : tie.Need-put-entry-requires-2 Inv-loop μ-loop Inv-loop2 μ-loop2
 put-entry-requires-2 c κs = entry-ready (c .before .before .before .before .before .before .before .before .before .before .before .args .call) (c .before .before .before .before .before .before .before .before .before .before .before .args .slots .now) (c .before .before .before .before .before .before .before .before .before .before .before .args .addresses .now) _ _ _ _ (perEntry codeOf (drop (c .before .before .before .before .loop2 .i + 5) (c .before .before .before .before .before .before .before .before .before .before .before .args .log .now))) _ (c .before .before .before .before .loop2 .n) (c .before .before .before .before .before .before .before .before .before .before .before .pre .small) (c .before .before .before .before .before .before .before .before .before .before .before .pre .few) (entering-next (c .before .before .before .before .before .before .before .before .before .before .before .args .log .now) (c .before .before .before .before .before .before .before .before .before .before .before .args .private) (c .before .before .before .before .before .before .before .before .before .before .before .args .slots .now) (c .before .before .before .before .before .before .before .before .before .before .before .args .addresses .now) (c .before .before .before .before .before .before .before .before .before .before .before .args .flat .now) (c .before .before .before .before .before .before .before .before .before .before .before .args .call) (c .before .before .before .before .loop2 .i) _ (c .before .before .before .before .loop2 .n) (omega arith) (c .before .before .before .before .loop2 .inv .0))
 
--- src/lib.rt:162:9
 add-i : tie.Need-add-i Inv-loop μ-loop Inv-loop2 μ-loop2
 add-i c = search needs
 
--- src/lib.rt:160:5
 loop2-less : tie.Need-loop2-less Inv-loop μ-loop Inv-loop2 μ-loop2
 loop2-less c = search needs
 
--- src/lib.rt:160:5
 loop2-again : tie.Need-loop2-again Inv-loop μ-loop Inv-loop2 μ-loop2
 loop2-again c = (c .before .before .put-entry2 .ensures .passes _ _ (entering-next (c .before .before .before .before .before .before .before .before .before .before .before .before .before .before .args .log .now) (c .before .before .before .before .before .before .before .before .before .before .before .before .before .before .args .private) (c .before .before .before .before .before .before .before .before .before .before .before .before .before .before .args .slots .now) (c .before .before .before .before .before .before .before .before .before .before .before .before .before .before .args .addresses .now) (c .before .before .before .before .before .before .before .before .before .before .before .before .before .before .args .flat .now) (c .before .before .before .before .before .before .before .before .before .before .before .before .before .before .args .call) (c .before .before .before .before .before .before .before .loop2 .i) _ (c .before .before .before .before .before .before .before .loop2 .n) (omega arith) (c .before .before .before .before .before .before .before .loop2 .inv .0)), (omega arith, search needs))
 
--- src/lib.rt:142:1
 same-length : tie.Need-same-length Inv-loop μ-loop Inv-loop2 μ-loop2
 same-length c = c .before .loop2 .inv .1 .1 ∙ c .before .before .before .loop .inv .1
 
--- src/lib.rt:142:1
 returns : tie.Need-returns Inv-loop μ-loop Inv-loop2 μ-loop2
 returns c = entering-done (c .before .before .before .before .before .before .before .before .args .log .now) (c .before .before .before .before .before .before .before .before .args .private) (c .before .before .before .before .before .before .before .before .args .slots .now) (c .before .before .before .before .before .before .before .before .args .addresses .now) (c .before .before .before .before .before .before .before .before .args .flat .now) (c .before .before .before .before .before .before .before .before .args .call) (c .before .loop2 .i) _ (c .before .loop2 .n) (omega arith) (c .before .loop2 .inv .0)
 

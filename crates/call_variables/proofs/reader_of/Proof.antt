@@ -8,19 +8,15 @@ use Rattle.call_variables.proofs.reader_of.Lts as lts
 use Rattle.call_variables.proofs.address_place.Reads as address-place-reads
 use Rattle.positions.proofs.number_at.Reads as number-at-reads
 
--- src/lib.rt:94:13
 address-place-requires : tie.Need-address-place-requires
 address-place-requires c κs = search needs
 
--- src/lib.rt:95:22
 number-at-requires : tie.Need-number-at-requires
 number-at-requires c κs = search needs
 
--- src/lib.rt:88:1
 returns : tie.Need-returns
 returns c = reader-everyone (c .before .before .args .addresses .now) (c .before .before .args .code) (c .if1 .taken)
 
--- src/lib.rt:88:1
 returns-2 : tie.Need-returns-2
 returns-2 c = reader-named (c .before .before .before .before .args .addresses .now) (c .before .before .before .before .args .code) _ _ (c .before .address-place .ensures) (c .number-at .ensures)
 

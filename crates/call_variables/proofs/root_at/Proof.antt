@@ -10,19 +10,15 @@ use Rattle.call_variables.proofs.root_at.Lts as lts
 use Rattle.file.proofs.function_end.Reads as function-end-reads
 use Rattle.file.proofs.two_bytes_at.Reads as two-bytes-at-reads
 
--- src/lib.rt:30:24
 function-end-requires : tie.Need-function-end-requires
 function-end-requires c κs = search needs
 
--- src/lib.rt:30:24
 sub-two-bytes-at : tie.Need-sub-two-bytes-at
 sub-two-bytes-at c = search needs
 
--- src/lib.rt:30:5
 two-bytes-at-requires : tie.Need-two-bytes-at-requires
 two-bytes-at-requires c κs = search needs
 
--- src/lib.rt:26:1
 returns : tie.Need-returns
 returns c = c .two-bytes-at .ensures .0 ∙ ap (λ (end : ℕ). twoBytesAt (c .before .before .before .args .file .now) (end - 2)) (c .before .function-end .ensures .0)
 

@@ -7,19 +7,15 @@ use Rattle.call_variables.proofs.slot_at.Tie as tie
 use Rattle.call_variables.proofs.slot_at.Reads as reads
 use Rattle.call_variables.proofs.slot_at.Lts as lts
 
--- src/lib.rt:115:26
 mul-result : tie.Need-mul-result
 mul-result c = search needs
 
--- src/lib.rt:115:26
 shared-slice-read-result : tie.Need-shared-slice-read-result
 shared-slice-read-result c = search needs
 
--- src/lib.rt:112:1
 returns : tie.Need-returns
 returns c = search needs
 
--- src/lib.rt:112:1
 returns-2 : tie.Need-returns-2
 returns-2 c = sym (List·getD-eq-default (c .before .args .slots .now) 0 (c .if1 .left))
 

@@ -11,21 +11,17 @@ use Rattle.checking.proofs.check.Lts as lts
 use Rattle.reading.proofs.shape_number.Reads as shape-number-reads
 use Rattle.rules.proofs.rules_number.Reads as rules-number-reads
 
--- src/lib.rt:10:9
 shape-number-requires : tie.Need-shape-number-requires
 shape-number-requires c κs = search needs
 
--- src/lib.rt:12:9
 returns : tie.Need-returns
 returns c = refused-by-shape _ _ (c .before .shape-number .ensures) (c .if1 .taken)
 
--- src/lib.rt:14:5
 rules-number-requires : tie.Need-rules-number-requires
 rules-number-requires c κs =
     let none : (c .before .shape-number .result) ≡ 0 = omega arith in
     settled _ (sym (c .before .shape-number .ensures) ∙ none)
 
--- src/lib.rt:7:1
 returns-2 : tie.Need-returns-2
 returns-2 c =
     let none : (c .before .before .shape-number .result) ≡ 0 = omega arith in

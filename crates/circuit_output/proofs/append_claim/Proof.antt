@@ -4,23 +4,18 @@ use borrow.Author.Needs.{needs}
 use Rattle.circuit_output.proofs.append_claim.Statement.{statement}
 use Rattle.circuit_output.proofs.append_claim.Tie as tie
 
--- src/lib.rt:129:9
 append-two-bytes-requires : tie.Need-append-two-bytes-requires
 append-two-bytes-requires c κs = search needs
 
--- src/lib.rt:130:9
 append-two-bytes-requires-2 : tie.Need-append-two-bytes-requires-2
 append-two-bytes-requires-2 c κs = search needs
 
--- src/lib.rt:131:5
 append-two-bytes-requires-3 : tie.Need-append-two-bytes-requires-3
 append-two-bytes-requires-3 c κs = search needs
 
--- src/lib.rt:125:1
 same-length : tie.Need-same-length
 same-length c = search needs
 
--- src/lib.rt:125:1
 returns : tie.Need-returns
 returns c = three-appended _ _ _ _ _ (c .before .before .before .before .before .before .before .before .before .before .before .before .before .pre) _ _ _ _ _ _ (c .before .before .before .before .before .before .before .before .before .before .append-two-bytes .ensures) (c .before .before .before .before .before .before .append-two-bytes2 .ensures) (c .before .before .append-two-bytes3 .ensures)
 

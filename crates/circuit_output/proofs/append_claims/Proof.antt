@@ -14,67 +14,51 @@ Inv-loop numbers count out₀ from at₀ i₀ left₀ out at i left = (SixesLeft
 abbrev μ-loop : tie.MeasureT-loop
 μ-loop numbers count out₀ from at₀ i₀ left₀ out at i left = left
 
--- src/lib.rt:142:5
 loop-holds : tie.Need-loop-holds Inv-loop μ-loop
 loop-holds c = (appending-start _ _ _, omega arith, refl)
 
--- src/lib.rt:143:27
 mul-append-claim : tie.Need-mul-append-claim Inv-loop μ-loop
 mul-append-claim c = omega (arith, c .before .before .before .before .pre .0, c .before .loop .inv .1, c .before .before .before .before .good .0)
 
--- src/lib.rt:143:27
 shared-slice-read-append-claim : tie.Need-shared-slice-read-append-claim Inv-loop μ-loop
 shared-slice-read-append-claim c = omega (arith, c .before .before .before .before .before .pre .0, c .before .before .loop .inv .1, c .before .before .before .before .before .good .0)
 
--- src/lib.rt:143:47
 add-append-claim : tie.Need-add-append-claim Inv-loop μ-loop
 add-append-claim c = omega (arith, c .before .before .before .before .before .pre .0, c .before .before .loop .inv .1, c .before .before .before .before .before .good .0)
 
--- src/lib.rt:143:39
 mul-append-claim-2 : tie.Need-mul-append-claim-2 Inv-loop μ-loop
 mul-append-claim-2 c = omega (arith, c .before .before .before .before .before .pre .0, c .before .before .loop .inv .1, c .before .before .before .before .before .good .0)
 
--- src/lib.rt:143:39
 shared-slice-read-append-claim-2 : tie.Need-shared-slice-read-append-claim-2 Inv-loop μ-loop
 shared-slice-read-append-claim-2 c = omega (arith, c .before .before .before .before .before .before .pre .0, c .before .before .before .loop .inv .1, c .before .before .before .before .before .before .good .0)
 
--- src/lib.rt:143:63
 add-append-claim-2 : tie.Need-add-append-claim-2 Inv-loop μ-loop
 add-append-claim-2 c = omega (arith, c .before .before .before .before .before .before .pre .0, c .before .before .before .loop .inv .1, c .before .before .before .before .before .before .good .0)
 
--- src/lib.rt:143:55
 mul-append-claim-3 : tie.Need-mul-append-claim-3 Inv-loop μ-loop
 mul-append-claim-3 c = omega (arith, c .before .before .before .before .before .before .pre .0, c .before .before .before .loop .inv .1, c .before .before .before .before .before .before .good .0)
 
--- src/lib.rt:143:55
 shared-slice-read-append-claim-3 : tie.Need-shared-slice-read-append-claim-3 Inv-loop μ-loop
 shared-slice-read-append-claim-3 c = omega (arith, c .before .before .before .before .before .before .before .pre .0, c .before .before .before .before .loop .inv .1, c .before .before .before .before .before .before .before .good .0)
 
--- src/lib.rt:143:9
 append-claim-requires : tie.Need-append-claim-requires Inv-loop μ-loop
 append-claim-requires c κs = six-room (c .before .before .before .before .before .before .before .before .args .numbers .now) (c .before .before .before .before .before .before .before .before .args .count) _ (c .before .before .before .before .before .before .before .before .args .from) (c .before .before .before .before .before .before .before .before .pre .1) _ _ (c .before .before .before .before .before .loop .i) (c .before .before .before .before .before .loop .left) (c .before .before .before .before .before .loop .inv .0) (c .before .before .before .before .loop-test .taken)
 
--- src/lib.rt:144:9
 add-i : tie.Need-add-i Inv-loop μ-loop
 add-i c = omega (arith, c .before .before .before .before .before .before .before .before .before .before .before .pre .0, c .before .before .before .before .before .before .before .before .loop .inv .1, c .before .before .before .before .before .before .before .before .before .before .before .good .0)
 
--- src/lib.rt:145:9
 sub-left : tie.Need-sub-left Inv-loop μ-loop
 sub-left c = omega arith
 
--- src/lib.rt:142:5
 loop-less : tie.Need-loop-less Inv-loop μ-loop
 loop-less c = omega arith
 
--- src/lib.rt:142:5
 loop-again : tie.Need-loop-again Inv-loop μ-loop
 loop-again c = (six-appended (c .before .before .before .before .before .before .before .before .before .before .before .args .numbers .now) (c .before .before .before .before .before .before .before .before .before .before .before .args .count) _ (c .before .before .before .before .before .before .before .before .before .before .before .args .from) (c .before .before .before .before .before .before .before .before .before .before .before .pre .1) _ _ (c .before .before .before .before .before .before .before .before .loop .i) (c .before .before .before .before .before .before .before .before .loop .left) (c .before .before .before .before .before .before .before .before .loop .inv .0) (c .before .before .before .before .before .before .before .loop-test .taken) _ _ (c .before .before .append-claim .ensures), omega (arith, c .before .before .before .before .before .before .before .before .loop .inv .1), c .before .before .append-claim .kept .1 .1 .1 .0 ∙ c .before .before .before .before .before .before .before .before .loop .inv .2)
 
--- src/lib.rt:135:1
 same-length : tie.Need-same-length Inv-loop μ-loop
 same-length c = c .before .loop .inv .2
 
--- src/lib.rt:135:1
 returns : tie.Need-returns Inv-loop μ-loop
 returns c = sixes-done (c .before .before .before .before .args .numbers .now) (c .before .before .before .before .args .count) _ (c .before .before .before .before .args .from) (c .before .before .before .before .pre .1) _ _ (c .before .loop .i) (c .before .loop .left) (c .before .loop .inv .0) (omega arith)
 

@@ -15,79 +15,60 @@ use Rattle.io.proofs.read_full.Reads as read-full-reads
 use Rattle.io.proofs.write_all.Reads as write-all-reads
 use Rattle.writing.proofs.write.Reads as write-reads
 
--- src/main.rt:22:20
 room-requires : tie.Need-room-requires
 room-requires c κs = search needs
 
--- src/main.rt:23:19
 output-room-requires : tie.Need-output-room-requires
 output-room-requires c κs = search needs
 
--- src/main.rt:24:46
 slice-aggregate-read-full : tie.Need-slice-aggregate-read-full
 slice-aggregate-read-full c = search needs
 
--- src/main.rt:24:9
 read-full-requires : tie.Need-read-full-requires
 read-full-requires c κs = search needs
 
--- src/main.rt:25:33
 array-share-prefix-file : tie.Need-array-share-prefix-file
 array-share-prefix-file c = search needs
 
--- src/main.rt:25:33
 slice-aggregate-write : tie.Need-slice-aggregate-write
 slice-aggregate-write c = search needs
 
--- src/main.rt:25:50
 slice-aggregate-write-2 : tie.Need-slice-aggregate-write-2
 slice-aggregate-write-2 c = search needs
 
--- src/main.rt:25:9
 write-requires : tie.Need-write-requires
 write-requires c κs = search needs
 
--- src/main.rt:28:38
 array-share-prefix-out : tie.Need-array-share-prefix-out
 array-share-prefix-out c = omega (arith, promised-within _ _ _ _ _ (c .before .before .before .write .ensures))
 
--- src/main.rt:28:38
 slice-aggregate-write-all : tie.Need-slice-aggregate-write-all
 slice-aggregate-write-all c = sym (length-take-le (c .before .before .before .before .write .result .length) (c .before .before .before .before .write .last .1 .0) (omega (arith, promised-within _ _ _ _ _ (c .before .before .before .before .write .ensures))))
 
--- src/main.rt:28:9
 write-all-requires : tie.Need-write-all-requires
 write-all-requires c κs = search needs
 
--- src/main.rt:30:38
 slice-aggregate-write-all-2 : tie.Need-slice-aggregate-write-all-2
 slice-aggregate-write-all-2 c = search needs
 
--- src/main.rt:30:9
 write-all-requires-2 : tie.Need-write-all-requires-2
 write-all-requires-2 c κs = search needs
 
--- src/main.rt:31:42
 cast-print-decimal : tie.Need-cast-print-decimal
 cast-print-decimal c = search needs
 
--- src/main.rt:31:9
 print-decimal-requires : tie.Need-print-decimal-requires
 print-decimal-requires c κs = search needs
 
--- src/main.rt:32:38
 slice-aggregate-write-all-3 : tie.Need-slice-aggregate-write-all-3
 slice-aggregate-write-all-3 c = search needs
 
--- src/main.rt:32:9
 write-all-requires-3 : tie.Need-write-all-requires-3
 write-all-requires-3 c κs = search needs
 
--- src/main.rt:21:1
 returns : tie.Need-returns
 returns c = search needs
 
--- src/main.rt:21:1
 returns-2 : tie.Need-returns-2
 returns-2 c = search needs
 

@@ -9,15 +9,12 @@ use Rattle.contents.proofs.opened_at.Lts as lts
 use Rattle.contents.proofs.content_at.Reads as content-at-reads
 use Rattle.contents.proofs.opened_number.Reads as opened-number-reads
 
--- src/lib.rt:113:9
 content-at-requires : tie.Need-content-at-requires
 content-at-requires c κs = search needs
 
--- src/lib.rt:114:5
 opened-number-requires : tie.Need-opened-number-requires
 opened-number-requires c κs = search needs
 
--- src/lib.rt:110:1
 returns : tie.Need-returns
 returns c = c .opened-number .ensures ∙ ap openedNumber (c .before .content-at .ensures)
 

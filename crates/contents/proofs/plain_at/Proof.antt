@@ -9,15 +9,12 @@ use Rattle.contents.proofs.plain_at.Lts as lts
 use Rattle.contents.proofs.content_at.Reads as content-at-reads
 use Rattle.contents.proofs.plain_number.Reads as plain-number-reads
 
--- src/lib.rt:105:9
 content-at-requires : tie.Need-content-at-requires
 content-at-requires c κs = search needs
 
--- src/lib.rt:106:5
 plain-number-requires : tie.Need-plain-number-requires
 plain-number-requires c κs = search needs
 
--- src/lib.rt:102:1
 returns : tie.Need-returns
 returns c = c .plain-number .ensures ∙ ap plainNumber (c .before .content-at .ensures)
 

@@ -6,15 +6,12 @@ use Rattle.definitions.proofs.product.Tie as tie
 use Rattle.definitions.proofs.product.Reads as reads
 use Rattle.definitions.proofs.product.Lts as lts
 
--- src/lib.rt:23:6
 mul-result : tie.Need-mul-result
 mul-result c = record { fits = product-fits 32 (search needs) (search needs) }
 
--- src/lib.rt:23:5
 cast-result : tie.Need-cast-result
 cast-result c = search needs
 
--- src/lib.rt:20:1
 returns : tie.Need-returns
 returns c = search needs
 

@@ -11,23 +11,18 @@ use Rattle.deploy.proofs.addresses_number.Lts as lts
 use Rattle.deploy.proofs.any_too_high.Reads as any-too-high-reads
 use Rattle.deploy.proofs.final_count.Reads as final-count-reads
 
--- src/lib.rt:65:27
 final-count-requires : tie.Need-final-count-requires
 final-count-requires c κs = search needs
 
--- src/lib.rt:66:9
 returns : tie.Need-returns
 returns c = count-differs _ _ _ (c .before .final-count .ensures) (λ e. omega arith)
 
--- src/lib.rt:68:8
 any-too-high-requires : tie.Need-any-too-high-requires
 any-too-high-requires c κs = search needs
 
--- src/lib.rt:62:1
 returns-2 : tie.Need-returns-2
 returns-2 c = counts-agree _ _ _ (c .before .before .before .final-count .ensures) true (omega arith) (sym (c .if2 .taken) ∙ c .before .any-too-high .ensures)
 
--- src/lib.rt:62:1
 returns-3 : tie.Need-returns-3
 returns-3 c = counts-agree _ _ _ (c .before .before .before .final-count .ensures) false (omega arith) (sym (c .if2 .left) ∙ c .before .any-too-high .ensures)
 

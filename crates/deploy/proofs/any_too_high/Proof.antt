@@ -18,32 +18,25 @@ Inv-loop addresses i₀ i = (i ≤ length addresses) × (any (ltb 15) (drop i ad
 abbrev μ-loop : tie.MeasureT-loop
 μ-loop addresses i₀ i = length addresses - i
 
--- src/lib.rt:52:5
 loop-holds : tie.Need-loop-holds Inv-loop μ-loop
 loop-holds c = (omega arith, refl)
 
--- src/lib.rt:53:17
 shared-slice-read-if1 : tie.Need-shared-slice-read-if1 Inv-loop μ-loop
 shared-slice-read-if1 c = search needs
 
--- src/lib.rt:54:13
 returns : tie.Need-returns Inv-loop μ-loop
 returns c = let k = c .before .before .before in high-found (k .before .args .addresses .now) (k .loop .i) _ (k .loop .inv .1) (omega arith) (omega arith)
 
--- src/lib.rt:56:9
 add-i : tie.Need-add-i Inv-loop μ-loop
 add-i c = search needs
 
--- src/lib.rt:52:5
 loop-less : tie.Need-loop-less Inv-loop μ-loop
 loop-less c = search needs
 
--- src/lib.rt:52:5
 loop-again : tie.Need-loop-again Inv-loop μ-loop
 loop-again c = let k = c .before .before .before in
     (omega arith, high-next (k .before .args .addresses .now) (k .loop .i) _ (k .loop .inv .1) (omega arith) (omega arith))
 
--- src/lib.rt:48:1
 returns-2 : tie.Need-returns-2 Inv-loop μ-loop
 returns-2 c = high-none (c .before .before .args .addresses .now) (c .before .loop .i) _ (c .before .loop .inv .1) (omega arith)
 

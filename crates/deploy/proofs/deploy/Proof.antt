@@ -11,23 +11,18 @@ use Rattle.deploy.proofs.deploy_number.Reads as deploy-number-reads
 use Rattle.deploy.proofs.refused.Reads as refused-reads
 use Rattle.deployments.proofs.deployed.Reads as deployed-reads
 
--- src/lib.rt:121:9
 deploy-number-requires : tie.Need-deploy-number-requires
 deploy-number-requires c κs = search needs
 
--- src/lib.rt:123:9
 refused-requires : tie.Need-refused-requires
 refused-requires c κs = search needs
 
--- src/lib.rt:123:9
 returns : tie.Need-returns
 returns c = refused-is _ _ _ (c .before .before .deploy-number .ensures) _ (c .before .if1 .taken) (c .refused .ensures)
 
--- src/lib.rt:125:9
 deployed-requires : tie.Need-deployed-requires
 deployed-requires c κs = let accepted = deployed-accepted _ _ _ (c .before .deploy-number .ensures) (omega arith) in (accepted-fields _ accepted, accepted-length _ accepted)
 
--- src/lib.rt:118:1
 returns-2 : tie.Need-returns-2
 returns-2 c = accepted-is _ _ _ (c .before .before .deploy-number .ensures) _ (omega arith) (c .deployed .ensures)
 

@@ -9,19 +9,15 @@ use Rattle.checking.proofs.check.Reads as check-reads
 use Rattle.deploy.proofs.addresses_number.Reads as addresses-number-reads
 use Rattle.deploy.proofs.first_number.Reads as first-number-reads
 
--- src/lib.rt:82:9
 check-requires : tie.Need-check-requires
 check-requires c κs = search needs
 
--- src/lib.rt:83:9
 addresses-number-requires : tie.Need-addresses-number-requires
 addresses-number-requires c κs = search needs
 
--- src/lib.rt:84:5
 first-number-requires : tie.Need-first-number-requires
 first-number-requires c κs = search needs
 
--- src/lib.rt:79:1
 returns : tie.Need-returns
 returns c = own-first _ _ _ _ _ (c .before .before .check .ensures) (c .before .addresses-number .ensures) (c .first-number .ensures)
 

@@ -8,24 +8,19 @@ use Rattle.deploy.proofs.final_bit.Reads as reads
 use Rattle.deploy.proofs.final_bit.Lts as lts
 use Rattle.file.proofs.byte_at.Reads as byte-at-reads
 
--- src/lib.rt:30:32
 mul-byte-at : tie.Need-mul-byte-at
 mul-byte-at c = search needs
 
--- src/lib.rt:30:28
 add-byte-at : tie.Need-add-byte-at
 add-byte-at c = search needs
 
--- src/lib.rt:30:8
 byte-at-requires : tie.Need-byte-at-requires
 byte-at-requires c κs = search needs
 
--- src/lib.rt:25:1
 returns : tie.Need-returns
 returns c = let s = c .before .before .before in
     (rw (is-final (s .args .file .now) (s .args .f) _ (s .pre .0) (c .before .byte-at .ensures .0) (c .if1 .taken)), omega arith)
 
--- src/lib.rt:25:1
 returns-2 : tie.Need-returns-2
 returns-2 c = let s = c .before .before .before in
     (rw (not-final (s .args .file .now) (s .args .f) _ (s .pre .0) (c .before .byte-at .ensures .0) (c .if1 .left)), omega arith)

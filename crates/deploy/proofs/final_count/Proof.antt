@@ -21,31 +21,24 @@ Inv-loop file count f₀ finals₀ f finals = (f ≤ count) × ((finals ≤ f) �
 abbrev μ-loop : tie.MeasureT-loop
 μ-loop file count f₀ finals₀ f finals = count - f
 
--- src/lib.rt:37:9
 byte-at-requires : tie.Need-byte-at-requires Inv-loop μ-loop
 byte-at-requires c κs = search needs
 
--- src/lib.rt:40:5
 loop-holds : tie.Need-loop-holds Inv-loop μ-loop
 loop-holds c = (omega arith, (omega arith, omega arith))
 
--- src/lib.rt:41:19
 final-bit-requires : tie.Need-final-bit-requires Inv-loop μ-loop
 final-bit-requires c κs = search needs
 
--- src/lib.rt:41:9
 add-finals : tie.Need-add-finals Inv-loop μ-loop
 add-finals c = search needs
 
--- src/lib.rt:42:9
 add-f : tie.Need-add-f Inv-loop μ-loop
 add-f c = search needs
 
--- src/lib.rt:40:5
 loop-less : tie.Need-loop-less Inv-loop μ-loop
 loop-less c = search needs
 
--- src/lib.rt:40:5
 loop-again : tie.Need-loop-again Inv-loop μ-loop
 loop-again c = let k = c .before .before in
     let file = k .before .before .before .args .file .now in
@@ -53,7 +46,6 @@ loop-again c = let k = c .before .before in
     let same = k .before .byte-at .ensures .0 in
     (omega arith, (omega arith, finals-next (fieldsIn file) (k .loop .f) (k .loop .finals) _ _ (omega arith) (c .final-bit .ensures .0) (k .loop .inv .1 .1)))
 
--- src/lib.rt:34:1
 returns : tie.Need-returns Inv-loop μ-loop
 returns c = let k = c .before in
     let file = k .before .before .before .args .file .now in

@@ -5,11 +5,9 @@ use Rattle.deploy.proofs.first_number.Tie as tie
 use Rattle.deploy.proofs.first_number.Reads as reads
 use Rattle.deploy.proofs.first_number.Lts as lts
 
--- src/lib.rt:72:1
 returns : tie.Need-returns
 returns c = second-number _ _ (c .if1 .taken)
 
--- src/lib.rt:72:1
 returns-2 : tie.Need-returns-2
 returns-2 c = first-number _ _ (c .if1 .left)
 

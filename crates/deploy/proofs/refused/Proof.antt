@@ -7,7 +7,6 @@ use Rattle.deploy.proofs.refused.Tie as tie
 use Rattle.deploy.proofs.refused.Reads as reads
 use Rattle.deploy.proofs.refused.Lts as lts
 
--- src/lib.rt:87:1
 returns : tie.Need-returns
 unfolding ledgerOf nothingDeployed
 returns c = record { given = refl; empty = refl }

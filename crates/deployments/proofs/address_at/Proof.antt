@@ -8,19 +8,15 @@ use Rattle.deployments.proofs.address_at.Tie as tie
 use Rattle.deployments.proofs.address_at.Reads as reads
 use Rattle.deployments.proofs.address_at.Lts as lts
 
--- src/lib.rt:36:9
 shared-slice-read-result : tie.Need-shared-slice-read-result
 shared-slice-read-result c = search needs
 
--- src/lib.rt:36:9
 cast-result : tie.Need-cast-result
 cast-result c = omega (arith, c .shared-slice-known .given (c .before .before .args .a))
 
--- src/lib.rt:32:1
 returns : tie.Need-returns
 returns c = search needs
 
--- src/lib.rt:32:1
 returns-2 : tie.Need-returns-2
 returns-2 c = sym (List·getD-eq-default (c .before .args .addresses .now) 0 (c .if1 .left))
 

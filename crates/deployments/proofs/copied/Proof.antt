@@ -16,33 +16,26 @@ Inv-loop file bytes₀ i₀ bytes i = (i ≤ length file) × ((length bytes ≡ 
 abbrev μ-loop : tie.MeasureT-loop
 μ-loop file bytes₀ i₀ bytes i = length file - i
 
--- src/lib.rt:116:5
 loop-holds : tie.Need-loop-holds Inv-loop μ-loop
 loop-holds c = (omega arith, (refl, refl))
 
--- src/lib.rt:117:20
 shared-slice-read-bytes : tie.Need-shared-slice-read-bytes Inv-loop μ-loop
 shared-slice-read-bytes c = search needs
 
--- src/lib.rt:117:9
 array-write-bytes : tie.Need-array-write-bytes Inv-loop μ-loop
 array-write-bytes c = omega arith
 
--- src/lib.rt:118:9
 add-i : tie.Need-add-i Inv-loop μ-loop
 add-i c = search needs
 
--- src/lib.rt:116:5
 loop-less : tie.Need-loop-less Inv-loop μ-loop
 loop-less c = search needs
 
--- src/lib.rt:116:5
 loop-again : tie.Need-loop-again Inv-loop μ-loop
 loop-again c =
     let k = c .before .before in
     (omega arith, (simp length-set (k .loop .inv .1 .0), copy-next (k .before .args .file .now) _ (k .loop .i) (omega arith) (omega arith) (k .loop .inv .1 .1)))
 
--- src/lib.rt:110:1
 returns : tie.Need-returns Inv-loop μ-loop
 returns c = copy-done (c .before .before .args .file .now) _ (c .before .loop .i) (omega arith) (omega arith) (c .before .loop .inv .1 .1)
 

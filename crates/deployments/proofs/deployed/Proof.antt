@@ -17,29 +17,23 @@ use Rattle.deployments.proofs.copied.Reads as copied-reads
 use Rattle.deployments.proofs.put_numbers.Reads as put-numbers-reads
 use Rattle.deployments.proofs.put_places.Reads as put-places-reads
 
--- src/lib.rt:128:9
 copied-requires : tie.Need-copied-requires
 copied-requires c κs = search needs
 
--- src/lib.rt:130:46
 slice-aggregate-put-numbers : tie.Need-slice-aggregate-put-numbers
 slice-aggregate-put-numbers c = search needs
 
--- src/lib.rt:130:9
 put-numbers-requires : tie.Need-put-numbers-requires
 put-numbers-requires c κs = search needs
 
--- src/lib.rt:131:35
 array-share-prefix-numbers : tie.Need-array-share-prefix-numbers
 array-share-prefix-numbers c = search needs
 
--- src/lib.rt:131:35
 slice-aggregate-put-places : tie.Need-slice-aggregate-put-places
 slice-aggregate-put-places c =
     let n = c .before .before .put-numbers .ensures in
     n .many ∙ sym (ap length (front-stands _ _ _ _ (n .stand) (n .many)))
 
--- src/lib.rt:131:9
 put-places-requires : tie.Need-put-places-requires
 put-places-requires c κs =
     let n = c .before .before .put-numbers .ensures in
@@ -49,7 +43,6 @@ put-places-requires c κs =
     deployable (s .args .file .now) (s .args .addresses .now) _ (s .pre .0) front (omega (arith, n .few, n .many))
     (λ i. omega (arith, c .before .before .before .before .before .shared-slice-known2 .given i))
 
--- src/lib.rt:124:1
 returns : tie.Need-returns
 unfolding ledgerOf deployed contractOf fieldsIn contentsFor
 returns c =

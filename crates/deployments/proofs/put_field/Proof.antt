@@ -32,33 +32,26 @@ abbrev μ-loop : tie.MeasureT-loop
 long : (c : tie.Start Inv-loop μ-loop) → length (c .args .places) ≡ 1024
 long c = search (unmapped, needs)
 
--- src/lib.rt:76:5
 loop-holds : tie.Need-loop-holds Inv-loop μ-loop
 loop-holds c =
     let s = c .before .before in
     (omega arith, (long s, field-start (fieldsIn (s .args .file .now)) (s .args .numbers .now) (s .args .f) (s .args .p) (s .args .count) (s .args .places)))
 
--- src/lib.rt:77:53
 cast-place-reader : tie.Need-cast-place-reader Inv-loop μ-loop
 cast-place-reader c = search needs
 
--- src/lib.rt:77:13
 place-reader-requires : tie.Need-place-reader-requires Inv-loop μ-loop
 place-reader-requires c κs = (c .before .before .before .before .pre .1 .0, c .before .before .before .before .pre .0 .fewFields)
 
--- src/lib.rt:78:66
 add-content-for : tie.Need-add-content-for Inv-loop μ-loop
 add-content-for c = search needs
 
--- src/lib.rt:78:58
 mul-content-for : tie.Need-mul-content-for Inv-loop μ-loop
 mul-content-for c = search needs
 
--- src/lib.rt:78:58
 shared-slice-read-content-for : tie.Need-shared-slice-read-content-for Inv-loop μ-loop
 shared-slice-read-content-for c = search needs
 
--- src/lib.rt:78:13
 content-for-requires : tie.Need-content-for-requires Inv-loop μ-loop
 content-for-requires c κs =
     let s = c .before .before .before .before .before .before in
@@ -66,27 +59,21 @@ content-for-requires c κs =
     (c .before .before .before .loop .key) (c .before .place-reader .ensures)
     (λ g. s .pre .0 .bytes (position (fieldsIn (s .args .file .now)) g 0)) (omega (arith, s .pre .1 .1))
 
--- src/lib.rt:79:14
 add-made : tie.Need-add-made Inv-loop μ-loop
 add-made c = search needs
 
--- src/lib.rt:79:9
 mul-made : tie.Need-mul-made Inv-loop μ-loop
 mul-made c = search needs
 
--- src/lib.rt:79:9
 array-set-from-made : tie.Need-array-set-from-made Inv-loop μ-loop
 array-set-from-made c = omega (arith, c .before .before .before .before .before .before .before .pre .0 .fewPlaces, c .before .before .before .before .before .before .before .pre .1 .1)
 
--- src/lib.rt:82:9
 add-key : tie.Need-add-key Inv-loop μ-loop
 add-key c = search needs
 
--- src/lib.rt:76:5
 loop-less : tie.Need-loop-less Inv-loop μ-loop
 loop-less c = search needs
 
--- src/lib.rt:76:5
 loop-again : tie.Need-loop-again Inv-loop μ-loop
 loop-again c =
     let k = c .before .before .before .before in
@@ -103,7 +90,6 @@ loop-again c =
       ),
     )
 
--- src/lib.rt:68:1
 returns : tie.Need-returns Inv-loop μ-loop
 returns c =
     let s = c .before .before .before .before in

@@ -27,55 +27,42 @@ Inv-loop file addresses numbers₀ count f₀ p₀ a₀ numbers f p a =
 abbrev μ-loop : tie.MeasureT-loop
 μ-loop file addresses numbers₀ count f₀ p₀ a₀ numbers f p a = count - f
 
--- src/lib.rt:47:9
 byte-at-requires : tie.Need-byte-at-requires Inv-loop μ-loop
 byte-at-requires c κs = search needs
 
--- src/lib.rt:51:5
 loop-holds : tie.Need-loop-holds Inv-loop μ-loop
 loop-holds c = (omega arith, (omega arith, (omega arith, (refl, (refl, omega arith)))))
 
--- src/lib.rt:52:36
 mul-byte-at : tie.Need-mul-byte-at Inv-loop μ-loop
 mul-byte-at c = search needs
 
--- src/lib.rt:52:32
 add-byte-at : tie.Need-add-byte-at Inv-loop μ-loop
 add-byte-at c = search needs
 
--- src/lib.rt:52:12
 byte-at-requires-2 : tie.Need-byte-at-requires-2 Inv-loop μ-loop
 byte-at-requires-2 c κs = search needs
 
--- src/lib.rt:53:26
 address-at-requires : tie.Need-address-at-requires Inv-loop μ-loop
 address-at-requires c κs = search needs
 
--- src/lib.rt:53:13
 mul-numbers : tie.Need-mul-numbers Inv-loop μ-loop
 mul-numbers c = search needs
 
--- src/lib.rt:53:13
 slice-write-numbers : tie.Need-slice-write-numbers Inv-loop μ-loop
 slice-write-numbers c = search needs
 
--- src/lib.rt:54:13
 add-p : tie.Need-add-p Inv-loop μ-loop
 add-p c = search needs
 
--- src/lib.rt:55:13
 add-a : tie.Need-add-a Inv-loop μ-loop
 add-a c = search needs
 
--- src/lib.rt:56:13
 add-f : tie.Need-add-f Inv-loop μ-loop
 add-f c = search needs
 
--- src/lib.rt:51:5
 loop-less : tie.Need-loop-less Inv-loop μ-loop
 loop-less c = search needs
 
--- src/lib.rt:51:5
 loop-again : tie.Need-loop-again Inv-loop μ-loop
 loop-again c =
     let k = c .before .before .before .before in
@@ -102,27 +89,21 @@ loop-again c =
       ),
     )
 
--- src/lib.rt:58:17
 place-count-requires : tie.Need-place-count-requires Inv-loop μ-loop
 place-count-requires c κs = search needs
 
--- src/lib.rt:59:13
 put-zeros-requires : tie.Need-put-zeros-requires Inv-loop μ-loop
 put-zeros-requires c κs = search needs
 
--- src/lib.rt:60:13
 add-p-2 : tie.Need-add-p-2 Inv-loop μ-loop
 add-p-2 c = search needs
 
--- src/lib.rt:61:13
 add-f-2 : tie.Need-add-f-2 Inv-loop μ-loop
 add-f-2 c = search needs
 
--- src/lib.rt:51:5
 loop-less-2 : tie.Need-loop-less-2 Inv-loop μ-loop
 loop-less-2 c = search needs
 
--- src/lib.rt:51:5
 loop-again-2 : tie.Need-loop-again-2 Inv-loop μ-loop
 loop-again-2 c =
     let k = c .before .before .before .before .before .before .before .before in
@@ -151,11 +132,9 @@ loop-again-2 c =
       ),
     )
 
--- src/lib.rt:43:1
 same-length : tie.Need-same-length Inv-loop μ-loop
 same-length c = c .before .loop .inv .1 .1 .1 .0
 
--- src/lib.rt:43:1
 returns : tie.Need-returns Inv-loop μ-loop
 returns c =
     let k = c .before in

@@ -27,19 +27,15 @@ Inv-loop file numbers places₀ count f₀ p₀ places f p =
 abbrev μ-loop : tie.MeasureT-loop
 μ-loop file numbers places₀ count f₀ p₀ places f p = count - f
 
--- src/lib.rt:96:9
 byte-at-requires : tie.Need-byte-at-requires Inv-loop μ-loop
 byte-at-requires c κs = search needs
 
--- src/lib.rt:99:5
 loop-holds : tie.Need-loop-holds Inv-loop μ-loop
 loop-holds c = (omega arith, (omega (arith, c .before .before .before .pre .perPlace), refl))
 
--- src/lib.rt:100:13
 place-count-requires : tie.Need-place-count-requires Inv-loop μ-loop
 place-count-requires c κs = omega (arith, c .before .before .before .before .before .pre .fewFields, c .before .before .byte-at .ensures .0)
 
--- src/lib.rt:101:13
 put-field-requires : tie.Need-put-field-requires Inv-loop μ-loop
 put-field-requires c κs =
     let k = c .before .before in
@@ -51,19 +47,15 @@ put-field-requires c κs =
     let more = field-counted (fieldsIn file) (s .args .numbers .now) (k .loop .f) (k .loop .p) _ inside (c .place-count .ensures .0) (k .loop .inv .1 .0) in
     (s .pre, (omega arith, omega (arith, c .place-count .ensures .1)))
 
--- src/lib.rt:103:9
 add-p : tie.Need-add-p Inv-loop μ-loop
 add-p c = omega (arith, c .before .before .before .before .before .before .before .pre .fewPlaces, c .before .place-count .ensures .1)
 
--- src/lib.rt:104:9
 add-f : tie.Need-add-f Inv-loop μ-loop
 add-f c = search needs
 
--- src/lib.rt:99:5
 loop-less : tie.Need-loop-less Inv-loop μ-loop
 loop-less c = search needs
 
--- src/lib.rt:99:5
 loop-again : tie.Need-loop-again Inv-loop μ-loop
 loop-again c =
     let k = c .before .before .before in
@@ -81,7 +73,6 @@ loop-again c =
       ),
     )
 
--- src/lib.rt:88:1
 returns : tie.Need-returns Inv-loop μ-loop
 returns c =
     let k = c .before in

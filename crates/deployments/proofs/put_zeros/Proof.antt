@@ -18,31 +18,24 @@ Inv-loop numbers₀ p count at₀ left₀ numbers at left =
 abbrev μ-loop : tie.MeasureT-loop
 μ-loop numbers₀ p count at₀ left₀ numbers at left = left
 
--- src/lib.rt:24:5
 loop-holds : tie.Need-loop-holds Inv-loop μ-loop
 loop-holds c = (refl, (refl, refl))
 
--- src/lib.rt:25:9
 mul-numbers : tie.Need-mul-numbers Inv-loop μ-loop
 mul-numbers c = search needs
 
--- src/lib.rt:25:9
 slice-write-numbers : tie.Need-slice-write-numbers Inv-loop μ-loop
 slice-write-numbers c = search needs
 
--- src/lib.rt:26:9
 add-at : tie.Need-add-at Inv-loop μ-loop
 add-at c = search needs
 
--- src/lib.rt:27:9
 sub-left : tie.Need-sub-left Inv-loop μ-loop
 sub-left c = search needs
 
--- src/lib.rt:24:5
 loop-less : tie.Need-loop-less Inv-loop μ-loop
 loop-less c = search needs
 
--- src/lib.rt:24:5
 loop-again : tie.Need-loop-again Inv-loop μ-loop
 loop-again c =
     let k = c .before in (
@@ -50,11 +43,9 @@ loop-again c =
       (simp length-set (k .loop .inv .1 .0), zeros-next _ _ _ _ (c .loop-test .taken) (omega arith) (k .loop .inv .1 .1)),
     )
 
--- src/lib.rt:18:1
 same-length : tie.Need-same-length Inv-loop μ-loop
 same-length c = c .before .loop .inv .1 .0
 
--- src/lib.rt:18:1
 returns : tie.Need-returns Inv-loop μ-loop
 returns c = zeros-done _ _ _ _ (c .loop-test .left) (c .before .loop .inv .1 .1)
 

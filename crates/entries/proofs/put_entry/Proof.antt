@@ -8,67 +8,51 @@ use Rattle.entries.proofs.put_entry.Reads as reads
 use Rattle.entries.proofs.put_entry.Lts as lts
 use Rattle.buffer.proofs.put_number.Reads as put-number-reads
 
--- src/lib.rt:29:25
 cast-put-number : tie.Need-cast-put-number
 cast-put-number c = search needs
 
--- src/lib.rt:29:5
 put-number-requires : tie.Need-put-number-requires
 put-number-requires c κs = search needs
 
--- src/lib.rt:30:21
 add-put-number : tie.Need-add-put-number
 add-put-number c = search needs
 
--- src/lib.rt:30:29
 cast-put-number-2 : tie.Need-cast-put-number-2
 cast-put-number-2 c = search needs
 
--- src/lib.rt:30:5
 put-number-requires-2 : tie.Need-put-number-requires-2
 put-number-requires-2 c κs = search needs
 
--- src/lib.rt:31:21
 add-put-number-2 : tie.Need-add-put-number-2
 add-put-number-2 c = search needs
 
--- src/lib.rt:31:29
 cast-put-number-3 : tie.Need-cast-put-number-3
 cast-put-number-3 c = search needs
 
--- src/lib.rt:31:5
 put-number-requires-3 : tie.Need-put-number-requires-3
 put-number-requires-3 c κs = search needs
 
--- src/lib.rt:32:21
 add-put-number-3 : tie.Need-add-put-number-3
 add-put-number-3 c = search needs
 
--- src/lib.rt:32:29
 cast-put-number-4 : tie.Need-cast-put-number-4
 cast-put-number-4 c = search needs
 
--- src/lib.rt:32:5
 put-number-requires-4 : tie.Need-put-number-requires-4
 put-number-requires-4 c κs = search needs
 
--- src/lib.rt:33:21
 add-put-number-4 : tie.Need-add-put-number-4
 add-put-number-4 c = search needs
 
--- src/lib.rt:33:29
 cast-put-number-5 : tie.Need-cast-put-number-5
 cast-put-number-5 c = omega (arith, c .before .before .before .before .before .before .before .before .before .before .before .before .before .before .before .before .before .before .before .before .before .before .before .pre .1 .last)
 
--- src/lib.rt:33:5
 put-number-requires-5 : tie.Need-put-number-requires-5
 put-number-requires-5 c κs = search needs
 
--- src/lib.rt:25:1
 same-length : tie.Need-same-length
 same-length c = search needs
 
--- src/lib.rt:25:1
 returns : tie.Need-returns
 returns c = five-stored _ _ _ _ _ _ _ _ _ _ _ _ (c .before .before .before .before .before .before .before .before .before .before .before .before .before .before .before .before .before .before .before .before .before .before .before .before .before .before .pre .0) (c .before .before .before .before .before .before .before .before .before .before .before .before .before .before .before .before .before .before .before .before .before .before .put-number .ensures) (c .before .before .before .before .before .before .before .before .before .before .before .before .before .before .before .before .before .put-number2 .ensures) (c .before .before .before .before .before .before .before .before .before .before .before .before .put-number3 .ensures) (c .before .before .before .before .before .before .before .put-number4 .ensures) (c .before .before .put-number5 .ensures)
 

@@ -8,39 +8,30 @@ use Rattle.field_output.proofs.append_field.Lts as lts
 use Rattle.append.proofs.append_byte.Reads as append-byte-reads
 use Rattle.field_output.proofs.written_type.Reads as written-type-reads
 
--- src/lib.rt:26:28
 cast-append-byte : tie.Need-cast-append-byte
 cast-append-byte c = search needs
 
--- src/lib.rt:26:9
 append-byte-requires : tie.Need-append-byte-requires
 append-byte-requires c κs = search needs
 
--- src/lib.rt:27:28
 written-type-requires : tie.Need-written-type-requires
 written-type-requires c κs = search needs
 
--- src/lib.rt:27:28
 cast-append-byte-2 : tie.Need-cast-append-byte-2
 cast-append-byte-2 c = search needs
 
--- src/lib.rt:27:9
 append-byte-requires-2 : tie.Need-append-byte-requires-2
 append-byte-requires-2 c κs = search needs
 
--- src/lib.rt:28:17
 cast-append-byte-3 : tie.Need-cast-append-byte-3
 cast-append-byte-3 c = search needs
 
--- src/lib.rt:28:5
 append-byte-requires-3 : tie.Need-append-byte-requires-3
 append-byte-requires-3 c κs = search needs
 
--- src/lib.rt:22:1
 same-length : tie.Need-same-length
 same-length c = search needs
 
--- src/lib.rt:22:1
 returns : tie.Need-returns
 returns c = field-appended _ _ _ (c .before .before .before .before .before .before .before .before .before .before .before .before .before .before .pre .0) (c .before .before .before .before .before .before .before .before .before .before .before .before .before .before .args .out .now) _ _ _ _ _ _ _ _ (c .before .before .before .before .before .before .before .before .before .before .before .before .before .before .pre .1 .1 .1 .1) (c .before .before .before .before .before .before .before .before .written-type .ensures .0) (c .before .before .before .before .before .before .before .before .before .before .before .append-byte .ensures) (c .before .before .before .before .before .before .append-byte2 .ensures) (c .before .before .append-byte3 .ensures)
 

@@ -13,27 +13,21 @@ use Rattle.append.proofs.append_byte.Reads as append-byte-reads
 use Rattle.field_output.proofs.append_fields.Reads as append-fields-reads
 use Rattle.file.proofs.byte_at.Reads as byte-at-reads
 
--- src/lib.rt:52:9
 byte-at-requires : tie.Need-byte-at-requires
 byte-at-requires c κs = search needs
 
--- src/lib.rt:53:28
 cast-append-byte : tie.Need-cast-append-byte
 cast-append-byte c = search needs
 
--- src/lib.rt:53:9
 append-byte-requires : tie.Need-append-byte-requires
 append-byte-requires c κs = search needs
 
--- src/lib.rt:54:5
 append-fields-requires : tie.Need-append-fields-requires
 append-fields-requires c κs = (subst (FieldsListed (c .before .before .before .before .before .before .before .before .args .file .now)) (sym (c .before .before .before .before .before .byte-at .ensures .0)) (c .before .before .before .before .before .before .before .before .pre .0), let e = c .before .before .before .before .before .byte-at .ensures .0 in let l = appended-length _ _ _ _ _ (c .before .before .before .append-byte .ensures) (omega arith) in omega arith)
 
--- src/lib.rt:48:1
 same-length : tie.Need-same-length
 same-length c = search needs
 
--- src/lib.rt:48:1
 returns : tie.Need-returns
 returns c = section-appended (c .before .before .before .before .before .before .before .before .before .before .before .args .file .now) (c .before .before .before .before .before .before .before .before .before .before .before .args .out .now) _ _ (c .before .before .before .before .before .before .before .before .before .before .before .args .at) _ _ _ (c .before .before .before .before .before .before .before .before .byte-at .ensures .0) (c .before .before .before .before .before .before .before .before .before .before .before .pre .1) (c .before .before .before .before .before .before .append-byte .ensures) (c .before .before .append-fields .ensures)
 

@@ -21,55 +21,42 @@ Inv-loop file count out₀ from place₀ left₀ at₀ out place left at = (Appe
 abbrev μ-loop : tie.MeasureT-loop
 μ-loop file count out₀ from place₀ left₀ at₀ out place left at = left
 
--- src/lib.rt:39:5
 loop-holds : tie.Need-loop-holds Inv-loop μ-loop
 loop-holds c = (appending-start _ _ _, omega arith, omega arith, refl)
 
--- src/lib.rt:40:27
 byte-at-requires : tie.Need-byte-at-requires Inv-loop μ-loop
 byte-at-requires c κs = search needs
 
--- src/lib.rt:40:63
 add-byte-at : tie.Need-add-byte-at Inv-loop μ-loop
 add-byte-at c = search needs
 
--- src/lib.rt:40:49
 byte-at-requires-2 : tie.Need-byte-at-requires-2 Inv-loop μ-loop
 byte-at-requires-2 c κs = search needs
 
--- src/lib.rt:40:89
 add-byte-at-2 : tie.Need-add-byte-at-2 Inv-loop μ-loop
 add-byte-at-2 c = search needs
 
--- src/lib.rt:40:75
 byte-at-requires-3 : tie.Need-byte-at-requires-3 Inv-loop μ-loop
 byte-at-requires-3 c κs = search needs
 
--- src/lib.rt:40:9
 append-field-requires : tie.Need-append-field-requires Inv-loop μ-loop
 append-field-requires c κs = (field-listed (c .before .before .before .before .before .before .before .before .args .file .now) (c .before .before .before .before .before .before .before .before .args .count) (c .before .before .before .before .before .loop .left) (c .before .before .before .before .before .loop .place) _ _ _ (c .before .before .before .before .before .before .before .before .pre .0) (omega arith) (omega arith) (c .before .before .before .before .before .loop .inv .2) (c .before .before .before .byte-at .ensures .0) (c .before .before .byte-at2 .ensures .0) (c .before .byte-at3 .ensures .0), (omega arith, (omega arith, (omega arith, fields-room (c .before .before .before .before .before .before .before .before .args .file .now) (c .before .before .before .before .before .before .before .before .args .out .now) (c .before .before .before .before .before .before .before .before .args .from) (c .before .before .before .before .before .before .before .before .args .count) (c .before .before .before .before .before .before .before .before .pre .1) (c .before .before .before .before .before .loop .out) (c .before .before .before .before .before .loop .at) (c .before .before .before .before .before .loop .left) (c .before .before .before .before .before .loop .place) (omega arith) (c .before .before .before .before .before .loop .inv .0)))))
 
--- src/lib.rt:41:9
 add-place : tie.Need-add-place Inv-loop μ-loop
 add-place c = search needs
 
--- src/lib.rt:42:9
 sub-left : tie.Need-sub-left Inv-loop μ-loop
 sub-left c = search needs
 
--- src/lib.rt:39:5
 loop-less : tie.Need-loop-less Inv-loop μ-loop
 loop-less c = search needs
 
--- src/lib.rt:39:5
 loop-again : tie.Need-loop-again Inv-loop μ-loop
 loop-again c = (fields-appended (c .before .before .before .before .before .before .before .before .before .before .before .args .file .now) (c .before .before .before .before .before .before .before .before .before .before .before .args .out .now) (c .before .before .before .before .before .before .before .before .before .before .before .args .from) (c .before .before .before .before .before .before .before .before .before .before .before .args .count) (c .before .before .before .before .before .before .before .before .before .before .before .pre .1) _ _ _ (c .before .before .before .before .before .before .before .before .loop .left) (c .before .before .before .before .before .before .before .before .loop .place) _ _ _ _ (omega arith) (c .before .before .before .before .before .before .byte-at .ensures .0) (c .before .before .before .before .before .byte-at2 .ensures .0) (c .before .before .before .before .byte-at3 .ensures .0) (c .before .before .before .before .before .before .before .before .loop .inv .0) (c .before .before .append-field .ensures), omega arith, omega arith, search needs)
 
--- src/lib.rt:32:1
 same-length : tie.Need-same-length Inv-loop μ-loop
 same-length c = search needs
 
--- src/lib.rt:32:1
 returns : tie.Need-returns Inv-loop μ-loop
 returns c = fields-done (c .before .before .before .before .args .file .now) (c .before .before .before .before .args .out .now) (c .before .before .before .before .args .from) (c .before .before .before .before .args .count) (c .before .before .before .before .pre .1) _ _ (c .before .loop .left) (c .before .loop .place) (omega arith) (c .before .loop .inv .0)
 

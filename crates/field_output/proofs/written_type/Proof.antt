@@ -6,11 +6,9 @@ use Rattle.field_output.proofs.written_type.Tie as tie
 use Rattle.field_output.proofs.written_type.Reads as reads
 use Rattle.field_output.proofs.written_type.Lts as lts
 
--- src/lib.rt:14:1
 returns : tie.Need-returns
 returns c = (rw (eq-eqb _ 0 (c .if1 .taken)), omega arith)
 
--- src/lib.rt:14:1
 returns-2 : tie.Need-returns-2
 returns-2 c = (rw (ne-eqb _ 0 (c .if1 .left)), omega arith)
 

@@ -14,47 +14,36 @@ use Rattle.field_output.proofs.append_field_section.Reads as append-field-secti
 use Rattle.file.proofs.read_layout.Reads as read-layout-reads
 use Rattle.file_output.proofs.write_functions.Reads as write-functions-reads
 
--- src/lib.rt:52:9
 read-layout-requires : tie.Need-read-layout-requires
 read-layout-requires c κs = search needs
 
--- src/lib.rt:53:9
 append-field-section-requires : tie.Need-append-field-section-requires
 append-field-section-requires c κs = let l = accepted-fields (c .before .before .before .before .before .args .file .now) (c .before .before .before .before .before .pre .accepted) in (l, omega (arith, l .few, c .before .before .before .before .before .pre .headingSpace))
 
--- src/lib.rt:54:28
 cast-append-byte : tie.Need-cast-append-byte
 cast-append-byte c = search needs
 
--- src/lib.rt:54:9
 append-byte-requires : tie.Need-append-byte-requires
 append-byte-requires c κs = let l = accepted-fields (c .before .before .before .before .before .before .before .before .before .before .args .file .now) (c .before .before .before .before .before .before .before .before .before .before .pre .accepted) in let p = c .before .before .before .before .append-field-section .ensures .place in let n = section-length (c .before .before .before .before .before .before .before .before .before .before .args .file .now) in let long = appended-length _ _ _ _ _ (c .before .before .before .before .append-field-section .ensures) (omega (arith, l .few, c .before .before .before .before .before .before .before .before .before .before .pre .headingSpace)) in omega (arith, l .few, c .before .before .before .before .before .before .before .before .before .before .pre .headingSpace)
 
--- src/lib.rt:62:9
 add-write-functions : tie.Need-add-write-functions
 add-write-functions c = search needs
 
--- src/lib.rt:65:9
 slice-aggregate-write-functions : tie.Need-slice-aggregate-write-functions
 slice-aggregate-write-functions c = search needs
 
--- src/lib.rt:66:9
 slice-aggregate-write-functions-2 : tie.Need-slice-aggregate-write-functions-2
 slice-aggregate-write-functions-2 c = search needs
 
--- src/lib.rt:67:9
 slice-aggregate-write-functions-3 : tie.Need-slice-aggregate-write-functions-3
 slice-aggregate-write-functions-3 c = search needs
 
--- src/lib.rt:68:9
 slice-aggregate-write-functions-4 : tie.Need-slice-aggregate-write-functions-4
 slice-aggregate-write-functions-4 c = search needs
 
--- src/lib.rt:69:9
 slice-aggregate-write-functions-5 : tie.Need-slice-aggregate-write-functions-5
 slice-aggregate-write-functions-5 c = search needs
 
--- src/lib.rt:60:5
 write-functions-requires : tie.Need-write-functions-requires
 write-functions-requires c κs =
     let l = accepted-fields (c .before .before .before .before .before .before .before .before .before .before .before .before .before .before .before .before .before .before .before .before .before .args .file .now) (c .before .before .before .before .before .before .before .before .before .before .before .before .before .before .before .before .before .before .before .before .before .pre .accepted) in
@@ -76,15 +65,12 @@ write-functions-requires c κs =
       record { logSpace = search needs; scratchSpace = search needs; rootSpace = search needs; numberSpace = search needs; claimSpace = search needs },
     )
 
--- src/lib.rt:48:1
 same-length : tie.Need-same-length
 same-length c = search needs
 
--- src/lib.rt:48:1
 same-length-2 : tie.Need-same-length-2
 same-length-2 c = search needs
 
--- src/lib.rt:48:1
 returns : tie.Need-returns
 returns c = parts-put (c .before .before .before .before .before .before .before .before .before .before .before .before .before .before .before .before .before .before .before .before .before .before .before .before .before .before .before .before .before .before .before .args .file .now) _ _ _ _ _ _ _ _ _ _ _ (c .before .before .before .before .before .before .before .before .before .before .before .before .before .before .before .before .before .before .before .before .before .before .before .before .before .before .before .before .before .before .before .pre .headingSpace) (accepted-fields (c .before .before .before .before .before .before .before .before .before .before .before .before .before .before .before .before .before .before .before .before .before .before .before .before .before .before .before .before .before .before .before .args .file .now) (c .before .before .before .before .before .before .before .before .before .before .before .before .before .before .before .before .before .before .before .before .before .before .before .before .before .before .before .before .before .before .before .pre .accepted) .few) (c .before .before .before .before .before .before .before .before .before .before .before .before .before .before .before .before .before .before .before .before .before .before .before .before .before .before .before .read-layout .ensures .functions) (c .before .before .before .before .before .before .before .before .before .before .before .before .before .before .before .before .before .before .before .before .before .before .before .before .before .append-field-section .ensures) (c .before .before .before .before .before .before .before .before .before .before .before .before .before .before .before .before .before .before .before .before .append-byte .ensures) (c .before .before .before .before .before .before .before .before .before .write-functions .ensures)
 

@@ -11,87 +11,66 @@ use Rattle.file_vectors.proofs.fill.Reads as fill-reads
 use Rattle.file_vectors.proofs.holds.Reads as holds-reads
 use Rattle.writing.proofs.write.Reads as write-reads
 
--- src/main.rt:51:5
 fill-requires : tie.Need-fill-requires
 fill-requires c κs = search needs
 
--- src/main.rt:52:39
 slice-relend-prefix-write : tie.Need-slice-relend-prefix-write
 slice-relend-prefix-write c = search needs
 
--- src/main.rt:52:39
 slice-aggregate-write : tie.Need-slice-aggregate-write
 slice-aggregate-write c = sym (length-take-le (c .before .before .before .before .before .before .before .before .args .room) (c .before .before .before .fill .last .0) (omega arith))
 
--- src/main.rt:52:9
 write-requires : tie.Need-write-requires
 write-requires c κs = search needs
 
--- src/main.rt:55:69
 slice-aggregate-holds : tie.Need-slice-aggregate-holds
 slice-aggregate-holds c = search needs
 
--- src/main.rt:55:58
 holds-requires : tie.Need-holds-requires
 holds-requires c κs = search needs
 
--- src/main.rt:57:69
 holds-requires-2 : tie.Need-holds-requires-2
 holds-requires-2 c κs = search needs
 
--- src/main.rt:60:69
 slice-aggregate-holds-2 : tie.Need-slice-aggregate-holds-2
 slice-aggregate-holds-2 c = search needs
 
--- src/main.rt:60:58
 holds-requires-3 : tie.Need-holds-requires-3
 holds-requires-3 c κs = search needs
 
--- src/main.rt:48:1
 same-length : tie.Need-same-length
 same-length c = search needs
 
--- src/main.rt:48:1
 returns : tie.Need-returns
 returns c = search needs
 
--- src/main.rt:48:1
 same-length-2 : tie.Need-same-length-2
 same-length-2 c = search needs
 
--- src/main.rt:48:1
 returns-2 : tie.Need-returns-2
 returns-2 c = search needs
 
--- src/main.rt:48:1
 same-length-3 : tie.Need-same-length-3
 same-length-3 c = search needs
 
--- src/main.rt:48:1
 returns-3 : tie.Need-returns-3
 returns-3 c = search needs
 
--- src/main.rt:48:1
 same-length-4 : tie.Need-same-length-4
 same-length-4 c = search needs
 
--- src/main.rt:48:1
 returns-4 : tie.Need-returns-4
 returns-4 c = search needs
 
--- src/main.rt:48:1
 same-length-5 : tie.Need-same-length-5
 same-length-5 c = search needs
 
--- src/main.rt:48:1
 returns-5 : tie.Need-returns-5
 returns-5 c = search needs
 
--- src/main.rt:48:1
 same-length-6 : tie.Need-same-length-6
 same-length-6 c = search needs
 
--- src/main.rt:48:1
 returns-6 : tie.Need-returns-6
 returns-6 c = search needs
 

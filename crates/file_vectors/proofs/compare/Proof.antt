@@ -9,150 +9,98 @@ use Rattle.file_vectors.proofs.compare.Statement.{statement}
 use Rattle.file_vectors.proofs.compare.Tie as tie
 use Rattle.file_vectors.proofs.compare.Reads as reads
 use Rattle.file_vectors.proofs.compare.Lts as lts
-use Rattle.file.proofs.two_bytes_at.Reads as two-bytes-at-reads
 use Rattle.file_vectors.proofs.agrees.Reads as agrees-reads
+use Rattle.file_vectors.proofs.part_end.Reads as part-end-reads
 
 abbrev Inv-loop : tie.InvT-loop
-Inv-loop input out₀ records₀ different₀ at₀ out records different at = (at ≤ length input) × (records ≤ at) × (different ≤ records) × (length out ≡ length out₀)
+Inv-loop input out₀ records₀ different₀ at₀ out records different at = (at ≤ length input) × (records ≤ at) × (different ≤ records) × (length input ≤ 700000) × (length out ≡ length out₀)
 
 abbrev μ-loop : tie.MeasureT-loop
 μ-loop input out₀ records₀ different₀ at₀ out records different at = length input - at
 
--- src/main.rt:88:5
 loop-holds : tie.Need-loop-holds Inv-loop μ-loop
 loop-holds c = search needs
 
--- src/main.rt:89:13
-two-bytes-at-requires : tie.Need-two-bytes-at-requires Inv-loop μ-loop
-two-bytes-at-requires c κs = search needs
+part-end-requires : tie.Need-part-end-requires Inv-loop μ-loop
+part-end-requires c κs = search needs
 
--- src/main.rt:90:12
-sub-if1 : tie.Need-sub-if1 Inv-loop μ-loop
-sub-if1 c = search needs
+add-part-end : tie.Need-add-part-end Inv-loop μ-loop
+add-part-end c = search needs
 
--- src/main.rt:90:31
-add-if1 : tie.Need-add-if1 Inv-loop μ-loop
-add-if1 c = search needs
+part-end-requires-2 : tie.Need-part-end-requires-2 Inv-loop μ-loop
+part-end-requires-2 c κs = search needs
 
--- src/main.rt:93:28
-add-t14 : tie.Need-add-t14 Inv-loop μ-loop
-add-t14 c = search needs
+part-end-requires-3 : tie.Need-part-end-requires-3 Inv-loop μ-loop
+part-end-requires-3 c κs = search needs
 
--- src/main.rt:91:13
+add-t11 : tie.Need-add-t11 Inv-loop μ-loop
+add-t11 c = search needs
+
 same-length : tie.Need-same-length Inv-loop μ-loop
 same-length c = search needs
 
--- src/main.rt:91:13
 returns : tie.Need-returns Inv-loop μ-loop
 returns c = search needs
 
--- src/main.rt:96:19
-add-end : tie.Need-add-end Inv-loop μ-loop
-add-end c = search needs
-
--- src/main.rt:96:19
-add-end-2 : tie.Need-add-end-2 Inv-loop μ-loop
-add-end-2 c = search needs
-
--- src/main.rt:97:43
-add-two-bytes-at : tie.Need-add-two-bytes-at Inv-loop μ-loop
-add-two-bytes-at c = search needs
-
--- src/main.rt:97:13
-two-bytes-at-requires-2 : tie.Need-two-bytes-at-requires-2 Inv-loop μ-loop
-two-bytes-at-requires-2 c κs = search needs
-
--- src/main.rt:98:12
-sub-if2 : tie.Need-sub-if2 Inv-loop μ-loop
-sub-if2 c = search needs
-
--- src/main.rt:98:32
-add-if2 : tie.Need-add-if2 Inv-loop μ-loop
-add-if2 c = search needs
-
--- src/main.rt:101:28
-add-t15 : tie.Need-add-t15 Inv-loop μ-loop
-add-t15 c = search needs
-
--- src/main.rt:99:13
-same-length-2 : tie.Need-same-length-2 Inv-loop μ-loop
-same-length-2 c = search needs
-
--- src/main.rt:99:13
-returns-2 : tie.Need-returns-2 Inv-loop μ-loop
-returns-2 c = search needs
-
--- src/main.rt:104:20
-add-next : tie.Need-add-next Inv-loop μ-loop
-add-next c = search needs
-
--- src/main.rt:104:20
-add-next-2 : tie.Need-add-next-2 Inv-loop μ-loop
-add-next-2 c = search needs
-
--- src/main.rt:105:27
 add-agrees : tie.Need-add-agrees Inv-loop μ-loop
 add-agrees c = search needs
 
--- src/main.rt:105:20
 sub-agrees : tie.Need-sub-agrees Inv-loop μ-loop
 sub-agrees c = search needs
 
--- src/main.rt:105:20
 part-agrees-start : tie.Need-part-agrees-start Inv-loop μ-loop
 part-agrees-start c = search needs
 
--- src/main.rt:105:20
 part-agrees-end : tie.Need-part-agrees-end Inv-loop μ-loop
 part-agrees-end c = search needs
 
--- src/main.rt:105:41
 shared-slice-read-agrees : tie.Need-shared-slice-read-agrees Inv-loop μ-loop
 shared-slice-read-agrees c = search needs
 
--- src/main.rt:105:60
 add-agrees-2 : tie.Need-add-agrees-2 Inv-loop μ-loop
 add-agrees-2 c = search needs
 
--- src/main.rt:105:53
 sub-agrees-2 : tie.Need-sub-agrees-2 Inv-loop μ-loop
 sub-agrees-2 c = search needs
 
--- src/main.rt:105:53
 part-agrees-start-2 : tie.Need-part-agrees-start-2 Inv-loop μ-loop
 part-agrees-start-2 c = search needs
 
--- src/main.rt:105:53
 part-agrees-end-2 : tie.Need-part-agrees-end-2 Inv-loop μ-loop
 part-agrees-end-2 c = search needs
 
--- src/main.rt:105:13
+add-agrees-3 : tie.Need-add-agrees-3 Inv-loop μ-loop
+add-agrees-3 c = search needs
+
+sub-agrees-3 : tie.Need-sub-agrees-3 Inv-loop μ-loop
+sub-agrees-3 c = search needs
+
+part-agrees-start-3 : tie.Need-part-agrees-start-3 Inv-loop μ-loop
+part-agrees-start-3 c = search needs
+
+part-agrees-end-3 : tie.Need-part-agrees-end-3 Inv-loop μ-loop
+part-agrees-end-3 c = search needs
+
 agrees-requires : tie.Need-agrees-requires Inv-loop μ-loop
 agrees-requires c κs = search needs
 
--- src/main.rt:106:13
 add-different : tie.Need-add-different Inv-loop μ-loop
 add-different c = search needs
 
--- src/main.rt:108:9
 add-records : tie.Need-add-records Inv-loop μ-loop
 add-records c = search needs
 
--- src/main.rt:88:5
 loop-less : tie.Need-loop-less Inv-loop μ-loop
 loop-less c = search needs
 
--- src/main.rt:88:5
 loop-again : tie.Need-loop-again Inv-loop μ-loop
-loop-again c = ⊎-elim (λ w. omega arith) (λ w. omega arith) (c .if3 .came)
+loop-again c = ⊎-elim (λ w. omega arith) (λ w. omega arith) (c .if2 .came)
 
--- src/main.rt:82:1
-same-length-3 : tie.Need-same-length-3 Inv-loop μ-loop
-same-length-3 c = search needs
+same-length-2 : tie.Need-same-length-2 Inv-loop μ-loop
+same-length-2 c = search needs
 
--- src/main.rt:82:1
-returns-3 : tie.Need-returns-3 Inv-loop μ-loop
-returns-3 c = search needs
+returns-2 : tie.Need-returns-2 Inv-loop μ-loop
+returns-2 c = search needs
 
 pub compare-spec : {M : Type 1} → statement M
 compare-spec =
@@ -161,23 +109,13 @@ compare-spec =
     Inv-loop
     μ-loop
     loop-holds
-    two-bytes-at-requires
-    sub-if1
-    add-if1
-    add-t14
+    part-end-requires
+    add-part-end
+    part-end-requires-2
+    part-end-requires-3
+    add-t11
     same-length
     returns
-    add-end
-    add-end-2
-    add-two-bytes-at
-    two-bytes-at-requires-2
-    sub-if2
-    add-if2
-    add-t15
-    same-length-2
-    returns-2
-    add-next
-    add-next-2
     add-agrees
     sub-agrees
     part-agrees-start
@@ -187,10 +125,14 @@ compare-spec =
     sub-agrees-2
     part-agrees-start-2
     part-agrees-end-2
+    add-agrees-3
+    sub-agrees-3
+    part-agrees-start-3
+    part-agrees-end-3
     agrees-requires
     add-different
     add-records
     loop-less
     loop-again
-    same-length-3
-    returns-3)
+    same-length-2
+    returns-2)

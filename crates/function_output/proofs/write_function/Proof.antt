@@ -5,77 +5,62 @@ use Rattle.function_output.proofs.Functions.{circuits-ready, nodes-few,
 use Rattle.function_output.proofs.write_function.Statement.{statement}
 use Rattle.function_output.proofs.write_function.Tie as tie
 
--- src/lib.rt:116:9
 write-circuits-requires : tie.Need-write-circuits-requires
 write-circuits-requires c κs =
     circuits-ready _ _ (c .before .before .before .before .before .before .before .before .before .before .before .args .nodes-at) _ _ _ _ _ _ _ _ _ (c .before .before .before .before .before .before .before .before .before .before .before .pre)
 
--- src/lib.rt:117:23
 add-constraints : tie.Need-add-constraints
 add-constraints c =
     let fit = constraints-fit _ _ (c .before .before .before .before .before .before .before .before .before .before .before .before .before .before .before .before .before .before .before .args .nodes-at) _ _ _ _ _ _ _ _ _ (c .before .before .before .before .before .before .before .before .before .before .before .before .before .before .before .before .before .before .before .pre) _ _ _ _ (c .before .before .before .before .before .before .before .write-circuits .ensures) in omega arith
 
--- src/lib.rt:118:17
 add-first : tie.Need-add-first
 add-first c =
     let few = nodes-few _ _ (c .before .before .before .before .before .before .before .before .before .before .before .before .before .before .before .before .before .before .before .before .args .nodes-at) _ _ _ _ _ _ _ _ _ (c .before .before .before .before .before .before .before .before .before .before .before .before .before .before .before .before .before .before .before .before .pre) _ _ _ _ (c .before .before .before .before .before .before .before .before .write-circuits .ensures) in omega arith
 
--- src/lib.rt:128:9
 mul-write-function-body : tie.Need-mul-write-function-body
 mul-write-function-body c =
     let few = nodes-few _ _ (c .before .before .before .before .before .before .before .before .before .before .before .before .before .before .before .before .before .before .before .before .before .before .before .args .nodes-at) _ _ _ _ _ _ _ _ _ (c .before .before .before .before .before .before .before .before .before .before .before .before .before .before .before .before .before .before .before .before .before .before .before .pre) _ _ _ _ (c .before .before .before .before .before .before .before .before .before .before .before .write-circuits .ensures) in omega arith
 
--- src/lib.rt:119:9
 write-function-body-requires : tie.Need-write-function-body-requires
 write-function-body-requires c κs =
     body-ready _ _ (c .before .before .before .before .before .before .before .before .before .before .before .before .before .before .before .before .before .before .before .before .before .before .before .args .nodes-at) _ _ _ _ _ _ _ _ _ (c .before .before .before .before .before .before .before .before .before .before .before .before .before .before .before .before .before .before .before .before .before .before .before .pre) _ _ _ _ (c .before .before .before .before .before .before .before .before .before .before .before .write-circuits .ensures) _ refl
 
--- src/lib.rt:131:17
 add-total : tie.Need-add-total
 add-total c =
     let few = total-few _ _ (c .before .before .before .before .before .before .before .before .before .before .before .before .before .before .before .before .before .before .before .before .before .before .before .before .before .before .before .before .before .before .before .args .nodes-at) _ _ _ _ _ _ _ _ _ (c .before .before .before .before .before .before .before .before .before .before .before .before .before .before .before .before .before .before .before .before .before .before .before .before .before .before .before .before .before .before .before .pre) _ _ _ _ (c .before .before .before .before .before .before .before .before .before .before .before .before .before .before .before .before .before .before .before .write-circuits .ensures) _ _ (c .before .before .before .before .before .before .before .write-function-body .ensures) in omega arith
 
--- src/lib.rt:132:9
 write-heading-requires : tie.Need-write-heading-requires
 write-heading-requires c κs =
     heading-ready _ _ (c .before .before .before .before .before .before .before .before .before .before .before .before .before .before .before .before .before .before .before .before .before .before .before .before .before .before .before .before .before .before .before .before .before .before .before .args .nodes-at) _ _ _ _ _ _ _ _ _ (c .before .before .before .before .before .before .before .before .before .before .before .before .before .before .before .before .before .before .before .before .before .before .before .before .before .before .before .before .before .before .before .before .before .before .before .pre) _ _ _ _ (c .before .before .before .before .before .before .before .before .before .before .before .before .before .before .before .before .before .before .before .before .before .before .before .write-circuits .ensures) _ _ (c .before .before .before .before .before .before .before .before .before .before .before .write-function-body .ensures)
 
--- src/lib.rt:99:1
 same-length : tie.Need-same-length
 same-length c =
     c .before .before .before .before .before .before .before .before .before .before .before .before .before .before .before .before .before .before .before .before .before .before .before .before .before .before .before .before .write-circuits .kept .1 .1 .1 .0
 
--- src/lib.rt:99:1
 same-length-2 : tie.Need-same-length-2
 same-length-2 c =
     c .before .before .before .before .before .before .before .before .before .before .before .before .before .before .before .before .write-function-body .kept .1 .1 .1 .1 .1 .0
 
--- src/lib.rt:99:1
 same-length-3 : tie.Need-same-length-3
 same-length-3 c =
     c .before .before .before .before .before .before .before .before .before .before .before .before .before .before .before .before .write-function-body .kept .1 .1 .1 .1 .1 .1 .0
 
--- src/lib.rt:99:1
 same-length-4 : tie.Need-same-length-4
 same-length-4 c =
     c .before .before .before .before .before .before .before .before .before .before .before .before .before .before .before .before .before .before .before .before .before .before .before .before .before .before .before .before .write-circuits .kept .1 .1 .1 .1 .0
 
--- src/lib.rt:99:1
 same-length-5 : tie.Need-same-length-5
 same-length-5 c =
     c .before .before .before .before .write-heading .kept .1 .1 .1 .1 .0
 
--- src/lib.rt:99:1
 same-length-6 : tie.Need-same-length-6
 same-length-6 c =
     c .before .before .before .before .write-heading .kept .1 .1 .1 .1 .1 .0
 
--- src/lib.rt:99:1
 same-length-7 : tie.Need-same-length-7
 same-length-7 c =
     c .before .before .before .before .before .before .before .before .before .before .before .before .before .before .before .before .write-function-body .kept .1 .1 .1 .1 .1 .1 .1 .0 ∙ c .before .before .before .before .before .before .before .before .before .before .before .before .before .before .before .before .before .before .before .before .before .before .before .before .before .before .before .before .write-circuits .kept .1 .1 .1 .1 .1 .0
 
--- src/lib.rt:99:1
 returns : tie.Need-returns
 returns c =
     function-written _ _ (c .before .before .before .before .before .before .before .before .before .before .before .before .before .before .before .before .before .before .before .before .before .before .before .before .before .before .before .before .before .before .before .before .before .before .before .before .before .before .before .before .args .nodes-at) _ _ _ _ _ _ _ _ _ (c .before .before .before .before .before .before .before .before .before .before .before .before .before .before .before .before .before .before .before .before .before .before .before .before .before .before .before .before .before .before .before .before .before .before .before .before .before .before .before .before .pre) _ _ _ _ (c .before .before .before .before .before .before .before .before .before .before .before .before .before .before .before .before .before .before .before .before .before .before .before .before .before .before .before .before .write-circuits .ensures) _ _ (c .before .before .before .before .before .before .before .before .before .before .before .before .before .before .before .before .write-function-body .ensures) _ _ (c .before .before .before .before .write-heading .ensures)

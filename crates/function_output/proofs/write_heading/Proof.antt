@@ -7,50 +7,40 @@ use borrow.Author.Needs.{needs}
 use Rattle.function_output.proofs.write_heading.Statement.{statement}
 use Rattle.function_output.proofs.write_heading.Tie as tie
 
--- src/lib.rt:83:9
 append-claims-requires : tie.Need-append-claims-requires
 append-claims-requires c κs =
     claims-asked _ _ _ _ _ _ _ _ _ _ (c .before .before .before .before .before .before .pre)
 
--- src/lib.rt:88:9
 slice-aggregate-append-heading : tie.Need-slice-aggregate-append-heading
 slice-aggregate-append-heading c =
     sym (length-take-le _ _ ((c .before .before .before .before .before .before .before .before .before .before .pre) .told .logged))
 
--- src/lib.rt:89:9
 slice-reshare-prefix-append-heading : tie.Need-slice-reshare-prefix-append-heading
 slice-reshare-prefix-append-heading c =
     let inside = claimed-inside _ _ _ _ _ _ _ _ _ _ (c .before .before .before .before .before .before .before .before .before .before .pre) _ _ (c .before .before .before .append-claims .ensures) in omega (arith, c .before .before .before .append-claims .kept .1 .1 .0)
 
--- src/lib.rt:89:9
 slice-aggregate-append-heading-2 : tie.Need-slice-aggregate-append-heading-2
 slice-aggregate-append-heading-2 c =
     let inside = claimed-inside _ _ _ _ _ _ _ _ _ _ (c .before .before .before .before .before .before .before .before .before .before .before .pre) _ _ (c .before .before .before .before .append-claims .ensures) in sym (length-take-le _ _ (omega (arith, c .before .before .before .before .append-claims .kept .1 .1 .0)))
 
--- src/lib.rt:90:9
 add-append-heading : tie.Need-add-append-heading
 add-append-heading c =
     omega (arith, (c .before .before .before .before .before .before .before .before .before .before .before .pre) .room .nodes, (c .before .before .before .before .before .before .before .before .before .before .before .pre) .whole)
 
--- src/lib.rt:90:9
 sub-append-heading : tie.Need-sub-append-heading
 sub-append-heading c =
     let some = some-nodes _ _ _ _ _ _ _ _ _ _ (c .before .before .before .before .before .before .before .before .before .before .before .pre) in omega arith
 
--- src/lib.rt:84:5
 append-heading-requires : tie.Need-append-heading-requires
 append-heading-requires c κs =
     heading-asked _ _ _ _ _ _ _ _ _ _ (c .before .before .before .before .before .before .before .before .before .before .before .before .pre) _ _ (c .before .before .before .before .before .append-claims .ensures)
 
--- src/lib.rt:67:1
 same-length : tie.Need-same-length
 same-length c = search needs
 
--- src/lib.rt:67:1
 same-length-2 : tie.Need-same-length-2
 same-length-2 c = search needs
 
--- src/lib.rt:67:1
 returns : tie.Need-returns
 returns c =
     heading-written _ _ _ _ _ _ _ _ _ _ (c .before .before .before .before .before .before .before .before .before .before .before .before .before .before .before .pre) _ _ (c .before .before .before .before .before .before .before .before .append-claims .ensures) _ _ (c .before .before .append-heading .ensures)

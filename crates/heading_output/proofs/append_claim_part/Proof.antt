@@ -15,31 +15,24 @@ use Rattle.append.proofs.append_two_bytes.Reads as append-two-bytes-reads
 use Rattle.logged_variables.proofs.count_tag.Reads as count-tag-reads
 use Rattle.parameter_output.proofs.append_opening_claims.Reads as append-opening-claims-reads
 
--- src/lib.rt:46:44
 count-tag-requires : tie.Need-count-tag-requires
 count-tag-requires c κs = search needs
 
--- src/lib.rt:46:34
 add-append-two-bytes : tie.Need-add-append-two-bytes
 add-append-two-bytes c = search needs
 
--- src/lib.rt:46:9
 append-two-bytes-requires : tie.Need-append-two-bytes-requires
 append-two-bytes-requires c κs = search needs
 
--- src/lib.rt:47:9
 append-opening-claims-requires : tie.Need-append-opening-claims-requires
 append-opening-claims-requires c κs = second-room (c .before .before .before .before .before .before .before .before .before .args .out .now) (c .before .before .before .before .before .before .before .before .before .args .at) (twoBytes (c .before .before .before .before .before .before .before .before .before .args .private + countTag 1 (c .before .before .before .before .before .before .before .before .before .args .log .now))) (openingClaims 0 (c .before .before .before .before .before .before .before .before .before .args .private)) (c .before .before .before .before .before .before .before .before .before .args .claims .now) (c .before .before .before .before .before .before .before .before .before .pre .1) _ _ (counted (c .before .before .before .before .before .before .before .before .before .args .out .now) _ (c .before .before .before .before .before .before .before .before .before .args .log .now) _ _ (c .before .before .before .before .before .before .before .before .before .args .private) _ (c .before .before .before .before .before .count-tag .ensures) (c .before .before .before .append-two-bytes .ensures))
 
--- src/lib.rt:48:5
 append-requires : tie.Need-append-requires
 append-requires c κs = third-room (c .before .before .before .before .before .before .before .before .before .before .before .before .before .args .out .now) (c .before .before .before .before .before .before .before .before .before .before .before .before .before .args .at) (twoBytes (c .before .before .before .before .before .before .before .before .before .before .before .before .before .args .private + countTag 1 (c .before .before .before .before .before .before .before .before .before .before .before .before .before .args .log .now))) (openingClaims 0 (c .before .before .before .before .before .before .before .before .before .before .before .before .before .args .private)) (c .before .before .before .before .before .before .before .before .before .before .before .before .before .args .claims .now) (c .before .before .before .before .before .before .before .before .before .before .before .before .before .pre .1) _ _ _ _ (counted (c .before .before .before .before .before .before .before .before .before .before .before .before .before .args .out .now) _ (c .before .before .before .before .before .before .before .before .before .before .before .before .before .args .log .now) _ _ (c .before .before .before .before .before .before .before .before .before .before .before .before .before .args .private) _ (c .before .before .before .before .before .before .before .before .before .count-tag .ensures) (c .before .before .before .before .before .before .before .append-two-bytes .ensures)) (c .before .before .before .append-opening-claims .ensures)
 
--- src/lib.rt:42:1
 same-length : tie.Need-same-length
 same-length c = search needs
 
--- src/lib.rt:42:1
 returns : tie.Need-returns
 returns c = three-appended (c .before .before .before .before .before .before .before .before .before .before .before .before .before .before .before .before .args .out .now) (c .before .before .before .before .before .before .before .before .before .before .before .before .before .before .before .before .args .at) (twoBytes (c .before .before .before .before .before .before .before .before .before .before .before .before .before .before .before .before .args .private + countTag 1 (c .before .before .before .before .before .before .before .before .before .before .before .before .before .before .before .before .args .log .now))) (openingClaims 0 (c .before .before .before .before .before .before .before .before .before .before .before .before .before .before .before .before .args .private)) (c .before .before .before .before .before .before .before .before .before .before .before .before .before .before .before .before .args .claims .now) (c .before .before .before .before .before .before .before .before .before .before .before .before .before .before .before .before .pre .1) _ _ _ _ _ _ (counted (c .before .before .before .before .before .before .before .before .before .before .before .before .before .before .before .before .args .out .now) _ (c .before .before .before .before .before .before .before .before .before .before .before .before .before .before .before .before .args .log .now) _ _ (c .before .before .before .before .before .before .before .before .before .before .before .before .before .before .before .before .args .private) _ (c .before .before .before .before .before .before .before .before .before .before .before .before .count-tag .ensures) (c .before .before .before .before .before .before .before .before .before .before .append-two-bytes .ensures)) (c .before .before .before .before .before .before .append-opening-claims .ensures) (c .before .before .append .ensures)
 

@@ -9,31 +9,24 @@ use Rattle.heading_output.proofs.append_key_part.Lts as lts
 use Rattle.append.proofs.append_two_bytes.Reads as append-two-bytes-reads
 use Rattle.logged_variables.proofs.append_keys.Reads as append-keys-reads
 
--- src/lib.rt:37:37
 add-append-keys : tie.Need-add-append-keys
 add-append-keys c = search needs
 
--- src/lib.rt:37:9
 append-keys-requires : tie.Need-append-keys-requires
 append-keys-requires c κs = search needs
 
--- src/lib.rt:38:29
 add-append-two-bytes : tie.Need-add-append-two-bytes
 add-append-two-bytes c = search needs
 
--- src/lib.rt:38:22
 sub-append-two-bytes : tie.Need-sub-append-two-bytes
 sub-append-two-bytes c = search needs
 
--- src/lib.rt:38:5
 append-two-bytes-requires : tie.Need-append-two-bytes-requires
 append-two-bytes-requires c κs = search needs
 
--- src/lib.rt:33:1
 same-length : tie.Need-same-length
 same-length c = search needs
 
--- src/lib.rt:33:1
 returns : tie.Need-returns
 returns c = keys-counted (c .before .before .before .before .before .before .before .before .before .before .args .out .now) (c .before .before .before .before .before .before .before .before .before .before .args .at) (c .before .before .before .before .before .before .before .before .before .before .args .log .now) (c .before .before .before .before .before .before .before .before .before .before .pre) _ _ _ _ _ (c .before .before .before .before .before .before .append-keys .ensures) refl (c .before .before .append-two-bytes .ensures)
 

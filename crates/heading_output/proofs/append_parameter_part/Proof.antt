@@ -10,31 +10,24 @@ use Rattle.append.proofs.append_byte.Reads as append-byte-reads
 use Rattle.file.proofs.byte_at.Reads as byte-at-reads
 use Rattle.parameter_output.proofs.append_parameters.Reads as append-parameters-reads
 
--- src/lib.rt:18:9
 byte-at-requires : tie.Need-byte-at-requires
 byte-at-requires c κs = search needs
 
--- src/lib.rt:19:28
 cast-append-byte : tie.Need-cast-append-byte
 cast-append-byte c = search needs
 
--- src/lib.rt:19:9
 append-byte-requires : tie.Need-append-byte-requires
 append-byte-requires c κs = search needs
 
--- src/lib.rt:20:29
 add-append-parameters : tie.Need-add-append-parameters
 add-append-parameters c = search needs
 
--- src/lib.rt:20:5
 append-parameters-requires : tie.Need-append-parameters-requires
 append-parameters-requires c κs = (omega arith, parameters-room (c .before .before .before .before .before .before .before .before .args .file .now) (c .before .before .before .before .before .before .before .before .args .function-at) (c .before .before .before .before .before .before .before .before .args .out .now) (c .before .before .before .before .before .before .before .before .args .at) _ (c .before .before .before .before .before .byte-at .ensures .0) (c .before .before .before .before .before .before .before .before .pre .1) _ _ (c .before .before .before .append-byte .ensures))
 
--- src/lib.rt:14:1
 same-length : tie.Need-same-length
 same-length c = search needs
 
--- src/lib.rt:14:1
 returns : tie.Need-returns
 returns c = parameters-appended (c .before .before .before .before .before .before .before .before .before .before .before .args .file .now) (c .before .before .before .before .before .before .before .before .before .before .before .args .function-at) (c .before .before .before .before .before .before .before .before .before .before .before .args .out .now) (c .before .before .before .before .before .before .before .before .before .before .before .args .at) _ (c .before .before .before .before .before .before .before .before .byte-at .ensures .0) (c .before .before .before .before .before .before .before .before .before .before .before .pre .1) _ _ _ _ (c .before .before .before .before .before .before .append-byte .ensures) (c .before .before .append-parameters .ensures)
 

@@ -14,27 +14,21 @@ use Rattle.append.proofs.append_two_bytes.Reads as append-two-bytes-reads
 use Rattle.logged_variables.proofs.append_variables.Reads as append-variables-reads
 use Rattle.parameter_output.proofs.append_opening_variables.Reads as append-opening-variables-reads
 
--- src/lib.rt:27:34
 add-append-two-bytes : tie.Need-add-append-two-bytes
 add-append-two-bytes c = search needs
 
--- src/lib.rt:27:9
 append-two-bytes-requires : tie.Need-append-two-bytes-requires
 append-two-bytes-requires c κs = search needs
 
--- src/lib.rt:28:9
 append-opening-variables-requires : tie.Need-append-opening-variables-requires
 append-opening-variables-requires c κs = second-room (c .before .before .before .before .before .before .before .args .out .now) (c .before .before .before .before .before .before .before .args .at) (twoBytes (c .before .before .before .before .before .before .before .args .private + c .before .before .before .before .before .before .before .args .made)) (openingVariables (c .before .before .before .before .before .before .before .args .private)) (perEntry variableOf (c .before .before .before .before .before .before .before .args .log .now)) (c .before .before .before .before .before .before .before .pre .1) _ _ (c .before .before .before .append-two-bytes .ensures)
 
--- src/lib.rt:29:5
 append-variables-requires : tie.Need-append-variables-requires
 append-variables-requires c κs = third-room (c .before .before .before .before .before .before .before .before .before .before .before .args .out .now) (c .before .before .before .before .before .before .before .before .before .before .before .args .at) (twoBytes (c .before .before .before .before .before .before .before .before .before .before .before .args .private + c .before .before .before .before .before .before .before .before .before .before .before .args .made)) (openingVariables (c .before .before .before .before .before .before .before .before .before .before .before .args .private)) (perEntry variableOf (c .before .before .before .before .before .before .before .before .before .before .before .args .log .now)) (c .before .before .before .before .before .before .before .before .before .before .before .pre .1) _ _ _ _ (c .before .before .before .before .before .before .before .append-two-bytes .ensures) (c .before .before .before .append-opening-variables .ensures)
 
--- src/lib.rt:23:1
 same-length : tie.Need-same-length
 same-length c = search needs
 
--- src/lib.rt:23:1
 returns : tie.Need-returns
 returns c = three-appended (c .before .before .before .before .before .before .before .before .before .before .before .before .before .before .args .out .now) (c .before .before .before .before .before .before .before .before .before .before .before .before .before .before .args .at) (twoBytes (c .before .before .before .before .before .before .before .before .before .before .before .before .before .before .args .private + c .before .before .before .before .before .before .before .before .before .before .before .before .before .before .args .made)) (openingVariables (c .before .before .before .before .before .before .before .before .before .before .before .before .before .before .args .private)) (perEntry variableOf (c .before .before .before .before .before .before .before .before .before .before .before .before .before .before .args .log .now)) (c .before .before .before .before .before .before .before .before .before .before .before .before .before .before .pre .1) _ _ _ _ _ _ (c .before .before .before .before .before .before .before .before .before .before .append-two-bytes .ensures) (c .before .before .before .before .before .before .append-opening-variables .ensures) (c .before .before .append-variables .ensures)
 

@@ -8,19 +8,15 @@ use Rattle.heading_output.proofs.private_of.Lts as lts
 use Rattle.file.proofs.byte_at.Reads as byte-at-reads
 use Rattle.parameter_output.proofs.count_private.Reads as count-private-reads
 
--- src/lib.rt:55:9
 byte-at-requires : tie.Need-byte-at-requires
 byte-at-requires c κs = search needs
 
--- src/lib.rt:56:25
 add-count-private : tie.Need-add-count-private
 add-count-private c = search needs
 
--- src/lib.rt:56:5
 count-private-requires : tie.Need-count-private-requires
 count-private-requires c κs = search needs
 
--- src/lib.rt:51:1
 returns : tie.Need-returns
 returns c = private-is (c .before .before .before .args .file .now) (c .before .before .before .args .function-at) _ _ (c .before .byte-at .ensures .0) (c .count-private .ensures)
 

@@ -7,29 +7,23 @@ use Rattle.items.proofs.put_cell.Reads as reads
 use Rattle.items.proofs.put_cell.Lts as lts
 use Rattle.items.proofs.put_item.Reads as put-item-reads
 
--- src/lib.rt:40:9
 put-item-requires : tie.Need-put-item-requires
 put-item-requires c κs = search needs
 
--- src/lib.rt:44:9
 put-item-requires-2 : tie.Need-put-item-requires-2
 put-item-requires-2 c κs = search needs
 
--- src/lib.rt:35:1
 same-length : tie.Need-same-length
 same-length c = search needs
 
--- src/lib.rt:35:1
 returns : tie.Need-returns
 returns c =
     let k = c .before .before .before .before .before .before .before .args in
     rw (shows-own (k .party) (k .cell .owner) (k .cell .call) (k .cell .index) (k .cell .value) (c .before .before .before .before .if1 .taken)) (c .before .before .put-item .ensures)
 
--- src/lib.rt:35:1
 same-length-2 : tie.Need-same-length-2
 same-length-2 c = search needs
 
--- src/lib.rt:35:1
 returns-2 : tie.Need-returns-2
 returns-2 c =
     let k = c .before .before .before .before .before .before .before .args in

@@ -8,36 +8,28 @@ use Rattle.items.proofs.put_content.Lts as lts
 use Rattle.items.proofs.put_cell.Reads as put-cell-reads
 use Rattle.items.proofs.put_item.Reads as put-item-reads
 
--- src/lib.rt:53:24
 enum-known-content : tie.Need-enum-known-content
 enum-known-content c = search needs
 
--- src/lib.rt:53:34
 put-item-requires : tie.Need-put-item-requires
 put-item-requires c κs = search needs
 
--- src/lib.rt:64:23
 enum-known-content-2 : tie.Need-enum-known-content-2
 enum-known-content-2 c = search needs
 
--- src/lib.rt:64:32
 put-cell-requires : tie.Need-put-cell-requires
 put-cell-requires c κs = search needs
 
--- src/lib.rt:48:1
 same-length : tie.Need-same-length
 same-length c = search needs
 
--- src/lib.rt:48:1
 returns : tie.Need-returns
 returns c =
     rw (c .before .before .before .before .before .content .given .1, shows-plain) (c .before .before .put-item .ensures)
 
--- src/lib.rt:48:1
 same-length-2 : tie.Need-same-length-2
 same-length-2 c = search needs
 
--- src/lib.rt:48:1
 returns-2 : tie.Need-returns-2
 returns-2 c =
     rw (c .before .before .before .before .before .content2 .given .1) (c .before .before .put-cell .ensures)

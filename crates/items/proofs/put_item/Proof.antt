@@ -9,119 +9,90 @@ use Rattle.items.proofs.put_item.Tie as tie
 use Rattle.items.proofs.put_item.Reads as reads
 use Rattle.items.proofs.put_item.Lts as lts
 
--- src/lib.rt:22:5
 slice-write-out : tie.Need-slice-write-out
 slice-write-out c = search needs
 
--- src/lib.rt:23:9
 add-out : tie.Need-add-out
 add-out c = search needs
 
--- src/lib.rt:23:5
 slice-write-out-2 : tie.Need-slice-write-out-2
 slice-write-out-2 c = simp length-set (omega arith)
 
--- src/lib.rt:24:19
 cast-out : tie.Need-cast-out
 cast-out c = search needs
 
--- src/lib.rt:24:9
 add-out-2 : tie.Need-add-out-2
 add-out-2 c = search needs
 
--- src/lib.rt:24:5
 slice-write-out-3 : tie.Need-slice-write-out-3
 slice-write-out-3 c = simp length-set (omega arith)
 
--- src/lib.rt:25:19
 cast-out-2 : tie.Need-cast-out-2
 cast-out-2 c = search needs
 
--- src/lib.rt:25:9
 add-out-3 : tie.Need-add-out-3
 add-out-3 c = search needs
 
--- src/lib.rt:25:5
 slice-write-out-4 : tie.Need-slice-write-out-4
 slice-write-out-4 c = simp length-set (omega arith)
 
--- src/lib.rt:26:19
 cast-out-3 : tie.Need-cast-out-3
 cast-out-3 c = search needs
 
--- src/lib.rt:26:9
 add-out-4 : tie.Need-add-out-4
 add-out-4 c = search needs
 
--- src/lib.rt:26:5
 slice-write-out-5 : tie.Need-slice-write-out-5
 slice-write-out-5 c = simp length-set (omega arith)
 
--- src/lib.rt:27:19
 cast-out-4 : tie.Need-cast-out-4
 cast-out-4 c = search needs
 
--- src/lib.rt:27:9
 add-out-5 : tie.Need-add-out-5
 add-out-5 c = search needs
 
--- src/lib.rt:27:5
 slice-write-out-6 : tie.Need-slice-write-out-6
 slice-write-out-6 c = simp length-set (omega arith)
 
--- src/lib.rt:28:19
 cast-out-5 : tie.Need-cast-out-5
 cast-out-5 c = search needs
 
--- src/lib.rt:28:9
 add-out-6 : tie.Need-add-out-6
 add-out-6 c = search needs
 
--- src/lib.rt:28:5
 slice-write-out-7 : tie.Need-slice-write-out-7
 slice-write-out-7 c = simp length-set (omega arith)
 
--- src/lib.rt:29:19
 cast-out-6 : tie.Need-cast-out-6
 cast-out-6 c = search needs
 
--- src/lib.rt:29:9
 add-out-7 : tie.Need-add-out-7
 add-out-7 c = search needs
 
--- src/lib.rt:29:5
 slice-write-out-8 : tie.Need-slice-write-out-8
 slice-write-out-8 c = simp length-set (omega arith)
 
--- src/lib.rt:30:19
 cast-out-7 : tie.Need-cast-out-7
 cast-out-7 c = search needs
 
--- src/lib.rt:30:9
 add-out-8 : tie.Need-add-out-8
 add-out-8 c = search needs
 
--- src/lib.rt:30:5
 slice-write-out-9 : tie.Need-slice-write-out-9
 slice-write-out-9 c = simp length-set (omega arith)
 
--- src/lib.rt:31:19
 cast-out-8 : tie.Need-cast-out-8
 cast-out-8 c = search needs
 
--- src/lib.rt:31:9
 add-out-9 : tie.Need-add-out-9
 add-out-9 c = search needs
 
--- src/lib.rt:31:5
 slice-write-out-10 : tie.Need-slice-write-out-10
 slice-write-out-10 c = simp length-set (omega arith)
 
--- src/lib.rt:15:1
 same-length : tie.Need-same-length
 same-length c = simp length-set
 
--- src/lib.rt:15:1
 returns : tie.Need-returns
 unfolding itemBytes
 returns c = ten-set _ _ _ _ _ _ _ _ _ _ _ _ (c .pre)

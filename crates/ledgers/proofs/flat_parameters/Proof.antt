@@ -7,15 +7,12 @@ use Rattle.ledgers.proofs.flat_parameters.Reads as reads
 use Rattle.ledgers.proofs.flat_parameters.Lts as lts
 use Rattle.ledgers.proofs.flatten_eight.Reads as flatten-eight-reads
 
--- src/lib.rt:112:5
 flatten-eight-requires : tie.Need-flatten-eight-requires
 flatten-eight-requires c κs = search needs
 
--- src/lib.rt:107:1
 same-length : tie.Need-same-length
 same-length c = search needs
 
--- src/lib.rt:107:1
 returns : tie.Need-returns
 unfolding ledgerOf
 returns c = c .before .before .flatten-eight .ensures

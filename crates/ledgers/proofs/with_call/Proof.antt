@@ -6,7 +6,6 @@ use Rattle.ledgers.proofs.with_call.Tie as tie
 use Rattle.ledgers.proofs.with_call.Reads as reads
 use Rattle.ledgers.proofs.with_call.Lts as lts
 
--- src/lib.rt:132:1
 returns : tie.Need-returns
 unfolding ledgerOf
 returns c = refl

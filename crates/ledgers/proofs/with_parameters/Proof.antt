@@ -7,11 +7,9 @@ use Rattle.ledgers.proofs.with_parameters.Reads as reads
 use Rattle.ledgers.proofs.with_parameters.Lts as lts
 use Rattle.ledgers.proofs.filled_eight.Reads as filled-eight-reads
 
--- src/lib.rt:149:9
 filled-eight-requires : tie.Need-filled-eight-requires
 filled-eight-requires c κs = search needs
 
--- src/lib.rt:144:1
 returns : tie.Need-returns
 unfolding ledgerOf
 returns c = rw (c .filled-eight .ensures)

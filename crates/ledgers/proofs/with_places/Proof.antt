@@ -7,11 +7,9 @@ use Rattle.ledgers.proofs.with_places.Reads as reads
 use Rattle.ledgers.proofs.with_places.Lts as lts
 use Rattle.ledgers.proofs.filled.Reads as filled-reads
 
--- src/lib.rt:171:9
 filled-requires : tie.Need-filled-requires
 filled-requires c κs = search needs
 
--- src/lib.rt:166:1
 returns : tie.Need-returns
 unfolding ledgerOf
 returns c = rw (c .filled .ensures)

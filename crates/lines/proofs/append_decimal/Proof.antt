@@ -9,75 +9,57 @@ use Rattle.lines.proofs.append_decimal.Reads as reads
 use Rattle.lines.proofs.append_decimal.Lts as lts
 use Rattle.append.proofs.append_byte.Reads as append-byte-reads
 
--- src/lib.rt:49:28
 add-append-byte : tie.Need-add-append-byte
 add-append-byte c = search needs
 
--- src/lib.rt:49:9
 append-byte-requires : tie.Need-append-byte-requires
 append-byte-requires c κs = search needs
 
--- src/lib.rt:49:9
 same-length : tie.Need-same-length
 same-length c = search needs
 
--- src/lib.rt:49:9
 returns : tie.Need-returns
 returns c = one-appended _ _ _ _ _ (c .before .before .before .before .if1 .taken) (c .before .before .append-byte .ensures)
 
--- src/lib.rt:53:32
 add-append-byte-2 : tie.Need-add-append-byte-2
 add-append-byte-2 c = search needs
 
--- src/lib.rt:53:13
 append-byte-requires-2 : tie.Need-append-byte-requires-2
 append-byte-requires-2 c κs = search needs
 
--- src/lib.rt:54:28
 add-append-byte-3 : tie.Need-add-append-byte-3
 add-append-byte-3 c = search needs
 
--- src/lib.rt:54:9
 append-byte-requires-3 : tie.Need-append-byte-requires-3
 append-byte-requires-3 c κs = search needs
 
--- src/lib.rt:54:9
 same-length-2 : tie.Need-same-length-2
 same-length-2 c = search needs
 
--- src/lib.rt:54:9
 returns-2 : tie.Need-returns-2
 returns-2 c = two-appended (c .before .before .before .before .before .before .before .before .before .before .before .args .out .now) (c .before .before .before .before .before .before .before .before .before .before .before .args .at) (c .before .before .before .before .before .before .before .before .before .before .before .pre) _ _ (c .before .before .before .before .before .before .before .before .before .before .before .args .number) _ _ _ refl (c .before .before .before .before .before .before .before .before .before .if1 .left) (c .before .before .before .before .before .before .before .before .if2 .taken) (c .before .before .before .before .before .before .append-byte2 .ensures) (c .before .before .append-byte3 .ensures)
 
--- src/lib.rt:56:32
 add-append-byte-4 : tie.Need-add-append-byte-4
 add-append-byte-4 c = search needs
 
--- src/lib.rt:56:9
 append-byte-requires-4 : tie.Need-append-byte-requires-4
 append-byte-requires-4 c κs = search needs
 
--- src/lib.rt:57:28
 add-append-byte-5 : tie.Need-add-append-byte-5
 add-append-byte-5 c = search needs
 
--- src/lib.rt:57:9
 append-byte-requires-5 : tie.Need-append-byte-requires-5
 append-byte-requires-5 c κs = search needs
 
--- src/lib.rt:58:17
 add-append-byte-6 : tie.Need-add-append-byte-6
 add-append-byte-6 c = search needs
 
--- src/lib.rt:58:5
 append-byte-requires-6 : tie.Need-append-byte-requires-6
 append-byte-requires-6 c κs = search needs
 
--- src/lib.rt:44:1
 same-length-3 : tie.Need-same-length-3
 same-length-3 c = search needs
 
--- src/lib.rt:44:1
 returns-3 : tie.Need-returns-3
 returns-3 c = three-digits (c .before .before .before .before .before .before .before .before .before .before .before .before .before .before .before .args .out .now) (c .before .before .before .before .before .before .before .before .before .before .before .before .before .before .before .args .at) (c .before .before .before .before .before .before .before .before .before .before .before .before .before .before .before .pre) _ _ _ (c .before .before .before .before .before .before .before .before .before .before .before .before .before .before .before .args .number) _ _ _ _ refl (c .before .before .before .before .before .before .before .before .before .before .before .before .if2 .left) (omega (arith, c .before .before .before .before .before .before .before .before .before .before .before .before .before .before .before .fits .number)) (omega (arith, c .before .before .before .before .before .before .before .before .before .before .before .before .before .before .before .fits .number)) (c .before .before .before .before .before .before .before .before .before .before .append-byte4 .ensures) (c .before .before .before .before .before .before .append-byte5 .ensures) (c .before .before .append-byte6 .ensures)
 

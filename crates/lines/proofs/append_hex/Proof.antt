@@ -19,35 +19,27 @@ Inv-loop bytes out₀ from at₀ i₀ out at i = (Appending out₀ out from at (
 abbrev μ-loop : tie.MeasureT-loop
 μ-loop bytes out₀ from at₀ i₀ out at i = length bytes - i
 
--- src/lib.rt:36:5
 loop-holds : tie.Need-loop-holds Inv-loop μ-loop
 loop-holds c = (hex-start _ _ _ (c .before .before .pre), (omega arith, refl))
 
--- src/lib.rt:37:30
 shared-slice-read-append-hex-byte : tie.Need-shared-slice-read-append-hex-byte Inv-loop μ-loop
 shared-slice-read-append-hex-byte c = search needs
 
--- src/lib.rt:37:9
 append-hex-byte-requires : tie.Need-append-hex-byte-requires Inv-loop μ-loop
 append-hex-byte-requires c κs = hex-room _ _ _ (c .before .before .before .before .before .before .pre) _ _ (c .before .before .before .loop .i) (c .before .before .before .loop .inv .0) (c .before .before .loop-test .taken)
 
--- src/lib.rt:38:9
 add-i : tie.Need-add-i Inv-loop μ-loop
 add-i c = search needs
 
--- src/lib.rt:36:5
 loop-less : tie.Need-loop-less Inv-loop μ-loop
 loop-less c = search needs
 
--- src/lib.rt:36:5
 loop-again : tie.Need-loop-again Inv-loop μ-loop
 loop-again c = (hex-next _ _ _ (c .before .before .before .before .before .before .before .before .before .pre) _ _ (c .before .before .before .before .before .before .loop .i) (c .before .before .before .before .before .before .loop .inv .0) _ _ (c .before .before .before .before .before .loop-test .taken) (c .before .before .append-hex-byte .ensures), (omega arith, search needs))
 
--- src/lib.rt:30:1
 same-length : tie.Need-same-length Inv-loop μ-loop
 same-length c = c .before .loop .inv .1 .1
 
--- src/lib.rt:30:1
 returns : tie.Need-returns Inv-loop μ-loop
 returns c = hex-done _ _ _ (c .before .before .before .before .pre) _ _ (c .before .loop .i) (c .before .loop .inv .0) (c .loop-test .left)
 

@@ -8,27 +8,21 @@ use Rattle.lines.proofs.append_hex_byte.Lts as lts
 use Rattle.append.proofs.append_byte.Reads as append-byte-reads
 use Rattle.lines.proofs.hex_digit.Reads as hex-digit-reads
 
--- src/lib.rt:23:9
 hex-digit-requires : tie.Need-hex-digit-requires
 hex-digit-requires c κs = search needs
 
--- src/lib.rt:24:9
 hex-digit-requires-2 : tie.Need-hex-digit-requires-2
 hex-digit-requires-2 c κs = search needs
 
--- src/lib.rt:25:9
 append-byte-requires : tie.Need-append-byte-requires
 append-byte-requires c κs = search needs
 
--- src/lib.rt:26:5
 append-byte-requires-2 : tie.Need-append-byte-requires-2
 append-byte-requires-2 c κs = search needs
 
--- src/lib.rt:19:1
 same-length : tie.Need-same-length
 same-length c = search needs
 
--- src/lib.rt:19:1
 returns : tie.Need-returns
 returns c = byte-appended (c .before .before .before .before .before .before .before .before .before .before .before .args .out .now) _ _ (c .before .before .before .before .before .before .before .before .before .before .before .args .at) _ _ (c .before .before .before .before .before .before .before .before .before .before .before .args .byte) _ _ (c .before .before .before .before .before .before .before .before .before .before .before .pre) (c .before .before .before .before .before .before .before .before .before .hex-digit .ensures) (c .before .before .before .before .before .before .before .before .hex-digit2 .ensures) (c .before .before .before .before .before .before .append-byte .ensures) (c .before .before .append-byte2 .ensures)
 

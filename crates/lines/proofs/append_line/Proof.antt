@@ -10,27 +10,21 @@ use Rattle.append.proofs.append_byte.Reads as append-byte-reads
 use Rattle.lines.proofs.append_decimal.Reads as append-decimal-reads
 use Rattle.lines.proofs.append_hex.Reads as append-hex-reads
 
--- src/lib.rt:65:9
 append-decimal-requires : tie.Need-append-decimal-requires
 append-decimal-requires c κs = search needs
 
--- src/lib.rt:66:9
 append-byte-requires : tie.Need-append-byte-requires
 append-byte-requires c κs = let room = space-room (c .before .before .before .before .before .before .before .args .out .now) (c .before .before .before .before .before .before .before .args .view .now) (c .before .before .before .before .before .before .before .args .number) (omega (arith, c .before .before .before .before .before .before .before .fits .number)) (c .before .before .before .before .before .before .before .pre) _ _ (c .before .before .before .append-decimal .ensures) in omega arith
 
--- src/lib.rt:67:9
 append-hex-requires : tie.Need-append-hex-requires
 append-hex-requires c κs = let room = text-room (c .before .before .before .before .before .before .before .before .before .before .before .args .out .now) (c .before .before .before .before .before .before .before .before .before .before .before .args .view .now) (c .before .before .before .before .before .before .before .before .before .before .before .args .number) (omega (arith, c .before .before .before .before .before .before .before .before .before .before .before .fits .number)) (c .before .before .before .before .before .before .before .before .before .before .before .pre) _ _ (c .before .before .before .before .before .before .before .append-decimal .ensures) _ _ (c .before .before .before .append-byte .ensures) in omega arith
 
--- src/lib.rt:68:5
 append-byte-requires-2 : tie.Need-append-byte-requires-2
 append-byte-requires-2 c κs = end-room (c .before .before .before .before .before .before .before .before .before .before .before .before .before .before .before .args .out .now) (c .before .before .before .before .before .before .before .before .before .before .before .before .before .before .before .args .view .now) (c .before .before .before .before .before .before .before .before .before .before .before .before .before .before .before .args .number) (omega (arith, c .before .before .before .before .before .before .before .before .before .before .before .before .before .before .before .fits .number)) (c .before .before .before .before .before .before .before .before .before .before .before .before .before .before .before .pre) _ _ (c .before .before .before .before .before .before .before .before .before .before .before .append-decimal .ensures) _ _ (c .before .before .before .before .before .before .before .append-byte .ensures) _ _ (c .before .before .before .append-hex .ensures)
 
--- src/lib.rt:61:1
 same-length : tie.Need-same-length
 same-length c = search needs
 
--- src/lib.rt:61:1
 returns : tie.Need-returns
 returns c = line-appended (c .before .before .before .before .before .before .before .before .before .before .before .before .before .before .before .before .before .before .args .out .now) (c .before .before .before .before .before .before .before .before .before .before .before .before .before .before .before .before .before .before .args .view .now) (c .before .before .before .before .before .before .before .before .before .before .before .before .before .before .before .before .before .before .args .number) (omega (arith, c .before .before .before .before .before .before .before .before .before .before .before .before .before .before .before .before .before .before .fits .number)) (c .before .before .before .before .before .before .before .before .before .before .before .before .before .before .before .before .before .before .pre) _ _ (c .before .before .before .before .before .before .before .before .before .before .before .before .before .before .append-decimal .ensures) _ _ (c .before .before .before .before .before .before .before .before .before .before .append-byte .ensures) _ _ (c .before .before .before .before .before .before .append-hex .ensures) _ _ (c .before .before .append-byte2 .ensures)
 

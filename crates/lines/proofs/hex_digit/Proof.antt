@@ -6,19 +6,15 @@ use Rattle.lines.proofs.hex_digit.Tie as tie
 use Rattle.lines.proofs.hex_digit.Reads as reads
 use Rattle.lines.proofs.hex_digit.Lts as lts
 
--- src/lib.rt:16:17
 add-result : tie.Need-add-result
 add-result c = search needs
 
--- src/lib.rt:16:33
 add-result-2 : tie.Need-add-result-2
 add-result-2 c = search needs
 
--- src/lib.rt:12:1
 returns : tie.Need-returns
 returns c = low-digit _ (c .if1 .taken)
 
--- src/lib.rt:12:1
 returns-2 : tie.Need-returns-2
 returns-2 c = high-digit _ (c .if1 .left)
 

@@ -8,27 +8,21 @@ use Rattle.lines.proofs.write_line.Reads as reads
 use Rattle.lines.proofs.write_line.Lts as lts
 use Rattle.lines.proofs.append_line.Reads as append-line-reads
 
--- src/lib.rt:76:9
 returns : tie.Need-returns
 returns c = no-room (c .before .before .before .args .number) (c .before .before .before .args .view .now) (c .before .before .before .args .out .now) (omega arith)
 
--- src/lib.rt:78:9
 sub-if2 : tie.Need-sub-if2
 sub-if2 c = search needs
 
--- src/lib.rt:79:9
 returns-2 : tie.Need-returns-2
 returns-2 c = no-room (c .before .before .before .before .args .number) (c .before .before .before .before .args .view .now) (c .before .before .before .before .args .out .now) (omega arith)
 
--- src/lib.rt:81:5
 append-line-requires : tie.Need-append-line-requires
 append-line-requires c κs = search needs
 
--- src/lib.rt:72:1
 same-length : tie.Need-same-length
 same-length c = search needs
 
--- src/lib.rt:72:1
 returns-3 : tie.Need-returns-3
 returns-3 c = line-written (c .before .before .before .before .before .before .before .before .args .number) (c .before .before .before .before .before .before .before .before .args .view .now) (c .before .before .before .before .before .before .before .before .args .out .now) _ _ (omega (arith, c .before .before .before .before .before .before .before .before .fits .number)) (omega arith) (c .before .before .append-line .ensures)
 

@@ -104,7 +104,6 @@ abbrev supply-log-below : ℕ → In 2 supply-log-kinds.ps
 supply-log-below t =
     and 2 supply-log-kinds.ps (falls 2 supply-log-kinds.ps _<_ μ-supply-log t) supply-log.Pre
 
--- src/lib.rt:14:9
 body-log-supplied-code-requires : (t : ℕ) → body-log-lts.Need-supplied-code-requires (
   supplied-code-reads.Asked,
   supplied-code-reads.Learnt,
@@ -115,7 +114,6 @@ body-log-supplied-code-requires : (t : ℕ) → body-log-lts.Need-supplied-code-
 ) (body-log-at t) body-log.Post
 body-log-supplied-code-requires t c κs = (c .before .before .pre .1 .inside, c .before .before .pre .1 .context)
 
--- src/lib.rt:16:9
 body-log-body-parts-log-requires : (t : ℕ) → body-log-lts.Need-body-parts-log-requires (
   supplied-code-reads.Asked,
   supplied-code-reads.Learnt,
@@ -126,7 +124,6 @@ body-log-body-parts-log-requires : (t : ℕ) → body-log-lts.Need-body-parts-lo
 ) (body-log-at t) body-log.Post
 body-log-body-parts-log-requires t c κs = (omega arith, kept-ready _ _ (c .before .before .before .before .before .args .nodes-at) (c .before .before .before .before .before .args .guard) _ _ (c .before .before .supplied-code .ensures) _ _ (c .before .if1 .taken) (c .before .before .before .before .before .pre .1))
 
--- src/lib.rt:18:52
 body-log-sub-supply-log : (t : ℕ) → body-log-lts.Need-sub-supply-log (
   supplied-code-reads.Asked,
   supplied-code-reads.Learnt,
@@ -137,7 +134,6 @@ body-log-sub-supply-log : (t : ℕ) → body-log-lts.Need-sub-supply-log (
 ) (body-log-at t) body-log.Post
 body-log-sub-supply-log t c = omega arith
 
--- src/lib.rt:18:9
 body-log-supply-log-requires : (t : ℕ) → body-log-lts.Need-supply-log-requires (
   supplied-code-reads.Asked,
   supplied-code-reads.Learnt,
@@ -148,7 +144,6 @@ body-log-supply-log-requires : (t : ℕ) → body-log-lts.Need-supply-log-requir
 ) (body-log-at t) body-log.Post
 body-log-supply-log-requires t c κs = (omega arith, supplied-ready _ _ (c .before .before .before .before .before .args .nodes-at) (c .before .before .before .before .before .args .guard) _ _ (c .before .before .supplied-code .ensures) _ _ (c .before .if1 .left) (c .before .before .before .before .before .pre .1))
 
--- src/lib.rt:10:1
 body-log-same-length : (t : ℕ) → body-log-lts.Need-same-length (
   supplied-code-reads.Asked,
   supplied-code-reads.Learnt,
@@ -159,7 +154,6 @@ body-log-same-length : (t : ℕ) → body-log-lts.Need-same-length (
 ) (body-log-at t) body-log.Post
 body-log-same-length t c = c .before .before .body-parts-log .kept .1 .1 .1 .1 .1 .0
 
--- src/lib.rt:10:1
 body-log-returns : (t : ℕ) → body-log-lts.Need-returns (
   supplied-code-reads.Asked,
   supplied-code-reads.Learnt,
@@ -170,7 +164,6 @@ body-log-returns : (t : ℕ) → body-log-lts.Need-returns (
 ) (body-log-at t) body-log.Post
 body-log-returns t c = kept-logged _ _ (c .before .before .before .before .before .before .before .before .args .nodes-at) (c .before .before .before .before .before .before .before .before .args .guard) _ _ (c .before .before .before .before .before .supplied-code .ensures) _ _ _ _ (c .before .before .before .before .if1 .taken) (c .before .before .body-parts-log .ensures)
 
--- src/lib.rt:10:1
 body-log-same-length-2 : (t : ℕ) → body-log-lts.Need-same-length-2 (
   supplied-code-reads.Asked,
   supplied-code-reads.Learnt,
@@ -181,7 +174,6 @@ body-log-same-length-2 : (t : ℕ) → body-log-lts.Need-same-length-2 (
 ) (body-log-at t) body-log.Post
 body-log-same-length-2 t c = c .before .before .supply-log .kept .1 .1 .1 .1 .1 .1 .0
 
--- src/lib.rt:10:1
 body-log-returns-2 : (t : ℕ) → body-log-lts.Need-returns-2 (
   supplied-code-reads.Asked,
   supplied-code-reads.Learnt,
@@ -192,7 +184,6 @@ body-log-returns-2 : (t : ℕ) → body-log-lts.Need-returns-2 (
 ) (body-log-at t) body-log.Post
 body-log-returns-2 t c = supplied-logged _ _ (c .before .before .before .before .before .before .before .before .args .nodes-at) (c .before .before .before .before .before .before .before .before .args .guard) _ _ (c .before .before .before .before .before .supplied-code .ensures) _ _ _ _ (c .before .before .before .before .if1 .left) (c .before .before .supply-log .ensures)
 
--- src/lib.rt:27:9
 body-parts-log-parts-of-requires : (t : ℕ) → body-parts-log-lts.Need-parts-of-requires (
   parts-of-reads.Asked,
   parts-of-reads.Learnt,
@@ -201,7 +192,6 @@ body-parts-log-parts-of-requires : (t : ℕ) → body-parts-log-lts.Need-parts-o
 ) (body-parts-log-at t) body-parts-log.Post
 body-parts-log-parts-of-requires t c κs = (c .before .before .pre .1 .inside, c .before .before .pre .1 .context)
 
--- src/lib.rt:29:9
 body-parts-log-returns : (t : ℕ) → body-parts-log-lts.Need-returns (
   parts-of-reads.Asked,
   parts-of-reads.Learnt,
@@ -210,7 +200,6 @@ body-parts-log-returns : (t : ℕ) → body-parts-log-lts.Need-returns (
 ) (body-parts-log-at t) body-parts-log.Post
 body-parts-log-returns t c = none-logged _ _ _ _ _ _ (c .before .before .parts-of .ensures) _ _ (c .before .before .before .before .before .pre .1) (c .if1 .taken)
 
--- src/lib.rt:31:9
 body-parts-log-body-log-requires : (t : ℕ) → body-parts-log-lts.Need-body-log-requires (
   parts-of-reads.Asked,
   parts-of-reads.Learnt,
@@ -221,7 +210,6 @@ body-parts-log-body-log-requires t c κs =
     let less = first-below _ _ _ _ _ _ (c .before .before .before .parts-of .ensures) _ _ (c .before .before .before .before .before .before .pre .1) (c .before .if1 .left) in
     (omega arith, first-ready _ _ _ _ _ _ (c .before .before .before .parts-of .ensures) _ _ (c .before .before .before .before .before .before .pre .1) (c .before .if1 .left))
 
--- src/lib.rt:33:9
 body-parts-log-same-length : (t : ℕ) → body-parts-log-lts.Need-same-length (
   parts-of-reads.Asked,
   parts-of-reads.Learnt,
@@ -230,7 +218,6 @@ body-parts-log-same-length : (t : ℕ) → body-parts-log-lts.Need-same-length (
 ) (body-parts-log-at t) body-parts-log.Post
 body-parts-log-same-length t c = c .before .before .before .before .body-log .kept .1 .1 .1 .1 .1 .0
 
--- src/lib.rt:33:9
 body-parts-log-returns-2 : (t : ℕ) → body-parts-log-lts.Need-returns-2 (
   parts-of-reads.Asked,
   parts-of-reads.Learnt,
@@ -239,7 +226,6 @@ body-parts-log-returns-2 : (t : ℕ) → body-parts-log-lts.Need-returns-2 (
 ) (body-parts-log-at t) body-parts-log.Post
 body-parts-log-returns-2 t c = one-logged _ _ _ _ _ _ (c .before .before .before .before .before .before .before .before .parts-of .ensures) _ _ (c .before .before .before .before .before .before .before .before .before .before .before .pre .1) (c .before .before .before .before .before .before .if1 .left) _ _ (c .before .before .before .before .body-log .ensures) (c .if2 .taken)
 
--- src/lib.rt:35:5
 body-parts-log-body-log-requires-2 : (t : ℕ) → body-parts-log-lts.Need-body-log-requires-2 (
   parts-of-reads.Asked,
   parts-of-reads.Learnt,
@@ -250,7 +236,6 @@ body-parts-log-body-log-requires-2 t c κs =
     let less = second-below _ _ _ _ _ _ (c .before .before .before .before .before .before .before .before .before .parts-of .ensures) _ _ (c .before .before .before .before .before .before .before .before .before .before .before .before .pre .1) (c .before .before .before .before .before .before .before .if1 .left) _ _ (c .before .before .before .before .before .body-log .ensures) (c .before .if2 .left) in
     (omega arith, second-ready _ _ _ _ _ _ (c .before .before .before .before .before .before .before .before .before .parts-of .ensures) _ _ (c .before .before .before .before .before .before .before .before .before .before .before .before .pre .1) (c .before .before .before .before .before .before .before .if1 .left) _ _ (c .before .before .before .before .before .body-log .ensures) (c .before .if2 .left))
 
--- src/lib.rt:23:1
 body-parts-log-same-length-2 : (t : ℕ) → body-parts-log-lts.Need-same-length-2 (
   parts-of-reads.Asked,
   parts-of-reads.Learnt,
@@ -259,7 +244,6 @@ body-parts-log-same-length-2 : (t : ℕ) → body-parts-log-lts.Need-same-length
 ) (body-parts-log-at t) body-parts-log.Post
 body-parts-log-same-length-2 t c = c .before .before .body-log2 .kept .1 .1 .1 .1 .1 .0 ∙ c .before .before .before .before .before .before .before .before .body-log .kept .1 .1 .1 .1 .1 .0
 
--- src/lib.rt:23:1
 body-parts-log-returns-3 : (t : ℕ) → body-parts-log-lts.Need-returns-3 (
   parts-of-reads.Asked,
   parts-of-reads.Learnt,
@@ -268,7 +252,6 @@ body-parts-log-returns-3 : (t : ℕ) → body-parts-log-lts.Need-returns-3 (
 ) (body-parts-log-at t) body-parts-log.Post
 body-parts-log-returns-3 t c = two-logged _ _ _ _ _ _ (c .before .before .before .before .before .before .before .before .before .before .before .before .parts-of .ensures) _ _ (c .before .before .before .before .before .before .before .before .before .before .before .before .before .before .before .pre .1) (c .before .before .before .before .before .before .before .before .before .before .if1 .left) _ _ (c .before .before .before .before .before .before .before .before .body-log .ensures) (c .before .before .before .before .if2 .left) _ _ (c .before .before .body-log2 .ensures)
 
--- src/lib.rt:68:9
 circuit-log-read-code-requires : (t : ℕ) → circuit-log-lts.Need-read-code-requires (
   read-code-reads.Asked,
   read-code-reads.Learnt,
@@ -281,7 +264,6 @@ circuit-log-read-code-requires : (t : ℕ) → circuit-log-lts.Need-read-code-re
 ) (circuit-log-at t) circuit-log.Post
 circuit-log-read-code-requires t c κs = (c .before .before .pre .1 .inside, c .before .before .pre .1 .context)
 
--- src/lib.rt:70:9
 circuit-log-circuit-parts-log-requires : (t : ℕ) → circuit-log-lts.Need-circuit-parts-log-requires (
   read-code-reads.Asked,
   read-code-reads.Learnt,
@@ -294,7 +276,6 @@ circuit-log-circuit-parts-log-requires : (t : ℕ) → circuit-log-lts.Need-circ
 ) (circuit-log-at t) circuit-log.Post
 circuit-log-circuit-parts-log-requires t c κs = (omega arith, circuit-ready _ _ (c .before .before .before .before .before .args .nodes-at) (c .before .before .before .before .before .args .guard) _ _ (c .before .before .read-code .ensures) _ _ (c .before .if1 .taken) (c .before .before .before .before .before .pre .1))
 
--- src/lib.rt:73:13
 circuit-log-body-parts-log-requires : (t : ℕ) → circuit-log-lts.Need-body-parts-log-requires (
   read-code-reads.Asked,
   read-code-reads.Learnt,
@@ -307,7 +288,6 @@ circuit-log-body-parts-log-requires : (t : ℕ) → circuit-log-lts.Need-body-pa
 ) (circuit-log-at t) circuit-log.Post
 circuit-log-body-parts-log-requires t c κs = (omega arith, read-ready _ _ (c .before .before .before .before .before .args .nodes-at) (c .before .before .before .before .before .args .guard) _ _ (c .before .before .read-code .ensures) _ _ (c .before .if1 .left) (c .before .before .before .before .before .pre .1))
 
--- src/lib.rt:77:20
 circuit-log-sub-t18 : (t : ℕ) → circuit-log-lts.Need-sub-t18 (
   read-code-reads.Asked,
   read-code-reads.Learnt,
@@ -320,7 +300,6 @@ circuit-log-sub-t18 : (t : ℕ) → circuit-log-lts.Need-sub-t18 (
 ) (circuit-log-at t) circuit-log.Post
 circuit-log-sub-t18 t c = let some = c .before .before .before .before .if1 .left in omega arith
 
--- src/lib.rt:81:9
 circuit-log-log-entry-requires : (t : ℕ) → circuit-log-lts.Need-log-entry-requires (
   read-code-reads.Asked,
   read-code-reads.Learnt,
@@ -334,7 +313,6 @@ circuit-log-log-entry-requires : (t : ℕ) → circuit-log-lts.Need-log-entry-re
 circuit-log-log-entry-requires t c κs =
     (read-room _ _ (c .before .before .before .before .before .before .before .before .before .args .nodes-at) (c .before .before .before .before .before .before .before .before .before .args .guard) _ _ (c .before .before .before .before .before .before .read-code .ensures) _ _ (c .before .before .before .before .before .if1 .left) (c .before .before .before .before .before .before .before .before .before .pre .1) _ _ (c .before .before .before .body-parts-log .ensures), read-small _ _ (c .before .before .before .before .before .before .before .before .before .args .nodes-at) (c .before .before .before .before .before .before .before .before .before .args .guard) _ _ (c .before .before .before .before .before .before .read-code .ensures) _ _ (c .before .before .before .before .before .if1 .left) (c .before .before .before .before .before .before .before .before .before .pre .1) _ _ (c .before .before .before .body-parts-log .ensures))
 
--- src/lib.rt:64:1
 circuit-log-same-length : (t : ℕ) → circuit-log-lts.Need-same-length (
   read-code-reads.Asked,
   read-code-reads.Learnt,
@@ -347,7 +325,6 @@ circuit-log-same-length : (t : ℕ) → circuit-log-lts.Need-same-length (
 ) (circuit-log-at t) circuit-log.Post
 circuit-log-same-length t c = c .before .before .circuit-parts-log .kept .1 .1 .1 .1 .1 .0
 
--- src/lib.rt:64:1
 circuit-log-returns : (t : ℕ) → circuit-log-lts.Need-returns (
   read-code-reads.Asked,
   read-code-reads.Learnt,
@@ -360,7 +337,6 @@ circuit-log-returns : (t : ℕ) → circuit-log-lts.Need-returns (
 ) (circuit-log-at t) circuit-log.Post
 circuit-log-returns t c = circuit-logged _ _ (c .before .before .before .before .before .before .before .before .args .nodes-at) (c .before .before .before .before .before .before .before .before .args .guard) _ _ (c .before .before .before .before .before .read-code .ensures) _ _ _ _ (c .before .before .before .before .if1 .taken) (c .before .before .circuit-parts-log .ensures)
 
--- src/lib.rt:64:1
 circuit-log-same-length-2 : (t : ℕ) → circuit-log-lts.Need-same-length-2 (
   read-code-reads.Asked,
   read-code-reads.Learnt,
@@ -373,7 +349,6 @@ circuit-log-same-length-2 : (t : ℕ) → circuit-log-lts.Need-same-length-2 (
 ) (circuit-log-at t) circuit-log.Post
 circuit-log-same-length-2 t c = c .before .before .log-entry .kept .0 ∙ c .before .before .before .before .before .before .body-parts-log .kept .1 .1 .1 .1 .1 .0
 
--- src/lib.rt:64:1
 circuit-log-returns-2 : (t : ℕ) → circuit-log-lts.Need-returns-2 (
   read-code-reads.Asked,
   read-code-reads.Learnt,
@@ -386,7 +361,6 @@ circuit-log-returns-2 : (t : ℕ) → circuit-log-lts.Need-returns-2 (
 ) (circuit-log-at t) circuit-log.Post
 circuit-log-returns-2 t c = read-done _ _ (c .before .before .before .before .before .before .before .before .before .before .before .before .args .nodes-at) (c .before .before .before .before .before .before .before .before .before .before .before .before .args .guard) _ _ (c .before .before .before .before .before .before .before .before .before .read-code .ensures) _ _ (c .before .before .before .before .before .before .before .before .if1 .left) (c .before .before .before .before .before .before .before .before .before .before .before .before .pre .1) _ _ (c .before .before .before .before .before .before .body-parts-log .ensures) _ _ (c .before .before .log-entry .ensures)
 
--- src/lib.rt:90:9
 circuit-parts-log-parts-of-requires : (t : ℕ) → circuit-parts-log-lts.Need-parts-of-requires (
   parts-of-reads.Asked,
   parts-of-reads.Learnt,
@@ -395,7 +369,6 @@ circuit-parts-log-parts-of-requires : (t : ℕ) → circuit-parts-log-lts.Need-p
 ) (circuit-parts-log-at t) circuit-parts-log.Post
 circuit-parts-log-parts-of-requires t c κs = (c .before .before .pre .1 .inside, c .before .before .pre .1 .context)
 
--- src/lib.rt:92:9
 circuit-parts-log-returns : (t : ℕ) → circuit-parts-log-lts.Need-returns (
   parts-of-reads.Asked,
   parts-of-reads.Learnt,
@@ -404,7 +377,6 @@ circuit-parts-log-returns : (t : ℕ) → circuit-parts-log-lts.Need-returns (
 ) (circuit-parts-log-at t) circuit-parts-log.Post
 circuit-parts-log-returns t c = none-logged _ _ _ _ _ _ (c .before .before .parts-of .ensures) _ _ (c .before .before .before .before .before .pre .1) (c .if1 .taken)
 
--- src/lib.rt:94:9
 circuit-parts-log-circuit-log-requires : (t : ℕ) → circuit-parts-log-lts.Need-circuit-log-requires (
   parts-of-reads.Asked,
   parts-of-reads.Learnt,
@@ -415,7 +387,6 @@ circuit-parts-log-circuit-log-requires t c κs =
     let less = first-below _ _ _ _ _ _ (c .before .before .before .parts-of .ensures) _ _ (c .before .before .before .before .before .before .pre .1) (c .before .if1 .left) in
     (omega arith, first-ready _ _ _ _ _ _ (c .before .before .before .parts-of .ensures) _ _ (c .before .before .before .before .before .before .pre .1) (c .before .if1 .left))
 
--- src/lib.rt:96:9
 circuit-parts-log-same-length : (t : ℕ) → circuit-parts-log-lts.Need-same-length (
   parts-of-reads.Asked,
   parts-of-reads.Learnt,
@@ -424,7 +395,6 @@ circuit-parts-log-same-length : (t : ℕ) → circuit-parts-log-lts.Need-same-le
 ) (circuit-parts-log-at t) circuit-parts-log.Post
 circuit-parts-log-same-length t c = c .before .before .before .before .circuit-log .kept .1 .1 .1 .1 .1 .0
 
--- src/lib.rt:96:9
 circuit-parts-log-returns-2 : (t : ℕ) → circuit-parts-log-lts.Need-returns-2 (
   parts-of-reads.Asked,
   parts-of-reads.Learnt,
@@ -433,7 +403,6 @@ circuit-parts-log-returns-2 : (t : ℕ) → circuit-parts-log-lts.Need-returns-2
 ) (circuit-parts-log-at t) circuit-parts-log.Post
 circuit-parts-log-returns-2 t c = one-logged _ _ _ _ _ _ (c .before .before .before .before .before .before .before .before .parts-of .ensures) _ _ (c .before .before .before .before .before .before .before .before .before .before .before .pre .1) (c .before .before .before .before .before .before .if1 .left) _ _ (c .before .before .before .before .circuit-log .ensures) (c .if2 .taken)
 
--- src/lib.rt:98:5
 circuit-parts-log-circuit-log-requires-2 :
     (t : ℕ) → circuit-parts-log-lts.Need-circuit-log-requires-2 (
       parts-of-reads.Asked,
@@ -445,7 +414,6 @@ circuit-parts-log-circuit-log-requires-2 t c κs =
     let less = second-below _ _ _ _ _ _ (c .before .before .before .before .before .before .before .before .before .parts-of .ensures) _ _ (c .before .before .before .before .before .before .before .before .before .before .before .before .pre .1) (c .before .before .before .before .before .before .before .if1 .left) _ _ (c .before .before .before .before .before .circuit-log .ensures) (c .before .if2 .left) in
     (omega arith, second-ready _ _ _ _ _ _ (c .before .before .before .before .before .before .before .before .before .parts-of .ensures) _ _ (c .before .before .before .before .before .before .before .before .before .before .before .before .pre .1) (c .before .before .before .before .before .before .before .if1 .left) _ _ (c .before .before .before .before .before .circuit-log .ensures) (c .before .if2 .left))
 
--- src/lib.rt:86:1
 circuit-parts-log-same-length-2 : (t : ℕ) → circuit-parts-log-lts.Need-same-length-2 (
   parts-of-reads.Asked,
   parts-of-reads.Learnt,
@@ -454,7 +422,6 @@ circuit-parts-log-same-length-2 : (t : ℕ) → circuit-parts-log-lts.Need-same-
 ) (circuit-parts-log-at t) circuit-parts-log.Post
 circuit-parts-log-same-length-2 t c = c .before .before .circuit-log2 .kept .1 .1 .1 .1 .1 .0 ∙ c .before .before .before .before .before .before .before .before .circuit-log .kept .1 .1 .1 .1 .1 .0
 
--- src/lib.rt:86:1
 circuit-parts-log-returns-3 : (t : ℕ) → circuit-parts-log-lts.Need-returns-3 (
   parts-of-reads.Asked,
   parts-of-reads.Learnt,
@@ -463,7 +430,6 @@ circuit-parts-log-returns-3 : (t : ℕ) → circuit-parts-log-lts.Need-returns-3
 ) (circuit-parts-log-at t) circuit-parts-log.Post
 circuit-parts-log-returns-3 t c = two-logged _ _ _ _ _ _ (c .before .before .before .before .before .before .before .before .before .before .before .before .parts-of .ensures) _ _ (c .before .before .before .before .before .before .before .before .before .before .before .before .before .before .before .pre .1) (c .before .before .before .before .before .before .before .before .before .before .if1 .left) _ _ (c .before .before .before .before .before .before .before .before .circuit-log .ensures) (c .before .before .before .before .if2 .left) _ _ (c .before .before .circuit-log2 .ensures)
 
--- src/lib.rt:51:9
 supply-log-log-entry-requires : (t : ℕ) → supply-log-lts.Need-log-entry-requires (
   log-entry-reads.Asked,
   log-entry-reads.Learnt,
@@ -472,7 +438,6 @@ supply-log-log-entry-requires : (t : ℕ) → supply-log-lts.Need-log-entry-requ
 ) (supply-log-at t) supply-log.Post
 supply-log-log-entry-requires t c κs = (variable-slot _ _ _ _ (c .before .before .before .args .guard) _ (omega arith) _ _ (c .before .before .before .pre .1), variable-small _ _ _ _ (c .before .before .before .args .guard) _ (omega arith) _ _ (c .before .before .before .pre .1))
 
--- src/lib.rt:52:9
 supply-log-circuit-log-requires : (t : ℕ) → supply-log-lts.Need-circuit-log-requires (
   log-entry-reads.Asked,
   log-entry-reads.Learnt,
@@ -481,7 +446,6 @@ supply-log-circuit-log-requires : (t : ℕ) → supply-log-lts.Need-circuit-log-
 ) (supply-log-at t) supply-log.Post
 supply-log-circuit-log-requires t c κs = (omega arith, inside-ready _ _ _ _ (c .before .before .before .before .before .before .before .args .guard) _ (omega arith) _ _ (c .before .before .before .before .before .before .before .pre .1) _ _ (c .before .before .before .log-entry .ensures))
 
--- src/lib.rt:60:5
 supply-log-log-entry-requires-2 : (t : ℕ) → supply-log-lts.Need-log-entry-requires-2 (
   log-entry-reads.Asked,
   log-entry-reads.Learnt,
@@ -490,7 +454,6 @@ supply-log-log-entry-requires-2 : (t : ℕ) → supply-log-lts.Need-log-entry-re
 ) (supply-log-at t) supply-log.Post
 supply-log-log-entry-requires-2 t c κs = (claimed-slot _ _ _ _ (c .before .before .before .before .before .before .before .before .before .before .before .args .guard) _ (omega arith) _ _ (c .before .before .before .before .before .before .before .before .before .before .before .pre .1) _ _ (c .before .before .before .before .before .before .before .log-entry .ensures) _ _ (c .before .before .before .circuit-log .ensures), claimed-small _ _ _ _ (c .before .before .before .before .before .before .before .before .before .before .before .args .guard) _ (omega arith) _ _ (c .before .before .before .before .before .before .before .before .before .before .before .pre .1) _ _ (c .before .before .before .before .before .before .before .log-entry .ensures) _ _ (c .before .before .before .circuit-log .ensures))
 
--- src/lib.rt:39:1
 supply-log-same-length : (t : ℕ) → supply-log-lts.Need-same-length (
   log-entry-reads.Asked,
   log-entry-reads.Learnt,
@@ -499,7 +462,6 @@ supply-log-same-length : (t : ℕ) → supply-log-lts.Need-same-length (
 ) (supply-log-at t) supply-log.Post
 supply-log-same-length t c = c .before .before .log-entry2 .kept .0 ∙ c .before .before .before .before .before .before .circuit-log .kept .1 .1 .1 .1 .1 .0 ∙ c .before .before .before .before .before .before .before .before .before .before .log-entry .kept .0
 
--- src/lib.rt:39:1
 supply-log-returns : (t : ℕ) → supply-log-lts.Need-returns (
   log-entry-reads.Asked,
   log-entry-reads.Learnt,

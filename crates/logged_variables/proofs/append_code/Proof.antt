@@ -8,31 +8,24 @@ use Rattle.logged_variables.proofs.append_code.Reads as reads
 use Rattle.logged_variables.proofs.append_code.Lts as lts
 use Rattle.append.proofs.append_byte.Reads as append-byte-reads
 
--- src/lib.rt:79:8
 slice-read-if1 : tie.Need-slice-read-if1
 slice-read-if1 c = search needs
 
--- src/lib.rt:82:9
 slice-write-table : tie.Need-slice-write-table
 slice-write-table c = search needs
 
--- src/lib.rt:83:9
 append-byte-requires : tie.Need-append-byte-requires
 append-byte-requires c κs = new-room (c .before .before .before .before .before .args .table .now) (c .before .before .before .before .before .args .code) (c .before .if1 .left) _ _ (c .before .before .before .before .before .pre .1)
 
--- src/lib.rt:74:1
 returns : tie.Need-returns
 returns c = code-seen (c .before .before .before .before .args .table .now) (c .before .before .before .before .args .code) _ _ (c .if1 .taken)
 
--- src/lib.rt:74:1
 same-length : tie.Need-same-length
 same-length c = search needs
 
--- src/lib.rt:74:1
 same-length-2 : tie.Need-same-length-2
 same-length-2 c = search needs
 
--- src/lib.rt:74:1
 returns-2 : tie.Need-returns-2
 returns-2 c = code-new (c .before .before .before .before .before .before .before .before .args .table .now) (c .before .before .before .before .before .before .before .before .args .code) (c .before .before .before .before .if1 .left) _ _ _ _ (omega arith) (c .before .before .append-byte .ensures)
 

@@ -24,60 +24,46 @@ Inv-loop log out₀ from table₀ at₀ i₀ out table at i =
 abbrev μ-loop : tie.MeasureT-loop
 μ-loop log out₀ from table₀ at₀ i₀ out table at i = length log - i
 
--- src/lib.rt:111:5
 loop-holds : tie.Need-loop-holds Inv-loop μ-loop
 loop-holds c = (keys-start (c .before .before .args .log .now) (c .before .before .args .out .now) (c .before .before .args .from) (c .before .before .pre), omega arith, refl, refl)
 
--- src/lib.rt:111:11
 add-loop : tie.Need-add-loop Inv-loop μ-loop
 add-loop c = search needs
 
--- src/lib.rt:112:25
 mul-append-key : tie.Need-mul-append-key Inv-loop μ-loop
 mul-append-key c = search needs
 
--- src/lib.rt:112:25
 shared-slice-read-append-key : tie.Need-shared-slice-read-append-key Inv-loop μ-loop
 shared-slice-read-append-key c = search needs
 
--- src/lib.rt:112:37
 add-append-key : tie.Need-add-append-key Inv-loop μ-loop
 add-append-key c = search needs
 
--- src/lib.rt:112:33
 mul-append-key-2 : tie.Need-mul-append-key-2 Inv-loop μ-loop
 mul-append-key-2 c = search needs
 
--- src/lib.rt:112:33
 shared-slice-read-append-key-2 : tie.Need-shared-slice-read-append-key-2 Inv-loop μ-loop
 shared-slice-read-append-key-2 c = search needs
 
--- src/lib.rt:112:45
 slice-aggregate-append-key : tie.Need-slice-aggregate-append-key Inv-loop μ-loop
 slice-aggregate-append-key c = search needs
 
--- src/lib.rt:112:9
 append-key-requires : tie.Need-append-key-requires Inv-loop μ-loop
 append-key-requires c κs = (search needs, key-room (c .before .before .before .before .before .before .before .before .args .log .now) (c .before .before .before .before .before .before .before .before .args .out .now) (c .before .before .before .before .before .before .before .before .args .from) (c .before .before .before .before .before .before .before .before .pre) _ (c .before .before .before .before .before .loop .table) _ (c .before .before .before .before .before .loop .i) (omega arith) (c .before .before .before .before .before .loop .inv .0))
 
--- src/lib.rt:113:9
 add-i : tie.Need-add-i Inv-loop μ-loop
 add-i c = search needs
 
--- src/lib.rt:111:5
 loop-less : tie.Need-loop-less Inv-loop μ-loop
 loop-less c = search needs
 
--- src/lib.rt:111:5
 loop-again : tie.Need-loop-again Inv-loop μ-loop
 loop-again c =
     (key-appended (c .before .before .before .before .before .before .before .before .before .before .before .before .args .log .now) (c .before .before .before .before .before .before .before .before .before .before .before .before .args .out .now) (c .before .before .before .before .before .before .before .before .before .before .before .before .args .from) (c .before .before .before .before .before .before .before .before .before .before .before .before .pre) _ _ _ _ _ _ (c .before .before .before .before .before .before .before .before .before .loop .i) (omega arith) (c .before .before .before .before .before .before .before .before .before .loop .inv .0) (c .before .before .before .append-key .ensures), omega arith, search needs, search needs)
 
--- src/lib.rt:104:1
 same-length : tie.Need-same-length Inv-loop μ-loop
 same-length c = search needs
 
--- src/lib.rt:104:1
 returns : tie.Need-returns Inv-loop μ-loop
 returns c = keys-done (c .before .before .before .before .args .log .now) (c .before .before .before .before .args .out .now) (c .before .before .before .before .args .from) (c .before .before .before .before .pre) _ (c .before .loop .table) _ (c .before .loop .i) (omega arith) (c .before .loop .inv .0)
 

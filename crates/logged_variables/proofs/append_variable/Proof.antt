@@ -9,31 +9,24 @@ use Rattle.logged_variables.proofs.append_variable.Lts as lts
 use Rattle.append.proofs.append_byte.Reads as append-byte-reads
 use Rattle.logged_variables.proofs.origin_of.Reads as origin-of-reads
 
--- src/lib.rt:53:32
 origin-of-requires : tie.Need-origin-of-requires
 origin-of-requires c κs = search needs
 
--- src/lib.rt:53:13
 append-byte-requires : tie.Need-append-byte-requires
 append-byte-requires c κs = let room = variable-room (c .before .before .before .before .args .tag) (c .before .before .before .before .args .owner) (c .before .before .if1 .left) _ _ (c .before .before .before .before .pre) in omega arith
 
--- src/lib.rt:54:21
 cast-append-byte : tie.Need-cast-append-byte
 cast-append-byte c = search needs
 
--- src/lib.rt:54:9
 append-byte-requires-2 : tie.Need-append-byte-requires-2
 append-byte-requires-2 c κs = let room = variable-room (c .before .before .before .before .before .before .before .before .args .tag) (c .before .before .before .before .before .before .before .before .args .owner) (c .before .before .before .before .before .before .if1 .left) _ _ (c .before .before .before .before .before .before .before .before .pre) in omega arith
 
--- src/lib.rt:46:1
 returns : tie.Need-returns
 returns c = claim-none (c .before .before .args .tag) (c .before .before .args .owner) _ _ (c .if1 .taken)
 
--- src/lib.rt:46:1
 same-length : tie.Need-same-length
 same-length c = search needs
 
--- src/lib.rt:46:1
 returns-2 : tie.Need-returns-2
 returns-2 c = variable-appended (c .before .before .before .before .before .before .before .before .before .before .before .args .tag) (c .before .before .before .before .before .before .before .before .before .before .before .args .owner) (c .before .before .before .before .before .before .before .before .before .if1 .left) _ _ _ _ _ _ _ (c .before .before .before .before .before .before .before .before .before .before .before .pre) (c .before .before .before .before .before .before .before .before .origin-of .ensures) (c .before .before .before .before .before .before .append-byte .ensures) (c .before .before .append-byte2 .ensures)
 

@@ -22,56 +22,43 @@ Inv-loop log out₀ from at₀ i₀ out at i =
 abbrev μ-loop : tie.MeasureT-loop
 μ-loop log out₀ from at₀ i₀ out at i = length log - i
 
--- src/lib.rt:65:5
 loop-holds : tie.Need-loop-holds Inv-loop μ-loop
 loop-holds c = (appending-start _ _ _, omega arith, refl)
 
--- src/lib.rt:65:11
 add-loop : tie.Need-add-loop Inv-loop μ-loop
 add-loop c = search needs
 
--- src/lib.rt:66:30
 mul-append-variable : tie.Need-mul-append-variable Inv-loop μ-loop
 mul-append-variable c = search needs
 
--- src/lib.rt:66:30
 shared-slice-read-append-variable : tie.Need-shared-slice-read-append-variable Inv-loop μ-loop
 shared-slice-read-append-variable c = search needs
 
--- src/lib.rt:66:42
 add-append-variable : tie.Need-add-append-variable Inv-loop μ-loop
 add-append-variable c = search needs
 
--- src/lib.rt:66:38
 mul-append-variable-2 : tie.Need-mul-append-variable-2 Inv-loop μ-loop
 mul-append-variable-2 c = search needs
 
--- src/lib.rt:66:38
 shared-slice-read-append-variable-2 : tie.Need-shared-slice-read-append-variable-2 Inv-loop μ-loop
 shared-slice-read-append-variable-2 c = search needs
 
--- src/lib.rt:66:9
 append-variable-requires : tie.Need-append-variable-requires Inv-loop μ-loop
 append-variable-requires c κs = entry-room variableOf (c .before .before .before .before .before .before .before .args .log .now) (c .before .before .before .before .before .before .before .args .out .now) (c .before .before .before .before .before .before .before .args .from) (c .before .before .before .before .before .before .before .pre) _ _ (c .before .before .before .before .loop .i) (omega arith) (c .before .before .before .before .loop .inv .0)
 
--- src/lib.rt:67:9
 add-i : tie.Need-add-i Inv-loop μ-loop
 add-i c = search needs
 
--- src/lib.rt:65:5
 loop-less : tie.Need-loop-less Inv-loop μ-loop
 loop-less c = search needs
 
--- src/lib.rt:65:5
 loop-again : tie.Need-loop-again Inv-loop μ-loop
 loop-again c =
     (entry-appended variableOf (c .before .before .before .before .before .before .before .before .before .before .args .log .now) (c .before .before .before .before .before .before .before .before .before .before .args .out .now) (c .before .before .before .before .before .before .before .before .before .before .args .from) (c .before .before .before .before .before .before .before .before .before .before .pre) _ _ _ _ (c .before .before .before .before .before .before .before .loop .i) (omega arith) (c .before .before .before .before .before .before .before .loop .inv .0) (c .before .before .append-variable .ensures), omega arith, search needs)
 
--- src/lib.rt:59:1
 same-length : tie.Need-same-length Inv-loop μ-loop
 same-length c = search needs
 
--- src/lib.rt:59:1
 returns : tie.Need-returns Inv-loop μ-loop
 returns c = entries-appended variableOf (c .before .before .before .before .args .log .now) (c .before .before .before .before .args .out .now) (c .before .before .before .before .args .from) (c .before .before .before .before .pre) _ _ (c .before .loop .i) (omega arith) (c .before .loop .inv .0)
 

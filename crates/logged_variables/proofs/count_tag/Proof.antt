@@ -18,43 +18,33 @@ Inv-loop log tag count₀ i₀ count i = (count + length (perEntry (ofTag tag) (
 abbrev μ-loop : tie.MeasureT-loop
 μ-loop log tag count₀ i₀ count i = length log - i
 
--- src/lib.rt:25:5
 loop-holds : tie.Need-loop-holds Inv-loop μ-loop
 loop-holds c = (omega arith, omega arith, omega arith)
 
--- src/lib.rt:25:11
 add-loop : tie.Need-add-loop Inv-loop μ-loop
 add-loop c = search needs
 
--- src/lib.rt:26:30
 mul-one-if-same : tie.Need-mul-one-if-same Inv-loop μ-loop
 mul-one-if-same c = search needs
 
--- src/lib.rt:26:30
 shared-slice-read-one-if-same : tie.Need-shared-slice-read-one-if-same Inv-loop μ-loop
 shared-slice-read-one-if-same c = search needs
 
--- src/lib.rt:26:18
 one-if-same-requires : tie.Need-one-if-same-requires Inv-loop μ-loop
 one-if-same-requires c κs = search needs
 
--- src/lib.rt:26:9
 add-count : tie.Need-add-count Inv-loop μ-loop
 add-count c = search needs
 
--- src/lib.rt:27:9
 add-i : tie.Need-add-i Inv-loop μ-loop
 add-i c = search needs
 
--- src/lib.rt:25:5
 loop-less : tie.Need-loop-less Inv-loop μ-loop
 loop-less c = search needs
 
--- src/lib.rt:25:5
 loop-again : tie.Need-loop-again Inv-loop μ-loop
 loop-again c = (count-next (c .before .before .before .before .before .args .log .now) (c .before .before .before .before .before .args .tag) _ _ _ (omega arith) (c .one-if-same .ensures .0) (c .before .before .before .loop .inv .0), omega arith, omega arith)
 
--- src/lib.rt:20:1
 returns : tie.Need-returns Inv-loop μ-loop
 returns c = count-done (c .before .before .before .args .log .now) (c .before .before .before .args .tag) _ (c .before .loop .i) (omega arith) (c .before .loop .inv .0)
 

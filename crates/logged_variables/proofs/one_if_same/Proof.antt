@@ -6,11 +6,9 @@ use Rattle.logged_variables.proofs.one_if_same.Tie as tie
 use Rattle.logged_variables.proofs.one_if_same.Reads as reads
 use Rattle.logged_variables.proofs.one_if_same.Lts as lts
 
--- src/lib.rt:12:1
 returns : tie.Need-returns
 returns c = (same-one _ _ (c .if1 .taken), omega arith)
 
--- src/lib.rt:12:1
 returns-2 : tie.Need-returns-2
 returns-2 c = (other-none _ _ (c .if1 .left), omega arith)
 

@@ -8,23 +8,18 @@ use Rattle.parameter_output.proofs.append_opening_claim.Reads as reads
 use Rattle.parameter_output.proofs.append_opening_claim.Lts as lts
 use Rattle.append.proofs.append_two_bytes.Reads as append-two-bytes-reads
 
--- src/lib.rt:99:9
 append-two-bytes-requires : tie.Need-append-two-bytes-requires
 append-two-bytes-requires c κs = search needs
 
--- src/lib.rt:100:9
 append-two-bytes-requires-2 : tie.Need-append-two-bytes-requires-2
 append-two-bytes-requires-2 c κs = search needs
 
--- src/lib.rt:101:5
 append-two-bytes-requires-3 : tie.Need-append-two-bytes-requires-3
 append-two-bytes-requires-3 c κs = search needs
 
--- src/lib.rt:95:1
 same-length : tie.Need-same-length
 same-length c = search needs
 
--- src/lib.rt:95:1
 returns : tie.Need-returns
 returns c = three-appended (c .before .before .before .before .before .before .before .before .before .before .before .before .before .args .out .now) (c .before .before .before .before .before .before .before .before .before .before .before .before .before .args .at) (twoBytes 0) (twoBytes (c .before .before .before .before .before .before .before .before .before .before .before .before .before .args .variable)) (twoBytes 65535) (c .before .before .before .before .before .before .before .before .before .before .before .before .before .pre) _ _ _ _ _ _ (c .before .before .before .before .before .before .before .before .before .before .append-two-bytes .ensures) (c .before .before .before .before .before .before .append-two-bytes2 .ensures) (c .before .before .append-two-bytes3 .ensures)
 

@@ -20,31 +20,24 @@ Inv-loop count out₀ from variable₀ at₀ out variable at =
 abbrev μ-loop : tie.MeasureT-loop
 μ-loop count out₀ from variable₀ at₀ out variable at = count - variable
 
--- src/lib.rt:111:5
 loop-holds : tie.Need-loop-holds Inv-loop μ-loop
 loop-holds c = (claims-start (c .before .args .out .now) (c .before .args .from) (c .before .args .count) (c .before .pre), omega arith, refl)
 
--- src/lib.rt:112:9
 append-opening-claim-requires : tie.Need-append-opening-claim-requires Inv-loop μ-loop
 append-opening-claim-requires c κs = claim-room (c .before .before .before .before .args .out .now) (c .before .before .before .before .args .from) (c .before .before .before .before .args .count) (c .before .before .before .before .pre) _ _ (c .before .before .loop .variable) (omega arith) (c .before .before .loop .inv .0)
 
--- src/lib.rt:113:9
 add-variable : tie.Need-add-variable Inv-loop μ-loop
 add-variable c = search needs
 
--- src/lib.rt:111:5
 loop-less : tie.Need-loop-less Inv-loop μ-loop
 loop-less c = search needs
 
--- src/lib.rt:111:5
 loop-again : tie.Need-loop-again Inv-loop μ-loop
 loop-again c = (claim-appended (c .before .before .before .before .before .before .before .args .out .now) (c .before .before .before .before .before .before .before .args .from) (c .before .before .before .before .before .before .before .args .count) (c .before .before .before .before .before .before .before .pre) _ _ (c .before .before .before .before .before .loop .variable) (omega arith) (c .before .before .before .before .before .loop .inv .0) _ _ (c .before .before .append-opening-claim .ensures), omega arith, search needs)
 
--- src/lib.rt:105:1
 same-length : tie.Need-same-length Inv-loop μ-loop
 same-length c = search needs
 
--- src/lib.rt:105:1
 returns : tie.Need-returns Inv-loop μ-loop
 returns c = claims-done (c .before .before .before .args .out .now) (c .before .before .before .args .from) (c .before .before .before .args .count) (c .before .before .before .pre) _ _ (c .before .loop .variable) (omega arith) (c .before .loop .inv .0)
 

@@ -19,35 +19,27 @@ Inv-loop count out₀ from left₀ at₀ out left at = (Appending out₀ out fro
 abbrev μ-loop : tie.MeasureT-loop
 μ-loop count out₀ from left₀ at₀ out left at = left
 
--- src/lib.rt:87:5
 loop-holds : tie.Need-loop-holds Inv-loop μ-loop
 loop-holds c = (appending-start _ _ _, refl)
 
--- src/lib.rt:88:13
 append-byte-requires : tie.Need-append-byte-requires Inv-loop μ-loop
 append-byte-requires c κs = let room = pair-room (c .before .before .before .before .args .out .now) (c .before .before .before .before .args .from) (c .before .before .before .before .args .count) (c .before .before .before .before .pre) _ _ (c .before .before .loop .left) (omega arith) (c .before .before .loop .inv .0) in omega arith
 
--- src/lib.rt:89:9
 append-byte-requires-2 : tie.Need-append-byte-requires-2 Inv-loop μ-loop
 append-byte-requires-2 c κs = let room = pair-room (c .before .before .before .before .before .before .before .before .args .out .now) (c .before .before .before .before .before .before .before .before .args .from) (c .before .before .before .before .before .before .before .before .args .count) (c .before .before .before .before .before .before .before .before .pre) _ _ (c .before .before .before .before .before .before .loop .left) (omega arith) (c .before .before .before .before .before .before .loop .inv .0) in omega arith
 
--- src/lib.rt:90:9
 sub-left : tie.Need-sub-left Inv-loop μ-loop
 sub-left c = search needs
 
--- src/lib.rt:87:5
 loop-less : tie.Need-loop-less Inv-loop μ-loop
 loop-less c = search needs
 
--- src/lib.rt:87:5
 loop-again : tie.Need-loop-again Inv-loop μ-loop
 loop-again c = (pair-appended (c .before .before .before .before .before .before .before .before .before .before .before .args .out .now) (c .before .before .before .before .before .before .before .before .before .before .before .args .from) (c .before .before .before .before .before .before .before .before .before .before .before .args .count) (c .before .before .before .before .before .before .before .before .before .before .before .pre) _ _ (c .before .before .before .before .before .before .before .before .before .loop .left) (omega arith) (c .before .before .before .before .before .before .before .before .before .loop .inv .0) _ _ _ _ (c .before .before .before .before .before .before .append-byte .ensures) (c .before .before .append-byte2 .ensures), search needs)
 
--- src/lib.rt:81:1
 same-length : tie.Need-same-length Inv-loop μ-loop
 same-length c = search needs
 
--- src/lib.rt:81:1
 returns : tie.Need-returns Inv-loop μ-loop
 returns c = pairs-done (c .before .before .before .args .out .now) (c .before .before .before .args .from) (c .before .before .before .args .count) (c .before .before .before .pre) _ _ (c .before .loop .left) (omega arith) (c .before .loop .inv .0)
 

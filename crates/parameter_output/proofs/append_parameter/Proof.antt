@@ -9,39 +9,30 @@ use Rattle.parameter_output.proofs.append_parameter.Lts as lts
 use Rattle.append.proofs.append_byte.Reads as append-byte-reads
 use Rattle.parameter_output.proofs.type_code.Reads as type-code-reads
 
--- src/lib.rt:33:32
 type-code-requires : tie.Need-type-code-requires
 type-code-requires c κs = search needs
 
--- src/lib.rt:33:13
 append-byte-requires : tie.Need-append-byte-requires
 append-byte-requires c κs = let room = public-room (c .before .before .before .before .args .kind) (c .before .before .before .before .args .owner) _ _ (c .before .before .if1 .taken) (c .before .before .before .before .pre) in omega arith
 
--- src/lib.rt:34:9
 append-byte-requires-2 : tie.Need-append-byte-requires-2
 append-byte-requires-2 c κs = let room = public-room (c .before .before .before .before .before .before .before .before .args .kind) (c .before .before .before .before .before .before .before .before .args .owner) _ _ (c .before .before .before .before .before .before .if1 .taken) (c .before .before .before .before .before .before .before .before .pre) in omega arith
 
--- src/lib.rt:36:13
 append-byte-requires-3 : tie.Need-append-byte-requires-3
 append-byte-requires-3 c κs = let room = private-room (c .before .before .before .args .kind) (c .before .before .before .args .owner) _ _ (c .before .if1 .left) (c .before .before .before .pre) in omega arith
 
--- src/lib.rt:37:9
 append-byte-requires-4 : tie.Need-append-byte-requires-4
 append-byte-requires-4 c κs = let room = private-room (c .before .before .before .before .before .before .before .args .kind) (c .before .before .before .before .before .before .before .args .owner) _ _ (c .before .before .before .before .before .if1 .left) (c .before .before .before .before .before .before .before .pre) in omega arith
 
--- src/lib.rt:28:1
 same-length : tie.Need-same-length
 same-length c = search needs
 
--- src/lib.rt:28:1
 returns : tie.Need-returns
 returns c = public-appended (c .before .before .before .before .before .before .before .before .before .before .before .args .kind) (c .before .before .before .before .before .before .before .before .before .before .before .args .owner) _ _ _ _ _ _ (c .before .before .before .before .before .before .before .before .before .before .before .pre) _ (c .before .before .before .before .before .before .before .before .before .if1 .taken) (c .before .before .before .before .before .before .before .before .type-code .ensures) (c .before .before .before .before .before .before .append-byte .ensures) (c .before .before .append-byte2 .ensures)
 
--- src/lib.rt:28:1
 same-length-2 : tie.Need-same-length-2
 same-length-2 c = search needs
 
--- src/lib.rt:28:1
 returns-2 : tie.Need-returns-2
 returns-2 c = private-appended (c .before .before .before .before .before .before .before .before .before .before .args .kind) (c .before .before .before .before .before .before .before .before .before .before .args .owner) _ _ _ _ _ _ (c .before .before .before .before .before .before .before .before .before .before .pre) (c .before .before .before .before .before .before .before .before .if1 .left) (c .before .before .before .before .before .before .append-byte3 .ensures) (c .before .before .append-byte4 .ensures)
 

@@ -22,48 +22,37 @@ Inv-loop file start count out₀ from place₀ left₀ at₀ out place left at =
 abbrev μ-loop : tie.MeasureT-loop
 μ-loop file start count out₀ from place₀ left₀ at₀ out place left at = left
 
--- src/lib.rt:49:5
 loop-holds : tie.Need-loop-holds Inv-loop μ-loop
 loop-holds c = (appending-start _ _ _, omega arith, refl)
 
--- src/lib.rt:50:31
 byte-at-requires : tie.Need-byte-at-requires Inv-loop μ-loop
 byte-at-requires c κs = search needs
 
--- src/lib.rt:50:67
 add-byte-at : tie.Need-add-byte-at Inv-loop μ-loop
 add-byte-at c = search needs
 
--- src/lib.rt:50:53
 byte-at-requires-2 : tie.Need-byte-at-requires-2 Inv-loop μ-loop
 byte-at-requires-2 c κs = search needs
 
--- src/lib.rt:50:9
 append-parameter-requires : tie.Need-append-parameter-requires Inv-loop μ-loop
 append-parameter-requires c κs = parameter-room (c .before .before .before .before .before .before .before .args .file .now) (c .before .before .before .before .before .before .before .args .out .now) (c .before .before .before .before .before .before .before .args .from) (c .before .before .before .before .before .before .before .args .count) (c .before .before .before .before .before .before .before .args .start) (c .before .before .before .before .before .before .before .pre .1) _ _ (c .before .before .before .before .loop .left) (c .before .before .before .before .loop .place) _ _ (omega arith) (c .before .before .byte-at .ensures .0) (c .before .byte-at2 .ensures .0) (c .before .before .before .before .loop .inv .0)
 
--- src/lib.rt:51:9
 add-place : tie.Need-add-place Inv-loop μ-loop
 add-place c = search needs
 
--- src/lib.rt:52:9
 sub-left : tie.Need-sub-left Inv-loop μ-loop
 sub-left c = search needs
 
--- src/lib.rt:49:5
 loop-less : tie.Need-loop-less Inv-loop μ-loop
 loop-less c = search needs
 
--- src/lib.rt:49:5
 loop-again : tie.Need-loop-again Inv-loop μ-loop
 loop-again c =
     (parameter-appended (c .before .before .before .before .before .before .before .before .before .before .args .file .now) (c .before .before .before .before .before .before .before .before .before .before .args .out .now) (c .before .before .before .before .before .before .before .before .before .before .args .from) (c .before .before .before .before .before .before .before .before .before .before .args .count) (c .before .before .before .before .before .before .before .before .before .before .args .start) (c .before .before .before .before .before .before .before .before .before .before .pre .1) _ _ (c .before .before .before .before .before .before .before .loop .left) (c .before .before .before .before .before .before .before .loop .place) _ _ (omega arith) (c .before .before .before .before .before .byte-at .ensures .0) (c .before .before .before .before .byte-at2 .ensures .0) (c .before .before .before .before .before .before .before .loop .inv .0) _ _ (c .before .before .append-parameter .ensures), omega arith, search needs)
 
--- src/lib.rt:42:1
 same-length : tie.Need-same-length Inv-loop μ-loop
 same-length c = search needs
 
--- src/lib.rt:42:1
 returns : tie.Need-returns Inv-loop μ-loop
 returns c = parameters-done (c .before .before .before .before .args .file .now) (c .before .before .before .before .args .out .now) (c .before .before .before .before .args .from) (c .before .before .before .before .args .count) (c .before .before .before .before .args .start) (c .before .before .before .before .pre .1) _ _ (c .before .loop .left) (c .before .loop .place) (omega arith) (c .before .loop .inv .0)
 

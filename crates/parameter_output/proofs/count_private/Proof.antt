@@ -19,43 +19,33 @@ Inv-loop file start count place₀ left₀ private₀ place left private =
 abbrev μ-loop : tie.MeasureT-loop
 μ-loop file start count place₀ left₀ private₀ place left private = left
 
--- src/lib.rt:72:5
 loop-holds : tie.Need-loop-holds Inv-loop μ-loop
 loop-holds c = (omega arith, omega arith, omega arith)
 
--- src/lib.rt:73:49
 add-byte-at : tie.Need-add-byte-at Inv-loop μ-loop
 add-byte-at c = search needs
 
--- src/lib.rt:73:35
 byte-at-requires : tie.Need-byte-at-requires Inv-loop μ-loop
 byte-at-requires c κs = search needs
 
--- src/lib.rt:73:20
 one-if-private-requires : tie.Need-one-if-private-requires Inv-loop μ-loop
 one-if-private-requires c κs = search needs
 
--- src/lib.rt:73:9
 add-private : tie.Need-add-private Inv-loop μ-loop
 add-private c = search needs
 
--- src/lib.rt:74:9
 add-place : tie.Need-add-place Inv-loop μ-loop
 add-place c = search needs
 
--- src/lib.rt:75:9
 sub-left : tie.Need-sub-left Inv-loop μ-loop
 sub-left c = search needs
 
--- src/lib.rt:72:5
 loop-less : tie.Need-loop-less Inv-loop μ-loop
 loop-less c = search needs
 
--- src/lib.rt:72:5
 loop-again : tie.Need-loop-again Inv-loop μ-loop
 loop-again c = (private-next (c .before .before .before .before .before .args .file .now) _ (c .before .before .before .loop .left) (c .before .before .before .loop .place) _ _ _ (omega arith) (c .one-if-private .ensures .0) (c .before .byte-at .ensures .0) (c .before .before .before .loop .inv .0), omega arith, omega arith)
 
--- src/lib.rt:65:1
 returns : tie.Need-returns Inv-loop μ-loop
 returns c = private-done (c .before .before .before .args .file .now) _ (c .before .loop .left) (c .before .loop .place) _ (omega arith) (c .before .loop .inv .0)
 

@@ -6,11 +6,9 @@ use Rattle.parameter_output.proofs.one_if_private.Tie as tie
 use Rattle.parameter_output.proofs.one_if_private.Reads as reads
 use Rattle.parameter_output.proofs.one_if_private.Lts as lts
 
--- src/lib.rt:57:1
 returns : tie.Need-returns
 returns c = (rw (eq-eqb _ 0 (c .if1 .taken)), omega arith)
 
--- src/lib.rt:57:1
 returns-2 : tie.Need-returns-2
 returns-2 c = (rw (ne-eqb _ 0 (c .if1 .left)), omega arith)
 

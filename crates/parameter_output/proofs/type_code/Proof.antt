@@ -5,15 +5,12 @@ use Rattle.parameter_output.proofs.type_code.Tie as tie
 use Rattle.parameter_output.proofs.type_code.Reads as reads
 use Rattle.parameter_output.proofs.type_code.Lts as lts
 
--- src/lib.rt:15:1
 returns : tie.Need-returns
 returns c = bool-code _ (c .if1 .taken)
 
--- src/lib.rt:15:1
 returns-2 : tie.Need-returns-2
 returns-2 c = uint-code _ (c .before .if1 .left) (c .if2 .taken)
 
--- src/lib.rt:15:1
 returns-3 : tie.Need-returns-3
 returns-3 c = address-code _ (c .before .if1 .left) (c .if2 .left)
 

@@ -6,19 +6,15 @@ use Rattle.positions.proofs.number_at.Tie as tie
 use Rattle.positions.proofs.number_at.Reads as reads
 use Rattle.positions.proofs.number_at.Lts as lts
 
--- src/lib.rt:44:9
 mul-result : tie.Need-mul-result
 mul-result c = search needs
 
--- src/lib.rt:44:9
 shared-slice-read-result : tie.Need-shared-slice-read-result
 shared-slice-read-result c = search needs
 
--- src/lib.rt:40:1
 returns : tie.Need-returns
 returns c = search needs
 
--- src/lib.rt:40:1
 returns-2 : tie.Need-returns-2
 returns-2 c = sym (List·getD-eq-default (c .before .args .numbers .now) 0 (c .if1 .left))
 

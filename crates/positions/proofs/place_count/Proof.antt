@@ -7,23 +7,18 @@ use Rattle.positions.proofs.place_count.Reads as reads
 use Rattle.positions.proofs.place_count.Lts as lts
 use Rattle.file.proofs.byte_at.Reads as byte-at-reads
 
--- src/lib.rt:17:26
 mul-byte-at : tie.Need-mul-byte-at
 mul-byte-at c = search needs
 
--- src/lib.rt:17:22
 add-byte-at : tie.Need-add-byte-at
 add-byte-at c = search needs
 
--- src/lib.rt:17:8
 byte-at-requires : tie.Need-byte-at-requires
 byte-at-requires c κs = search needs
 
--- src/lib.rt:12:1
 returns : tie.Need-returns
 returns c = (one-place _ _ (c .before .before .before .pre .0) (omega arith), omega arith)
 
--- src/lib.rt:12:1
 returns-2 : tie.Need-returns-2
 returns-2 c = (many-places _ _ (c .before .before .before .pre .0) (omega arith), omega arith)
 

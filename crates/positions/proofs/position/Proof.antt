@@ -21,47 +21,37 @@ Inv-loop file f key count at₀ i₀ at i =
 abbrev μ-loop : tie.MeasureT-loop
 μ-loop file f key count at₀ i₀ at i = f - i
 
--- src/lib.rt:25:9
 byte-at-requires : tie.Need-byte-at-requires Inv-loop μ-loop
 byte-at-requires c κs = search needs
 
--- src/lib.rt:28:5
 loop-holds : tie.Need-loop-holds Inv-loop μ-loop
 loop-holds c = (position-start _ _ _, (c .byte-at .ensures .0, omega arith))
 
--- src/lib.rt:30:19
 place-count-requires : tie.Need-place-count-requires Inv-loop μ-loop
 place-count-requires c κs = (omega arith, c .before .before .before .before .before .pre .0)
 
--- src/lib.rt:30:13
 add-at : tie.Need-add-at Inv-loop μ-loop
 add-at c = omega arith
 
--- src/lib.rt:31:13
 add-i : tie.Need-add-i Inv-loop μ-loop
 add-i c = omega arith
 
--- src/lib.rt:28:5
 loop-less : tie.Need-loop-less Inv-loop μ-loop
 loop-less c = omega arith
 
--- src/lib.rt:28:5
 loop-again : tie.Need-loop-again Inv-loop μ-loop
 loop-again c =
     let length-is = fields-count (c .before .before .before .before .before .before .args .file .now) in
     (position-next (fieldsIn (c .before .before .before .before .before .before .args .file .now)) (c .before .before .before .before .before .before .args .f) (c .before .before .before .loop .i) _ _ (c .before .before .before .loop .inv .0) _ (omega arith) (omega arith) (c .place-count .ensures .0), (c .before .before .before .loop .inv .1 .0, omega arith))
 
--- src/lib.rt:28:5
 loop-less-2 : tie.Need-loop-less-2 Inv-loop μ-loop
 loop-less-2 c = omega arith
 
--- src/lib.rt:28:5
 loop-again-2 : tie.Need-loop-again-2 Inv-loop μ-loop
 loop-again-2 c =
     let length-is = fields-count (c .before .before .before .before .before .args .file .now) in
     (position-all (fieldsIn (c .before .before .before .before .before .args .file .now)) (c .before .before .before .before .before .args .f) (c .before .before .loop .i) _ _ (c .before .before .loop .inv .0) (omega arith), (c .before .before .loop .inv .1 .0, omega arith))
 
--- src/lib.rt:21:1
 returns : tie.Need-returns Inv-loop μ-loop
 returns c = position-done (fieldsIn (c .before .before .before .before .args .file .now)) (c .before .before .before .before .args .f) (c .before .loop .i) _ _ (c .before .loop .inv .0) (omega arith)
 

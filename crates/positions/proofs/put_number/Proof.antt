@@ -6,23 +6,18 @@ use Rattle.positions.proofs.put_number.Tie as tie
 use Rattle.positions.proofs.put_number.Reads as reads
 use Rattle.positions.proofs.put_number.Lts as lts
 
--- src/lib.rt:55:9
 mul-numbers : tie.Need-mul-numbers
 mul-numbers c = search needs
 
--- src/lib.rt:55:9
 slice-write-numbers : tie.Need-slice-write-numbers
 slice-write-numbers c = search needs
 
--- src/lib.rt:51:1
 same-length : tie.Need-same-length
 same-length c = search needs
 
--- src/lib.rt:51:1
 returns : tie.Need-returns
 returns c = search needs
 
--- src/lib.rt:51:1
 returns-2 : tie.Need-returns-2
 returns-2 c = sym (set-out _ _ _ (c .if1 .left))
 

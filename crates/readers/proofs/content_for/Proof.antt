@@ -6,25 +6,20 @@ use Rattle.readers.proofs.content_for.Tie as tie
 use Rattle.readers.proofs.content_for.Reads as reads
 use Rattle.readers.proofs.content_for.Lts as lts
 
--- src/lib.rt:28:27
 enum-told : tie.Need-enum-told
 enum-told c = search needs
 
--- src/lib.rt:29:22
 enum-known-reader : tie.Need-enum-known-reader
 enum-known-reader c = search needs
 
--- src/lib.rt:30:20
 cast-t7 : tie.Need-cast-t7
 cast-t7 c =
     let short = rw (c .before .reader .given .1) at (c .before .before .before .pre) in
     omega arith
 
--- src/lib.rt:23:1
 returns : tie.Need-returns
 returns c = rw (c .enum-told .given .1)
 
--- src/lib.rt:23:1
 returns-2 : tie.Need-returns-2
 returns-2 c = rw (c .before .reader .given .1)
 

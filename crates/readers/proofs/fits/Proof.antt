@@ -14,19 +14,15 @@ use Rattle.contents.proofs.opened_number.Reads as opened-number-reads
 use Rattle.readers.proofs.is_content.Reads as is-content-reads
 use Rattle.readers.proofs.is_of_type.Reads as is-of-type-reads
 
--- src/lib.rt:71:8
 is-content-requires : tie.Need-is-content-requires
 is-content-requires c κs = search needs
 
--- src/lib.rt:72:13
 opened-number-requires : tie.Need-opened-number-requires
 opened-number-requires c κs = search needs
 
--- src/lib.rt:73:9
 is-of-type-requires : tie.Need-is-of-type-requires
 is-of-type-requires c κs = search needs
 
--- src/lib.rt:68:1
 returns : tie.Need-returns
 returns c =
     let k = c .before .before .before in
@@ -34,7 +30,6 @@ returns c =
     fits-both (formOf (a .code) (a .reader)) (contentOfCode (a .content)) _ _ (k .is-content .ensures) (c .before .before .if1 .taken)
     (c .is-of-type .ensures ∙ ap (isOfType (dataTypeOf (k .before .args .code))) (c .before .opened-number .ensures))
 
--- src/lib.rt:68:1
 returns-2 : tie.Need-returns-2
 returns-2 c =
     let a = c .before .before .args in

@@ -6,15 +6,12 @@ use Rattle.readers.proofs.is_of_type.Tie as tie
 use Rattle.readers.proofs.is_of_type.Reads as reads
 use Rattle.readers.proofs.is_of_type.Lts as lts
 
--- src/lib.rt:43:9
 returns : tie.Need-returns
 returns c = of-boolean _ _ (c .if1 .taken)
 
--- src/lib.rt:46:9
 returns-2 : tie.Need-returns-2
 returns-2 c = of-uint _ _ (c .before .if1 .left) (c .if2 .taken) (omega (arith, c .before .before .fits .value))
 
--- src/lib.rt:39:1
 returns-3 : tie.Need-returns-3
 returns-3 c = of-address _ _ (c .before .if1 .left) (c .if2 .left)
 

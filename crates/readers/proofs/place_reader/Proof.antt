@@ -15,47 +15,37 @@ use Rattle.positions.proofs.number_at.Reads as number-at-reads
 use Rattle.positions.proofs.position.Reads as position-reads
 use Rattle.readers.proofs.final_of.Reads as final-of-reads
 
--- src/lib.rt:95:41
 mul-byte-at : tie.Need-mul-byte-at
 mul-byte-at c = search needs
 
--- src/lib.rt:95:37
 add-byte-at : tie.Need-add-byte-at
 add-byte-at c = search needs
 
--- src/lib.rt:95:37
 add-byte-at-2 : tie.Need-add-byte-at-2
 add-byte-at-2 c = search needs
 
--- src/lib.rt:95:9
 byte-at-requires : tie.Need-byte-at-requires
 byte-at-requires c κs = search needs
 
--- src/lib.rt:97:9
 returns : tie.Need-returns
 returns c =
     let s = c .before .before .before .before in
     reader-all (s .args .file .now) (s .args .f) (s .pre .0) (finalAddress (fieldsIn (s .args .file .now)) (s .args .numbers .now)) (s .args .key) _ (c .before .byte-at .ensures .0) (c .if1 .taken)
 
--- src/lib.rt:100:9
 returns-2 : tie.Need-returns-2
 returns-2 c =
     let s = c .before .before .before .before .before in
     reader-key (s .args .file .now) (s .args .f) (s .pre .0) (finalAddress (fieldsIn (s .args .file .now)) (s .args .numbers .now)) (s .args .key) _ (c .before .before .byte-at .ensures .0) (c .before .if1 .left) (c .if2 .taken)
 
--- src/lib.rt:102:39
 final-of-requires : tie.Need-final-of-requires
 final-of-requires c κs = search needs
 
--- src/lib.rt:102:9
 position-requires : tie.Need-position-requires
 position-requires c κs = search needs
 
--- src/lib.rt:103:18
 number-at-requires : tie.Need-number-at-requires
 number-at-requires c κs = search needs
 
--- src/lib.rt:91:1
 returns-3 : tie.Need-returns-3
 returns-3 c =
     let s = c .before .before .before .before .before .before .before .before in

@@ -13,55 +13,42 @@ use Rattle.rehearse.proofs.line_room.Reads as line-room-reads
 use Rattle.rehearse.proofs.view_room.Reads as view-room-reads
 use Rattle.view.proofs.view.Reads as view-reads
 
--- src/main.rt:32:20
 view-room-requires : tie.Need-view-room-requires
 view-room-requires c κs = search needs
 
--- src/main.rt:33:44
 slice-aggregate-view : tie.Need-slice-aggregate-view
 slice-aggregate-view c = search needs
 
--- src/main.rt:33:9
 view-requires : tie.Need-view-requires
 view-requires c κs = search needs
 
--- src/main.rt:34:9
 at-most-requires : tie.Need-at-most-requires
 at-most-requires c κs = search needs
 
--- src/main.rt:35:20
 line-room-requires : tie.Need-line-room-requires
 line-room-requires c κs = search needs
 
--- src/main.rt:36:41
 array-share-prefix-view : tie.Need-array-share-prefix-view
 array-share-prefix-view c = search needs
 
--- src/main.rt:36:41
 slice-aggregate-write-line : tie.Need-slice-aggregate-write-line
 slice-aggregate-write-line c = simp length-take (omega arith)
 
--- src/main.rt:36:58
 slice-aggregate-write-line-2 : tie.Need-slice-aggregate-write-line-2
 slice-aggregate-write-line-2 c = search needs
 
--- src/main.rt:36:9
 write-line-requires : tie.Need-write-line-requires
 write-line-requires c κs = search needs
 
--- src/main.rt:37:34
 array-share-prefix-line : tie.Need-array-share-prefix-line
 array-share-prefix-line c = search needs
 
--- src/main.rt:37:34
 slice-aggregate-write-all : tie.Need-slice-aggregate-write-all
 slice-aggregate-write-all c = simp length-take (omega arith)
 
--- src/main.rt:37:5
 write-all-requires : tie.Need-write-all-requires
 write-all-requires c κs = search needs
 
--- src/main.rt:31:1
 returns : tie.Need-returns
 returns c = search needs
 

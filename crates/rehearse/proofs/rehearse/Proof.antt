@@ -20,75 +20,57 @@ Inv-loop bytes script ledger₀ k₀ ledger k = k ≤ script .calls
 abbrev μ-loop : tie.MeasureT-loop
 μ-loop bytes script ledger₀ k₀ ledger k = script .calls - k
 
--- src/main.rt:52:9
 read-script-requires : tie.Need-read-script-requires Inv-loop μ-loop
 read-script-requires c κs = search needs
 
--- src/main.rt:53:37
 file-of-requires : tie.Need-file-of-requires Inv-loop μ-loop
 file-of-requires c κs = search needs
 
--- src/main.rt:53:62
 addresses-of-requires : tie.Need-addresses-of-requires Inv-loop μ-loop
 addresses-of-requires c κs = search needs
 
--- src/main.rt:53:9
 deploy-requires : tie.Need-deploy-requires Inv-loop μ-loop
 deploy-requires c κs = search needs
 
--- src/main.rt:55:38
 slice-aggregate-write-all : tie.Need-slice-aggregate-write-all Inv-loop μ-loop
 slice-aggregate-write-all c = search needs
 
--- src/main.rt:55:9
 write-all-requires : tie.Need-write-all-requires Inv-loop μ-loop
 write-all-requires c κs = search needs
 
--- src/main.rt:56:42
 cast-print-decimal : tie.Need-cast-print-decimal Inv-loop μ-loop
 cast-print-decimal c = search needs
 
--- src/main.rt:56:9
 print-decimal-requires : tie.Need-print-decimal-requires Inv-loop μ-loop
 print-decimal-requires c κs = search needs
 
--- src/main.rt:57:38
 slice-aggregate-write-all-2 : tie.Need-slice-aggregate-write-all-2 Inv-loop μ-loop
 slice-aggregate-write-all-2 c = search needs
 
--- src/main.rt:57:9
 write-all-requires-2 : tie.Need-write-all-requires-2 Inv-loop μ-loop
 write-all-requires-2 c κs = search needs
 
--- src/main.rt:58:9
 returns : tie.Need-returns Inv-loop μ-loop
 returns c = search needs
 
--- src/main.rt:61:5
 print-line-requires : tie.Need-print-line-requires Inv-loop μ-loop
 print-line-requires c κs = search needs
 
--- src/main.rt:63:5
 loop-holds : tie.Need-loop-holds Inv-loop μ-loop
 loop-holds c = search needs
 
--- src/main.rt:64:13
 after-call-requires : tie.Need-after-call-requires Inv-loop μ-loop
 after-call-requires c κs = search needs
 
--- src/main.rt:66:9
 add-k : tie.Need-add-k Inv-loop μ-loop
 add-k c = search needs
 
--- src/main.rt:63:5
 loop-less : tie.Need-loop-less Inv-loop μ-loop
 loop-less c = search needs
 
--- src/main.rt:63:5
 loop-again : tie.Need-loop-again Inv-loop μ-loop
 loop-again c = search needs
 
--- src/main.rt:51:1
 returns-2 : tie.Need-returns-2 Inv-loop μ-loop
 returns-2 c = search needs
 

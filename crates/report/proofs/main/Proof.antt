@@ -14,51 +14,39 @@ use Rattle.report.proofs.room.Reads as room-reads
 use Rattle.report.proofs.text_room.Reads as text-room-reads
 use Rattle.reporting.proofs.report.Reads as report-reads
 
--- src/main.rt:22:20
 room-requires : tie.Need-room-requires
 room-requires c κs = search needs
 
--- src/main.rt:23:20
 text-room-requires : tie.Need-text-room-requires
 text-room-requires c κs = search needs
 
--- src/main.rt:24:46
 slice-aggregate-read-full : tie.Need-slice-aggregate-read-full
 slice-aggregate-read-full c = search needs
 
--- src/main.rt:24:9
 read-full-requires : tie.Need-read-full-requires
 read-full-requires c κs = search needs
 
--- src/main.rt:25:36
 array-share-prefix-file : tie.Need-array-share-prefix-file
 array-share-prefix-file c = search needs
 
--- src/main.rt:25:36
 slice-aggregate-report : tie.Need-slice-aggregate-report
 slice-aggregate-report c = search needs
 
--- src/main.rt:25:53
 slice-aggregate-report-2 : tie.Need-slice-aggregate-report-2
 slice-aggregate-report-2 c = search needs
 
--- src/main.rt:25:9
 report-requires : tie.Need-report-requires
 report-requires c κs = search needs
 
--- src/main.rt:27:34
 array-share-prefix-text : tie.Need-array-share-prefix-text
 array-share-prefix-text c = omega (arith, report-within _ _ _ (c .before .report .ensures .1))
 
--- src/main.rt:27:34
 slice-aggregate-write-all : tie.Need-slice-aggregate-write-all
 slice-aggregate-write-all c = sym (length-take-le (c .before .before .report .result .length) (c .before .before .report .last .1 .0) (omega (arith, report-within _ _ _ (c .before .before .report .ensures .1))))
 
--- src/main.rt:27:5
 write-all-requires : tie.Need-write-all-requires
 write-all-requires c κs = search needs
 
--- src/main.rt:21:1
 returns : tie.Need-returns
 returns c = search needs
 

@@ -27,7 +27,6 @@ append-digits-below t =
     (falls 1 append-digits-kinds.ps _<_ μ-append-digits t)
     append-digits.Pre
 
--- src/lib.rt:19:22
 append-digits-add-append-byte : (t : ℕ) → append-digits-lts.Need-add-append-byte (
   append-byte-reads.Asked,
   append-byte-reads.Learnt,
@@ -36,7 +35,6 @@ append-digits-add-append-byte : (t : ℕ) → append-digits-lts.Need-add-append-
 ) (append-digits-at t) append-digits.Post
 append-digits-add-append-byte t c = search needs
 
--- src/lib.rt:19:21
 append-digits-cast-append-byte : (t : ℕ) → append-digits-lts.Need-cast-append-byte (
   append-byte-reads.Asked,
   append-byte-reads.Learnt,
@@ -45,7 +43,6 @@ append-digits-cast-append-byte : (t : ℕ) → append-digits-lts.Need-cast-appen
 ) (append-digits-at t) append-digits.Post
 append-digits-cast-append-byte t c = search needs
 
--- src/lib.rt:19:9
 append-digits-append-byte-requires : (t : ℕ) → append-digits-lts.Need-append-byte-requires (
   append-byte-reads.Asked,
   append-byte-reads.Learnt,
@@ -54,7 +51,6 @@ append-digits-append-byte-requires : (t : ℕ) → append-digits-lts.Need-append
 ) (append-digits-at t) append-digits.Post
 append-digits-append-byte-requires t c κs = one-room _ _ _ (omega arith) _ (omega arith) (c .before .before .before .before .pre .1)
 
--- src/lib.rt:21:34
 append-digits-sub-append-digits : (t : ℕ) → append-digits-lts.Need-sub-append-digits (
   append-byte-reads.Asked,
   append-byte-reads.Learnt,
@@ -63,7 +59,6 @@ append-digits-sub-append-digits : (t : ℕ) → append-digits-lts.Need-sub-appen
 ) (append-digits-at t) append-digits.Post
 append-digits-sub-append-digits t c = search needs
 
--- src/lib.rt:21:13
 append-digits-append-digits-requires : (t : ℕ) → append-digits-lts.Need-append-digits-requires (
   append-byte-reads.Asked,
   append-byte-reads.Learnt,
@@ -72,7 +67,6 @@ append-digits-append-digits-requires : (t : ℕ) → append-digits-lts.Need-appe
 ) (append-digits-at t) append-digits.Post
 append-digits-append-digits-requires t c κs = let room = front-room _ _ _ (omega arith) _ (omega arith) (c .before .before .before .before .pre .1) in (omega arith, omega arith)
 
--- src/lib.rt:22:22
 append-digits-add-append-byte-2 : (t : ℕ) → append-digits-lts.Need-add-append-byte-2 (
   append-byte-reads.Asked,
   append-byte-reads.Learnt,
@@ -81,7 +75,6 @@ append-digits-add-append-byte-2 : (t : ℕ) → append-digits-lts.Need-add-appen
 ) (append-digits-at t) append-digits.Post
 append-digits-add-append-byte-2 t c = search needs
 
--- src/lib.rt:22:21
 append-digits-cast-append-byte-2 : (t : ℕ) → append-digits-lts.Need-cast-append-byte-2 (
   append-byte-reads.Asked,
   append-byte-reads.Learnt,
@@ -90,7 +83,6 @@ append-digits-cast-append-byte-2 : (t : ℕ) → append-digits-lts.Need-cast-app
 ) (append-digits-at t) append-digits.Post
 append-digits-cast-append-byte-2 t c = search needs
 
--- src/lib.rt:22:9
 append-digits-append-byte-requires-2 : (t : ℕ) → append-digits-lts.Need-append-byte-requires-2 (
   append-byte-reads.Asked,
   append-byte-reads.Learnt,
@@ -100,7 +92,6 @@ append-digits-append-byte-requires-2 : (t : ℕ) → append-digits-lts.Need-appe
 append-digits-append-byte-requires-2 t c κs =
     last-room _ _ _ (omega arith) _ _ _ (omega arith) (c .before .before .before .before .before .before .before .before .pre .1) (c .before .before .before .append-digits .ensures)
 
--- src/lib.rt:12:1
 append-digits-returns : (t : ℕ) → append-digits-lts.Need-returns (
   append-byte-reads.Asked,
   append-byte-reads.Learnt,
@@ -109,7 +100,6 @@ append-digits-returns : (t : ℕ) → append-digits-lts.Need-returns (
 ) (append-digits-at t) append-digits.Post
 append-digits-returns t c = none-appended _ _ _ _ (c .if1 .taken)
 
--- src/lib.rt:12:1
 append-digits-same-length : (t : ℕ) → append-digits-lts.Need-same-length (
   append-byte-reads.Asked,
   append-byte-reads.Learnt,
@@ -118,7 +108,6 @@ append-digits-same-length : (t : ℕ) → append-digits-lts.Need-same-length (
 ) (append-digits-at t) append-digits.Post
 append-digits-same-length t c = search needs
 
--- src/lib.rt:12:1
 append-digits-returns-2 : (t : ℕ) → append-digits-lts.Need-returns-2 (
   append-byte-reads.Asked,
   append-byte-reads.Learnt,
@@ -127,7 +116,6 @@ append-digits-returns-2 : (t : ℕ) → append-digits-lts.Need-returns-2 (
 ) (append-digits-at t) append-digits.Post
 append-digits-returns-2 t c = one-appended _ _ _ (omega arith) _ _ _ (omega arith) (c .before .before .append-byte .ensures)
 
--- src/lib.rt:12:1
 append-digits-same-length-2 : (t : ℕ) → append-digits-lts.Need-same-length-2 (
   append-byte-reads.Asked,
   append-byte-reads.Learnt,
@@ -136,7 +124,6 @@ append-digits-same-length-2 : (t : ℕ) → append-digits-lts.Need-same-length-2
 ) (append-digits-at t) append-digits.Post
 append-digits-same-length-2 t c = search needs
 
--- src/lib.rt:12:1
 append-digits-returns-3 : (t : ℕ) → append-digits-lts.Need-returns-3 (
   append-byte-reads.Asked,
   append-byte-reads.Learnt,

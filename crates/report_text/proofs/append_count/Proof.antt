@@ -9,19 +9,15 @@ use Rattle.report_text.proofs.append_count.Lts as lts
 use Rattle.append.proofs.append_byte.Reads as append-byte-reads
 use Rattle.report_text.proofs.append_digits.Reads as append-digits-reads
 
--- src/lib.rt:45:9
 append-byte-requires : tie.Need-append-byte-requires
 append-byte-requires c κs = search needs
 
--- src/lib.rt:46:5
 append-digits-requires : tie.Need-append-digits-requires
 append-digits-requires c κs = search needs
 
--- src/lib.rt:41:1
 same-length : tie.Need-same-length
 same-length c = search needs
 
--- src/lib.rt:41:1
 returns : tie.Need-returns
 returns c = appended-then (c .before .before .before .before .before .before .before .before .before .args .out .now) (c .before .before .before .before .before .before .before .before .before .args .at) _ _ _ _ _ _ (c .before .before .before .before .before .before .append-byte .ensures) (omega arith) (c .before .before .append-digits .ensures)
 

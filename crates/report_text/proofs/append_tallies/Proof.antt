@@ -23,43 +23,33 @@ Inv-loop counts order out₀ from at₀ i₀ out at i =
 abbrev μ-loop : tie.MeasureT-loop
 μ-loop counts order out₀ from at₀ i₀ out at i = length counts - i
 
--- src/lib.rt:66:5
 loop-holds : tie.Need-loop-holds Inv-loop μ-loop
 loop-holds c = (lines-start (c .before .before .before .args .counts .now) (c .before .before .before .args .order .now) (c .before .before .before .pre .0) (c .before .before .before .args .out .now) (c .before .before .before .args .from) (c .before .before .before .pre .1), omega arith, refl)
 
--- src/lib.rt:67:24
 shared-slice-read-function : tie.Need-shared-slice-read-function Inv-loop μ-loop
 shared-slice-read-function c = search needs
 
--- src/lib.rt:68:54
 cast-count-of : tie.Need-cast-count-of Inv-loop μ-loop
 cast-count-of c = omega (arith, c .before .before .before .before .shared-slice-known2 .given (c .before .before .loop .i))
 
--- src/lib.rt:68:37
 count-of-requires : tie.Need-count-of-requires Inv-loop μ-loop
 count-of-requires c κs = search needs
 
--- src/lib.rt:68:9
 append-tally-requires : tie.Need-append-tally-requires Inv-loop μ-loop
 append-tally-requires c κs = line-room (c .before .before .before .before .before .before .before .before .args .counts .now) (c .before .before .before .before .before .before .before .before .args .order .now) (c .before .before .before .before .before .before .before .before .pre .0) (c .before .before .before .before .before .before .before .before .args .out .now) (c .before .before .before .before .before .before .before .before .args .from) (c .before .before .before .before .before .before .before .before .pre .1) _ (c .before .before .before .before .loop .i) _ _ (omega arith) (c .before .count-of .ensures) (c .before .before .before .before .loop .inv .0)
 
--- src/lib.rt:69:9
 add-i : tie.Need-add-i Inv-loop μ-loop
 add-i c = search needs
 
--- src/lib.rt:66:5
 loop-less : tie.Need-loop-less Inv-loop μ-loop
 loop-less c = search needs
 
--- src/lib.rt:66:5
 loop-again : tie.Need-loop-again Inv-loop μ-loop
 loop-again c = (line-appended (c .before .before .before .before .before .before .before .before .before .before .before .args .counts .now) (c .before .before .before .before .before .before .before .before .before .before .before .args .order .now) (c .before .before .before .before .before .before .before .before .before .before .before .pre .0) (c .before .before .before .before .before .before .before .before .before .before .before .args .out .now) (c .before .before .before .before .before .before .before .before .before .before .before .args .from) (c .before .before .before .before .before .before .before .before .before .before .before .pre .1) _ _ (c .before .before .before .before .before .before .before .loop .i) _ _ _ (omega arith) (c .before .before .before .before .count-of .ensures) (c .before .before .before .before .before .before .before .loop .inv .0) (c .before .before .append-tally .ensures), omega arith, search needs)
 
--- src/lib.rt:60:1
 same-length : tie.Need-same-length Inv-loop μ-loop
 same-length c = search needs
 
--- src/lib.rt:60:1
 returns : tie.Need-returns Inv-loop μ-loop
 returns c = lines-done (c .before .before .before .before .before .args .counts .now) (c .before .before .before .before .before .args .order .now) (c .before .before .before .before .before .pre .0) (c .before .before .before .before .before .args .out .now) (c .before .before .before .before .before .args .from) (c .before .before .before .before .before .pre .1) _ (c .before .loop .i) _ (omega arith) (c .before .loop .inv .0)
 

@@ -12,23 +12,18 @@ use Rattle.append.proofs.append_byte.Reads as append-byte-reads
 use Rattle.report_text.proofs.append_count.Reads as append-count-reads
 use Rattle.report_text.proofs.append_digits.Reads as append-digits-reads
 
--- src/lib.rt:54:9
 append-digits-requires : tie.Need-append-digits-requires
 append-digits-requires c κs = first-room (c .before .before .args .out .now) (c .before .before .args .at) (decimal (c .before .before .args .function)) (spacedCount (c .before .before .args .count)) (10 ∷ []) (c .before .before .pre)
 
--- src/lib.rt:55:9
 append-count-requires : tie.Need-append-count-requires
 append-count-requires c κs = second-room (c .before .before .before .before .before .before .args .out .now) (c .before .before .before .before .before .before .args .at) (decimal (c .before .before .before .before .before .before .args .function)) (spacedCount (c .before .before .before .before .before .before .args .count)) (10 ∷ []) (c .before .before .before .before .before .before .pre) _ _ (c .before .before .before .append-digits .ensures)
 
--- src/lib.rt:56:5
 append-byte-requires : tie.Need-append-byte-requires
 append-byte-requires c κs = third-room (c .before .before .before .before .before .before .before .before .before .before .args .out .now) (c .before .before .before .before .before .before .before .before .before .before .args .at) (decimal (c .before .before .before .before .before .before .before .before .before .before .args .function)) (spacedCount (c .before .before .before .before .before .before .before .before .before .before .args .count)) (10 ∷ []) (c .before .before .before .before .before .before .before .before .before .before .pre) _ _ _ _ (c .before .before .before .before .before .before .before .append-digits .ensures) (c .before .before .before .append-count .ensures)
 
--- src/lib.rt:50:1
 same-length : tie.Need-same-length
 same-length c = search needs
 
--- src/lib.rt:50:1
 returns : tie.Need-returns
 returns c = three-appended (c .before .before .before .before .before .before .before .before .before .before .before .before .before .args .out .now) (c .before .before .before .before .before .before .before .before .before .before .before .before .before .args .at) (decimal (c .before .before .before .before .before .before .before .before .before .before .before .before .before .args .function)) (spacedCount (c .before .before .before .before .before .before .before .before .before .before .before .before .before .args .count)) (10 ∷ []) (c .before .before .before .before .before .before .before .before .before .before .before .before .before .pre) _ _ _ _ _ _ (c .before .before .before .before .before .before .before .before .before .before .append-digits .ensures) (c .before .before .before .before .before .before .append-count .ensures) (c .before .before .append-byte .ensures)
 

@@ -16,27 +16,21 @@ use Rattle.report_text.proofs.append_digits.Reads as append-digits-read
 abbrev refusedWord : List ℕ
 refusedWord = 114 ∷ 101 ∷ 102 ∷ 117 ∷ 115 ∷ 101 ∷ 100 ∷ 32 ∷ []
 
--- src/lib.rt:31:23
 slice-aggregate-append : tie.Need-slice-aggregate-append
 slice-aggregate-append c = search needs
 
--- src/lib.rt:31:9
 append-requires : tie.Need-append-requires
 append-requires c κs = search needs
 
--- src/lib.rt:32:9
 append-digits-requires : tie.Need-append-digits-requires
 append-digits-requires c κs = second-room (c .before .before .before .before .before .before .before .args .out .now) 0 refusedWord (decimal (c .before .before .before .before .before .before .before .args .number)) (10 ∷ []) (omega arith) _ _ (c .before .before .before .append .ensures)
 
--- src/lib.rt:33:5
 append-byte-requires : tie.Need-append-byte-requires
 append-byte-requires c κs = third-room (c .before .before .before .before .before .before .before .before .before .before .before .args .out .now) 0 refusedWord (decimal (c .before .before .before .before .before .before .before .before .before .before .before .args .number)) (10 ∷ []) (omega arith) _ _ _ _ (c .before .before .before .before .before .before .before .append .ensures) (c .before .before .before .append-digits .ensures)
 
--- src/lib.rt:27:1
 same-length : tie.Need-same-length
 same-length c = search needs
 
--- src/lib.rt:27:1
 returns : tie.Need-returns
 returns c = three-appended (c .before .before .before .before .before .before .before .before .before .before .before .before .before .before .args .out .now) 0 refusedWord (decimal (c .before .before .before .before .before .before .before .before .before .before .before .before .before .before .args .number)) (10 ∷ []) (omega arith) _ _ _ _ _ _ (c .before .before .before .before .before .before .before .before .before .before .append .ensures) (c .before .before .before .before .before .before .append-digits .ensures) (c .before .before .append-byte .ensures)
 

@@ -8,31 +8,24 @@ use Rattle.reporting.proofs.append_accepted.Lts as lts
 use Rattle.report_text.proofs.report_lines.Reads as report-lines-reads
 use Rattle.reporting.proofs.count_functions.Reads as count-functions-reads
 
--- src/lib.rt:75:43
 slice-aggregate-count-functions : tie.Need-slice-aggregate-count-functions
 slice-aggregate-count-functions c = search needs
 
--- src/lib.rt:75:9
 count-functions-requires : tie.Need-count-functions-requires
 count-functions-requires c κs = search needs
 
--- src/lib.rt:76:18
 array-share-prefix-counts : tie.Need-array-share-prefix-counts
 array-share-prefix-counts c = search needs
 
--- src/lib.rt:76:18
 slice-aggregate-report-lines : tie.Need-slice-aggregate-report-lines
 slice-aggregate-report-lines c = counts-taken (c .before .before .before .before .before .before .args .file .now) (c .before .before .before .before .before .before .pre .0) _ _ (c .before .before .count-functions .ensures)
 
--- src/lib.rt:76:5
 report-lines-requires : tie.Need-report-lines-requires
 report-lines-requires c κs = lines-fit (c .before .before .before .before .before .before .before .args .file .now) (c .before .before .before .before .before .before .before .pre .0) _ _ (c .before .before .before .count-functions .ensures) _ (c .before .before .before .before .before .before .before .pre .1)
 
--- src/lib.rt:70:1
 same-length : tie.Need-same-length
 same-length c = search needs
 
--- src/lib.rt:70:1
 returns : tie.Need-returns
 returns c = lines-told (c .before .before .before .before .before .before .before .before .before .before .args .file .now) (c .before .before .before .before .before .before .before .before .before .before .pre .0) _ _ (c .before .before .before .before .before .before .count-functions .ensures) _ _ _ (c .before .before .report-lines .ensures)
 

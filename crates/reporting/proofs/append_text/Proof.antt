@@ -8,27 +8,21 @@ use Rattle.reporting.proofs.append_text.Lts as lts
 use Rattle.report_text.proofs.refused_line.Reads as refused-line-reads
 use Rattle.reporting.proofs.append_accepted.Reads as append-accepted-reads
 
--- src/lib.rt:84:9
 append-accepted-requires : tie.Need-append-accepted-requires
 append-accepted-requires c κs = search needs
 
--- src/lib.rt:86:9
 refused-line-requires : tie.Need-refused-line-requires
 refused-line-requires c κs = line-fits (c .before .before .before .before .args .file .now) _ _ (c .before .before .before .before .pre .1)
 
--- src/lib.rt:79:1
 same-length : tie.Need-same-length
 same-length c = search needs
 
--- src/lib.rt:79:1
 returns : tie.Need-returns
 returns c = search needs
 
--- src/lib.rt:79:1
 same-length-2 : tie.Need-same-length-2
 same-length-2 c = search needs
 
--- src/lib.rt:79:1
 returns-2 : tie.Need-returns-2
 returns-2 c = line-told (c .before .before .before .before .before .before .before .args .file .now) _ (c .before .before .before .before .before .before .before .pre .0) (c .before .before .before .before .if1 .left) _ _ _ (c .before .before .refused-line .ensures)
 

@@ -13,47 +13,36 @@ use Rattle.parameter_output.proofs.count_private.Reads as count-private-reads
 use Rattle.reporting.proofs.count_made.Reads as count-made-reads
 use Rattle.statement_log.proofs.function_log.Reads as function-log-reads
 
--- src/lib.rt:35:9
 byte-at-requires : tie.Need-byte-at-requires
 byte-at-requires c κs = search needs
 
--- src/lib.rt:36:39
 add-count-private : tie.Need-add-count-private
 add-count-private c = search needs
 
--- src/lib.rt:36:9
 count-private-requires : tie.Need-count-private-requires
 count-private-requires c κs = search needs
 
--- src/lib.rt:37:9
 function-log-requires : tie.Need-function-log-requires
 function-log-requires c κs = log-ready (c .before .before .before .before .before .args .file .now) (c .before .before .before .before .before .args .function-at) (c .before .before .before .before .before .args .nodes-at) (c .before .before .before .before .before .args .log .now) (c .before .before .before .before .before .pre) _ _ (c .before .before .byte-at .ensures .0) (c .before .count-private .ensures)
 
--- src/lib.rt:39:27
 slice-reshare-prefix-count-made : tie.Need-slice-reshare-prefix-count-made
 slice-reshare-prefix-count-made c = log-inside (c .before .before .before .before .before .before .before .before .args .file .now) (c .before .before .before .before .before .before .before .before .args .function-at) (c .before .before .before .before .before .before .before .before .args .nodes-at) (c .before .before .before .before .before .before .before .before .args .log .now) (c .before .before .before .before .before .before .before .before .pre) _ _ (c .before .before .before .before .before .byte-at .ensures .0) (c .before .before .before .before .count-private .ensures) _ _ (c .before .before .function-log .ensures)
 
--- src/lib.rt:39:27
 slice-aggregate-count-made : tie.Need-slice-aggregate-count-made
 slice-aggregate-count-made c = sym (length-take-le _ _ (log-inside (c .before .before .before .before .before .before .before .before .before .args .file .now) (c .before .before .before .before .before .before .before .before .before .args .function-at) (c .before .before .before .before .before .before .before .before .before .args .nodes-at) (c .before .before .before .before .before .before .before .before .before .args .log .now) (c .before .before .before .before .before .before .before .before .before .pre) _ _ (c .before .before .before .before .before .before .byte-at .ensures .0) (c .before .before .before .before .before .count-private .ensures) _ _ (c .before .before .before .function-log .ensures)))
 
--- src/lib.rt:39:9
 count-made-requires : tie.Need-count-made-requires
 count-made-requires c κs = front-few (c .before .before .before .before .before .before .before .before .before .args .file .now) (c .before .before .before .before .before .before .before .before .before .args .function-at) (c .before .before .before .before .before .before .before .before .before .args .nodes-at) (c .before .before .before .before .before .before .before .before .before .args .log .now) (c .before .before .before .before .before .before .before .before .before .pre) _ _ (c .before .before .before .before .before .before .byte-at .ensures .0) (c .before .before .before .before .before .count-private .ensures) _ _ (c .before .before .before .function-log .ensures)
 
--- src/lib.rt:40:6
 add-result : tie.Need-add-result
 add-result c = omega (arith, crossings-of (c .before .before .before .before .before .before .before .before .before .before .args .file .now) (c .before .before .before .before .before .before .before .before .before .before .args .function-at) (c .before .before .before .before .before .before .before .before .before .before .args .nodes-at) (c .before .before .before .before .before .before .before .before .before .before .args .log .now) (c .before .before .before .before .before .before .before .before .before .before .pre) _ _ (c .before .before .before .before .before .before .before .byte-at .ensures .0) (c .before .before .before .before .before .before .count-private .ensures) _ _ (c .before .before .before .before .function-log .ensures) _ (c .count-made .ensures .0) (c .count-made .ensures .1) .few)
 
--- src/lib.rt:40:5
 cast-result : tie.Need-cast-result
 cast-result c = omega (arith, crossings-of (c .before .before .before .before .before .before .before .before .before .before .args .file .now) (c .before .before .before .before .before .before .before .before .before .before .args .function-at) (c .before .before .before .before .before .before .before .before .before .before .args .nodes-at) (c .before .before .before .before .before .before .before .before .before .before .args .log .now) (c .before .before .before .before .before .before .before .before .before .before .pre) _ _ (c .before .before .before .before .before .before .before .byte-at .ensures .0) (c .before .before .before .before .before .before .count-private .ensures) _ _ (c .before .before .before .before .function-log .ensures) _ (c .count-made .ensures .0) (c .count-made .ensures .1) .few)
 
--- src/lib.rt:31:1
 same-length : tie.Need-same-length
 same-length c = search needs
 
--- src/lib.rt:31:1
 returns : tie.Need-returns
 returns c = crossings-of (c .before .before .before .before .before .before .before .before .before .before .args .file .now) (c .before .before .before .before .before .before .before .before .before .before .args .function-at) (c .before .before .before .before .before .before .before .before .before .before .args .nodes-at) (c .before .before .before .before .before .before .before .before .before .before .args .log .now) (c .before .before .before .before .before .before .before .before .before .before .pre) _ _ (c .before .before .before .before .before .before .before .byte-at .ensures .0) (c .before .before .before .before .before .before .count-private .ensures) _ _ (c .before .before .before .before .function-log .ensures) _ (c .count-made .ensures .0) (c .count-made .ensures .1)
 

@@ -21,60 +21,46 @@ Inv-loop file counts₀ log₀ functions nodes-at at₀ f₀ counts log at f = (
 abbrev μ-loop : tie.MeasureT-loop
 μ-loop file counts₀ log₀ functions nodes-at at₀ f₀ counts log at f = functions - f
 
--- src/lib.rt:55:19
 log-room-requires : tie.Need-log-room-requires Inv-loop μ-loop
 log-room-requires c κs = search needs
 
--- src/lib.rt:56:9
 read-layout-requires : tie.Need-read-layout-requires Inv-loop μ-loop
 read-layout-requires c κs = search needs
 
--- src/lib.rt:59:18
 add-at : tie.Need-add-at Inv-loop μ-loop
 add-at c = search needs
 
--- src/lib.rt:61:5
 loop-holds : tie.Need-loop-holds Inv-loop μ-loop
 loop-holds c = (counts-start (c .before .before .before .before .before .args .file .now) _ _ (c .before .read-layout .ensures .functionsStart), omega arith, refl, c .before .before .log-room .ensures)
 
--- src/lib.rt:62:57
 slice-aggregate-count-crossings : tie.Need-slice-aggregate-count-crossings Inv-loop μ-loop
 slice-aggregate-count-crossings c = search needs
 
--- src/lib.rt:62:21
 count-crossings-requires : tie.Need-count-crossings-requires Inv-loop μ-loop
 count-crossings-requires c κs = count-ready (c .before .before .before .before .before .before .before .before .args .file .now) (c .before .before .before .before .before .before .before .before .pre .0) _ (c .before .before .loop .f) _ (c .before .before .loop .inv .0) (omega arith) _ _ (c .before .before .before .before .read-layout .ensures .nodesStart) (omega arith)
 
--- src/lib.rt:62:9
 mul-counts : tie.Need-mul-counts Inv-loop μ-loop
 mul-counts c = search needs
 
--- src/lib.rt:62:9
 slice-write-counts : tie.Need-slice-write-counts Inv-loop μ-loop
 slice-write-counts c = omega (arith, functions-few (c .before .before .before .before .before .before .before .before .before .before .args .file .now) (c .before .before .before .before .before .before .before .before .before .before .pre .0))
 
--- src/lib.rt:63:9
 function-end-requires : tie.Need-function-end-requires Inv-loop μ-loop
 function-end-requires c κs = function-near (c .before .before .before .before .before .before .before .before .before .before .args .file .now) (c .before .before .before .before .before .before .before .before .before .before .pre .0) _ (c .before .before .before .before .loop .f) _ (c .before .before .before .before .loop .inv .0) (omega arith)
 
--- src/lib.rt:64:9
 add-f : tie.Need-add-f Inv-loop μ-loop
 add-f c = search needs
 
--- src/lib.rt:61:5
 loop-less : tie.Need-loop-less Inv-loop μ-loop
 loop-less c = search needs
 
--- src/lib.rt:61:5
 loop-again : tie.Need-loop-again Inv-loop μ-loop
 loop-again c =
     (counts-next (c .before .before .before .before .before .before .before .before .before .before .before .args .file .now) (c .before .before .before .before .before .before .before .before .before .before .before .pre .0) _ (c .before .before .before .before .before .loop .f) _ (c .before .before .before .before .before .loop .inv .0) (omega arith) _ _ (c .before .before .count-crossings .ensures) (omega (arith, functions-few (c .before .before .before .before .before .before .before .before .before .before .before .args .file .now) (c .before .before .before .before .before .before .before .before .before .before .before .pre .0))) (c .function-end .ensures .0), omega arith, search needs, search needs)
 
--- src/lib.rt:51:1
 same-length : tie.Need-same-length Inv-loop μ-loop
 same-length c = search needs
 
--- src/lib.rt:51:1
 returns : tie.Need-returns Inv-loop μ-loop
 returns c = counts-done (c .before .before .before .before .before .before .before .args .file .now) (c .before .before .before .before .before .before .before .pre .0) _ (c .before .loop .f) _ _ (c .before .loop .inv .0) (c .before .before .before .read-layout .ensures .functions) (omega arith)
 

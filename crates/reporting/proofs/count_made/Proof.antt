@@ -8,19 +8,15 @@ use Rattle.reporting.proofs.count_made.Reads as reads
 use Rattle.reporting.proofs.count_made.Lts as lts
 use Rattle.logged_variables.proofs.count_tag.Reads as count-tag-reads
 
--- src/lib.rt:27:5
 count-tag-requires : tie.Need-count-tag-requires
 count-tag-requires c κs = search needs
 
--- src/lib.rt:27:25
 count-tag-requires-2 : tie.Need-count-tag-requires-2
 count-tag-requires-2 c κs = search needs
 
--- src/lib.rt:27:5
 add-result : tie.Need-add-result
 add-result c = omega (arith, tags-few 0 (c .before .before .before .args .log .now), tags-few 2 (c .before .before .before .args .log .now))
 
--- src/lib.rt:23:1
 returns : tie.Need-returns
 returns c =
     (omega arith, omega (arith, tags-few 0 (c .before .before .before .args .log .now), tags-few 2 (c .before .before .before .args .log .now)))

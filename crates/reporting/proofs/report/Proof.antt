@@ -10,45 +10,35 @@ use Rattle.append.proofs.append.Reads as append-reads
 use Rattle.checking.proofs.check.Reads as check-reads
 use Rattle.reporting.proofs.append_text.Reads as append-text-reads
 
--- src/lib.rt:99:9
 check-requires : tie.Need-check-requires
 check-requires c κs = search needs
 
--- src/lib.rt:107:20
 text-room-requires : tie.Need-text-room-requires
 text-room-requires c κs = search needs
 
--- src/lib.rt:101:44
 slice-aggregate-append-text : tie.Need-slice-aggregate-append-text
 slice-aggregate-append-text c = search needs
 
--- src/lib.rt:101:9
 append-text-requires : tie.Need-append-text-requires
 append-text-requires c κs = search needs
 
--- src/lib.rt:103:9
 returns : tie.Need-returns
 returns c =
     let short = too-short (c .before .before .before .before .before .before .before .before .args .file .now) _ _ _ (c .before .before .append-text .ensures) (c .before .before .before .before .text-room .ensures) (c .before .before .before .before .before .before .before .before .args .out .now) (omega arith) in
     (c .before .before .before .before .before .check .ensures, short .0, short .1)
 
--- src/lib.rt:108:12
 array-share-prefix-text : tie.Need-array-share-prefix-text
 array-share-prefix-text c = omega (arith, text-end (c .before .before .before .before .before .before .before .before .args .file .now) _ _ _ (c .before .before .append-text .ensures) (c .before .before .before .before .text-room .ensures))
 
--- src/lib.rt:108:12
 slice-aggregate-append : tie.Need-slice-aggregate-append
 slice-aggregate-append c = text-taken (c .before .before .before .before .before .before .before .before .before .args .file .now) _ _ _ (c .before .before .before .append-text .ensures) (c .before .before .before .before .before .text-room .ensures)
 
--- src/lib.rt:108:5
 append-requires : tie.Need-append-requires
 append-requires c κs = text-fits (c .before .before .before .before .before .before .before .before .before .before .args .file .now) _ _ _ (c .before .before .before .before .append-text .ensures) (c .before .before .before .before .before .before .text-room .ensures) (c .before .before .before .before .before .before .before .before .before .before .args .out .now) (omega arith)
 
--- src/lib.rt:96:1
 same-length : tie.Need-same-length
 same-length c = search needs
 
--- src/lib.rt:96:1
 returns-2 : tie.Need-returns-2
 returns-2 c =
     let done = reported (c .before .before .before .before .before .before .before .before .before .before .before .before .before .args .file .now) _ _ _ (c .before .before .before .before .before .before .before .append-text .ensures) (c .before .before .before .before .before .before .before .before .before .text-room .ensures) (c .before .before .before .before .before .before .before .before .before .before .before .before .before .args .out .now) (omega arith) _ _ (c .before .before .append .ensures) in

@@ -16,43 +16,33 @@ Inv-loop input from count made₀ i₀ made i = (i ≤ count) × (255 ≡ length
 abbrev μ-loop : tie.MeasureT-loop
 μ-loop input from count made₀ i₀ made i = count - i
 
--- src/main.rt:72:5
 loop-holds : tie.Need-loop-holds Inv-loop μ-loop
 loop-holds c = (omega arith, sym (length-replicate {0} {A = ℕ} 255 0))
 
--- src/main.rt:73:56
 mul-four-bytes-at : tie.Need-mul-four-bytes-at Inv-loop μ-loop
 mul-four-bytes-at c = search needs
 
--- src/main.rt:73:49
 add-four-bytes-at : tie.Need-add-four-bytes-at Inv-loop μ-loop
 add-four-bytes-at c = search needs
 
--- src/main.rt:73:19
 four-bytes-at-requires : tie.Need-four-bytes-at-requires Inv-loop μ-loop
 four-bytes-at-requires c κs = search needs
 
--- src/main.rt:73:9
 mul-made : tie.Need-mul-made Inv-loop μ-loop
 mul-made c = search needs
 
--- src/main.rt:73:9
 array-write-made : tie.Need-array-write-made Inv-loop μ-loop
 array-write-made c = search needs
 
--- src/main.rt:74:9
 add-i : tie.Need-add-i Inv-loop μ-loop
 add-i c = search needs
 
--- src/main.rt:72:5
 loop-less : tie.Need-loop-less Inv-loop μ-loop
 loop-less c = search needs
 
--- src/main.rt:72:5
 loop-again : tie.Need-loop-again Inv-loop μ-loop
 loop-again c = (omega arith, simp length-set (c .before .before .loop .inv .1))
 
--- src/main.rt:66:1
 returns : tie.Need-returns Inv-loop μ-loop
 returns c = search needs
 

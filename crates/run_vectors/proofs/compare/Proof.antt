@@ -16,31 +16,24 @@ Inv-loop input runs₀ different₀ at₀ runs different at = (runs ≤ at) × (
 abbrev μ-loop : tie.MeasureT-loop
 μ-loop input runs₀ different₀ at₀ runs different at = length input - at
 
--- src/main.rt:153:5
 loop-holds : tie.Need-loop-holds Inv-loop μ-loop
 loop-holds c = search needs
 
--- src/main.rt:154:13
 run-requires : tie.Need-run-requires Inv-loop μ-loop
 run-requires c κs = search needs
 
--- src/main.rt:156:13
 add-different : tie.Need-add-different Inv-loop μ-loop
 add-different c = search needs
 
--- src/main.rt:158:9
 add-runs : tie.Need-add-runs Inv-loop μ-loop
 add-runs c = search needs
 
--- src/main.rt:153:5
 loop-less : tie.Need-loop-less Inv-loop μ-loop
 loop-less c = omega arith
 
--- src/main.rt:153:5
 loop-again : tie.Need-loop-again Inv-loop μ-loop
 loop-again c = ⊎-elim (λ w. omega arith) (λ w. omega arith) (c .if1 .came)
 
--- src/main.rt:147:1
 returns : tie.Need-returns Inv-loop μ-loop
 returns c = search needs
 

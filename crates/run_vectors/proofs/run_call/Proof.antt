@@ -13,107 +13,81 @@ use Rattle.run_vectors.proofs.arguments.Reads as arguments-reads
 use Rattle.run_vectors.proofs.part.Reads as part-reads
 use Rattle.run_vectors.proofs.view_is.Reads as view-is-reads
 
--- src/main.rt:84:20
 byte-at-requires : tie.Need-byte-at-requires
 byte-at-requires c κs = search needs
 
--- src/main.rt:84:20
 cast-function : tie.Need-cast-function
 cast-function c = search needs
 
--- src/main.rt:85:33
 add-byte-at : tie.Need-add-byte-at
 add-byte-at c = search needs
 
--- src/main.rt:85:18
 byte-at-requires-2 : tie.Need-byte-at-requires-2
 byte-at-requires-2 c κs = search needs
 
--- src/main.rt:85:18
 cast-caller : tie.Need-cast-caller
 cast-caller c = search needs
 
--- src/main.rt:86:32
 add-byte-at-2 : tie.Need-add-byte-at-2
 add-byte-at-2 c = search needs
 
--- src/main.rt:86:9
 byte-at-requires-3 : tie.Need-byte-at-requires-3
 byte-at-requires-3 c κs = search needs
 
--- src/main.rt:87:18
 add-behind : tie.Need-add-behind
 add-behind c = search needs
 
--- src/main.rt:87:27
 mul-behind : tie.Need-mul-behind
 mul-behind c = search needs
 
--- src/main.rt:87:18
 add-behind-2 : tie.Need-add-behind-2
 add-behind-2 c = search needs
 
--- src/main.rt:88:33
 add-arguments : tie.Need-add-arguments
 add-arguments c = search needs
 
--- src/main.rt:88:16
 arguments-requires : tie.Need-arguments-requires
 arguments-requires c κs = search needs
 
--- src/main.rt:89:55
 array-share-prefix-made : tie.Need-array-share-prefix-made
 array-share-prefix-made c = search needs
 
--- src/main.rt:89:55
 slice-aggregate-call : tie.Need-slice-aggregate-call
 slice-aggregate-call c = simp length-take (omega arith)
 
--- src/main.rt:89:9
 call-requires : tie.Need-call-requires
 call-requires c κs = search needs
 
--- src/main.rt:91:15
 add-end : tie.Need-add-end
 add-end c = search needs
 
--- src/main.rt:91:48
 add-two-bytes-at : tie.Need-add-two-bytes-at
 add-two-bytes-at c = search needs
 
--- src/main.rt:91:28
 two-bytes-at-requires : tie.Need-two-bytes-at-requires
 two-bytes-at-requires c κs = search needs
 
--- src/main.rt:91:15
 add-end-2 : tie.Need-add-end-2
 add-end-2 c = search needs
 
--- src/main.rt:92:50
 add-part : tie.Need-add-part
 add-part c = search needs
 
--- src/main.rt:92:38
 part-requires : tie.Need-part-requires
 part-requires c κs = search needs
 
--- src/main.rt:92:9
 view-is-requires : tie.Need-view-is-requires
 view-is-requires c κs = search needs
 
--- src/main.rt:93:18
 byte-at-requires-4 : tie.Need-byte-at-requires-4
 byte-at-requires-4 c κs = search needs
 
--- src/main.rt:93:18
 cast-number : tie.Need-cast-number
 cast-number c = search needs
 
--- src/main.rt:80:1
 returns : tie.Need-returns
 returns c = search needs
 
--- src/main.rt:80:1
 returns-2 : tie.Need-returns-2
 returns-2 c = search needs
 

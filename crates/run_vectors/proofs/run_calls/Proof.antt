@@ -13,27 +13,21 @@ Inv-loop input from calls party at₀ same₀ ledger₀ k₀ at same ledger k = 
 abbrev μ-loop : tie.MeasureT-loop
 μ-loop input from calls party at₀ same₀ ledger₀ k₀ at same ledger k = calls - k
 
--- src/main.rt:110:5
 loop-holds : tie.Need-loop-holds Inv-loop μ-loop
 loop-holds c = search needs
 
--- src/main.rt:111:13
 run-call-requires : tie.Need-run-call-requires Inv-loop μ-loop
 run-call-requires c κs = search needs
 
--- src/main.rt:116:9
 add-k : tie.Need-add-k Inv-loop μ-loop
 add-k c = search needs
 
--- src/main.rt:110:5
 loop-less : tie.Need-loop-less Inv-loop μ-loop
 loop-less c = search needs
 
--- src/main.rt:110:5
 loop-again : tie.Need-loop-again Inv-loop μ-loop
 loop-again c = search needs
 
--- src/main.rt:102:1
 returns : tie.Need-returns Inv-loop μ-loop
 returns c = search needs
 

@@ -11,35 +11,27 @@ use Rattle.run_vectors.proofs.same_bytes.Reads as same-bytes-reads
 use Rattle.run_vectors.proofs.view_room.Reads as view-room-reads
 use Rattle.view.proofs.view.Reads as view-reads
 
--- src/main.rt:59:20
 view-room-requires : tie.Need-view-room-requires
 view-room-requires c κs = search needs
 
--- src/main.rt:60:44
 slice-aggregate-view : tie.Need-slice-aggregate-view
 slice-aggregate-view c = search needs
 
--- src/main.rt:60:9
 view-requires : tie.Need-view-requires
 view-requires c κs = search needs
 
--- src/main.rt:61:9
 at-most-requires : tie.Need-at-most-requires
 at-most-requires c κs = search needs
 
--- src/main.rt:62:16
 array-share-prefix-view : tie.Need-array-share-prefix-view
 array-share-prefix-view c = search needs
 
--- src/main.rt:62:16
 slice-aggregate-same-bytes : tie.Need-slice-aggregate-same-bytes
 slice-aggregate-same-bytes c = simp length-take (omega arith)
 
--- src/main.rt:62:5
 same-bytes-requires : tie.Need-same-bytes-requires
 same-bytes-requires c κs = search needs
 
--- src/main.rt:58:1
 returns : tie.Need-returns
 returns c = search needs
 

@@ -8,47 +8,36 @@ use Rattle.scripts.proofs.addresses_of.Lts as lts
 use Rattle.scripts.proofs.is_script.Reads as is-script-reads
 use Rattle.scripts.proofs.read_script.Reads as read-script-reads
 
--- src/lib.rt:107:8
 is-script-requires : tie.Need-is-script-requires
 is-script-requires c κs = search needs
 
--- src/lib.rt:108:13
 read-script-requires : tie.Need-read-script-requires
 read-script-requires c κs = search needs
 
--- src/lib.rt:109:21
 add-start : tie.Need-add-start
 add-start c = search needs
 
--- src/lib.rt:111:9
 sub-result : tie.Need-sub-result
 sub-result c = search needs
 
--- src/lib.rt:111:9
 part-result-start : tie.Need-part-result-start
 part-result-start c = search needs
 
--- src/lib.rt:111:9
 part-result-end : tie.Need-part-result-end
 part-result-end c = addresses-inside _ _ (c .before .before .before .is-script .ensures) (c .before .before .if1 .taken) _ (c .before .read-script .ensures)
 
--- src/lib.rt:113:9
 sub-result-2 : tie.Need-sub-result-2
 sub-result-2 c = search needs
 
--- src/lib.rt:113:9
 part-result-start-2 : tie.Need-part-result-start-2
 part-result-start-2 c = search needs
 
--- src/lib.rt:113:9
 part-result-end-2 : tie.Need-part-result-end-2
 part-result-end-2 c = search needs
 
--- src/lib.rt:104:1
 returns : tie.Need-returns
 returns c = addresses-part _ _ (c .before .before .before .before .is-script .ensures) (c .before .before .before .if1 .taken) _ (c .before .before .read-script .ensures)
 
--- src/lib.rt:104:1
 returns-2 : tie.Need-returns-2
 returns-2 c = no-addresses _ _ (c .before .before .is-script .ensures) (c .before .if1 .left)
 

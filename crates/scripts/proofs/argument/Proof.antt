@@ -8,23 +8,18 @@ use Rattle.scripts.proofs.argument.Lts as lts
 use Rattle.scripts.proofs.four_bytes_at.Reads as four-bytes-at-reads
 use Rattle.scripts.proofs.read_call.Reads as read-call-reads
 
--- src/lib.rt:111:9
 read-call-requires : tie.Need-read-call-requires
 read-call-requires c κs = search needs
 
--- src/lib.rt:112:46
 mul-four-bytes-at : tie.Need-mul-four-bytes-at
 mul-four-bytes-at c = search needs
 
--- src/lib.rt:112:26
 add-four-bytes-at : tie.Need-add-four-bytes-at
 add-four-bytes-at c = search needs
 
--- src/lib.rt:112:5
 four-bytes-at-requires : tie.Need-four-bytes-at-requires
 four-bytes-at-requires c κs = search needs
 
--- src/lib.rt:108:1
 returns : tie.Need-returns
 returns c = argument-is _ _ _ _ _ (c .before .before .read-call .ensures) (c .four-bytes-at .ensures)
 

@@ -21,43 +21,33 @@ Inv-loop bytes k count made₀ at₀ i₀ made at i = ((i ≤ count) × (count �
 abbrev μ-loop : tie.MeasureT-loop
 μ-loop bytes k count made₀ at₀ i₀ made at i = count - i
 
--- src/lib.rt:119:9
 read-call-requires : tie.Need-read-call-requires Inv-loop μ-loop
 read-call-requires c κs = search needs
 
--- src/lib.rt:120:17
 cast-count : tie.Need-cast-count Inv-loop μ-loop
 cast-count c = search needs
 
--- src/lib.rt:124:5
 loop-holds : tie.Need-loop-holds Inv-loop μ-loop
 loop-holds c = ((omega arith, omega (arith, c .struct-known .given)), (omega (arith, c .before .read-call .ensures .near), (sym (length-replicate {0} {A = ℕ} 255 0), arguments-start _ _ _ (c .before .read-call .ensures))))
 
--- src/lib.rt:125:19
 four-bytes-at-requires : tie.Need-four-bytes-at-requires Inv-loop μ-loop
 four-bytes-at-requires c κs = search needs
 
--- src/lib.rt:125:9
 mul-made : tie.Need-mul-made Inv-loop μ-loop
 mul-made c = search needs
 
--- src/lib.rt:125:9
 array-write-made : tie.Need-array-write-made Inv-loop μ-loop
 array-write-made c = search needs
 
--- src/lib.rt:126:9
 add-at : tie.Need-add-at Inv-loop μ-loop
 add-at c = search needs
 
--- src/lib.rt:127:9
 add-i : tie.Need-add-i Inv-loop μ-loop
 add-i c = search needs
 
--- src/lib.rt:124:5
 loop-less : tie.Need-loop-less Inv-loop μ-loop
 loop-less c = search needs
 
--- src/lib.rt:124:5
 loop-again : tie.Need-loop-again Inv-loop μ-loop
 loop-again c = let k = c .before .before in (
   (omega arith, omega arith),
@@ -70,7 +60,6 @@ loop-again c = let k = c .before .before in (
   ),
 )
 
--- src/lib.rt:116:1
 returns : tie.Need-returns Inv-loop μ-loop
 returns c = let k = c .before in
     let whole = arguments-done _ _ _ (k .loop .i) (k .loop .made) _ (k .loop .inv .0 .0) (c .loop-test .left) (k .loop .inv .1 .1 .1) in

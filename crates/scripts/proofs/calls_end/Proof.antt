@@ -17,43 +17,33 @@ Inv-loop bytes from count at₀ left₀ at left = (callsEnd left bytes at ≡ ca
 abbrev μ-loop : tie.MeasureT-loop
 μ-loop bytes from count at₀ left₀ at left = left
 
--- src/lib.rt:58:5
 loop-holds : tie.Need-loop-holds Inv-loop μ-loop
 loop-holds c = (refl, omega arith)
 
--- src/lib.rt:59:14
 add-at : tie.Need-add-at Inv-loop μ-loop
 add-at c = search needs
 
--- src/lib.rt:59:42
 add-byte-at : tie.Need-add-byte-at Inv-loop μ-loop
 add-byte-at c = search needs
 
--- src/lib.rt:59:27
 byte-at-requires : tie.Need-byte-at-requires Inv-loop μ-loop
 byte-at-requires c κs = search needs
 
--- src/lib.rt:59:23
 mul-at : tie.Need-mul-at Inv-loop μ-loop
 mul-at c = search needs
 
--- src/lib.rt:59:14
 add-at-2 : tie.Need-add-at-2 Inv-loop μ-loop
 add-at-2 c = search needs
 
--- src/lib.rt:60:9
 sub-left : tie.Need-sub-left Inv-loop μ-loop
 sub-left c = search needs
 
--- src/lib.rt:58:5
 loop-less : tie.Need-loop-less Inv-loop μ-loop
 loop-less c = search needs
 
--- src/lib.rt:58:5
 loop-again : tie.Need-loop-again Inv-loop μ-loop
 loop-again c = (calls-next _ _ _ _ _ (c .before .loop-test .taken) (ap (λ (n : ℕ). c .before .before .loop .at + 3 + 4 * n) (c .byte-at .ensures .0)) (c .before .before .loop .inv .0), omega arith)
 
--- src/lib.rt:51:1
 returns : tie.Need-returns Inv-loop μ-loop
 returns c = (calls-done _ _ _ _ (c .loop-test .left) (c .before .loop .inv .0), omega arith)
 

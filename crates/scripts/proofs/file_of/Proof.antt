@@ -9,44 +9,34 @@ use Rattle.scripts.proofs.file_of.Lts as lts
 use Rattle.scripts.proofs.is_script.Reads as is-script-reads
 use Rattle.scripts.proofs.read_script.Reads as read-script-reads
 
--- src/lib.rt:94:8
 is-script-requires : tie.Need-is-script-requires
 is-script-requires c κs = search needs
 
--- src/lib.rt:95:13
 read-script-requires : tie.Need-read-script-requires
 read-script-requires c κs = search needs
 
--- src/lib.rt:97:9
 sub-result : tie.Need-sub-result
 sub-result c = search needs
 
--- src/lib.rt:97:9
 part-result-start : tie.Need-part-result-start
 part-result-start c = search needs
 
--- src/lib.rt:97:9
 part-result-end : tie.Need-part-result-end
 part-result-end c = let inside = addresses-inside _ _ (c .before .before .is-script .ensures) (c .before .if1 .taken) _ (c .read-script .ensures) in
     omega (arith, addresses-behind _ _ (c .before .before .is-script .ensures) (c .before .if1 .taken) _ (c .read-script .ensures))
 
--- src/lib.rt:99:9
 sub-result-2 : tie.Need-sub-result-2
 sub-result-2 c = search needs
 
--- src/lib.rt:99:9
 part-result-start-2 : tie.Need-part-result-start-2
 part-result-start-2 c = search needs
 
--- src/lib.rt:99:9
 part-result-end-2 : tie.Need-part-result-end-2
 part-result-end-2 c = search needs
 
--- src/lib.rt:91:1
 returns : tie.Need-returns
 returns c = file-part _ _ (c .before .before .before .is-script .ensures) (c .before .before .if1 .taken) _ (c .before .read-script .ensures)
 
--- src/lib.rt:91:1
 returns-2 : tie.Need-returns-2
 returns-2 c = no-file _ _ (c .before .before .is-script .ensures) (c .before .if1 .left)
 

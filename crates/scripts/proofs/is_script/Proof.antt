@@ -8,19 +8,15 @@ use Rattle.scripts.proofs.is_script.Lts as lts
 use Rattle.scripts.proofs.calls_end.Reads as calls-end-reads
 use Rattle.scripts.proofs.read_script.Reads as read-script-reads
 
--- src/lib.rt:86:9
 read-script-requires : tie.Need-read-script-requires
 read-script-requires c κs = search needs
 
--- src/lib.rt:87:54
 cast-calls-end : tie.Need-cast-calls-end
 cast-calls-end c = search needs
 
--- src/lib.rt:87:20
 calls-end-requires : tie.Need-calls-end-requires
 calls-end-requires c κs = search needs
 
--- src/lib.rt:83:1
 returns : tie.Need-returns
 returns c = script-tested _ _ _ (c .before .before .read-script .ensures) (c .calls-end .ensures .0)
 

@@ -10,51 +10,39 @@ use Rattle.file.proofs.byte_at.Reads as byte-at-reads
 use Rattle.scripts.proofs.calls_end.Reads as calls-end-reads
 use Rattle.scripts.proofs.read_script.Reads as read-script-reads
 
--- src/lib.rt:94:9
 read-script-requires : tie.Need-read-script-requires
 read-script-requires c κs = search needs
 
--- src/lib.rt:95:9
 calls-end-requires : tie.Need-calls-end-requires
 calls-end-requires c κs = search needs
 
--- src/lib.rt:96:9
 byte-at-requires : tie.Need-byte-at-requires
 byte-at-requires c κs = search needs
 
--- src/lib.rt:97:33
 add-byte-at : tie.Need-add-byte-at
 add-byte-at c = search needs
 
--- src/lib.rt:97:9
 byte-at-requires-2 : tie.Need-byte-at-requires-2
 byte-at-requires-2 c κs = search needs
 
--- src/lib.rt:98:36
 add-byte-at-2 : tie.Need-add-byte-at-2
 add-byte-at-2 c = search needs
 
--- src/lib.rt:98:9
 byte-at-requires-3 : tie.Need-byte-at-requires-3
 byte-at-requires-3 c κs = search needs
 
--- src/lib.rt:100:19
 cast-t9 : tie.Need-cast-t9
 cast-t9 c = search needs
 
--- src/lib.rt:101:17
 cast-t10 : tie.Need-cast-t10
 cast-t10 c = search needs
 
--- src/lib.rt:102:20
 cast-t11 : tie.Need-cast-t11
 cast-t11 c = search needs
 
--- src/lib.rt:103:23
 add-t8 : tie.Need-add-t8
 add-t8 c = search needs
 
--- src/lib.rt:91:1
 returns : tie.Need-returns
 returns c = let start = call-starts _ _ _ _ (c .before .before .before .before .read-script .ensures) (c .before .before .before .calls-end .ensures .0) in
     call-is _ _ _ _ _ _ start (c .before .before .byte-at .ensures .0) (c .before .byte-at2 .ensures .0) (c .byte-at3 .ensures .0) (omega (arith, c .before .before .before .calls-end .ensures .1, c .before .before .before .before .read-script .ensures .near))

@@ -8,51 +8,39 @@ use Rattle.scripts.proofs.read_script.Lts as lts
 use Rattle.file.proofs.byte_at.Reads as byte-at-reads
 use Rattle.file.proofs.two_bytes_at.Reads as two-bytes-at-reads
 
--- src/lib.rt:69:24
 two-bytes-at-requires : tie.Need-two-bytes-at-requires
 two-bytes-at-requires c κs = search needs
 
--- src/lib.rt:69:20
 add-file-end : tie.Need-add-file-end
 add-file-end c = search needs
 
--- src/lib.rt:70:25
 add-addresses-end : tie.Need-add-addresses-end
 add-addresses-end c = search needs
 
--- src/lib.rt:70:40
 byte-at-requires : tie.Need-byte-at-requires
 byte-at-requires c κs = search needs
 
--- src/lib.rt:70:25
 add-addresses-end-2 : tie.Need-add-addresses-end-2
 add-addresses-end-2 c = search needs
 
--- src/lib.rt:71:9
 byte-at-requires-2 : tie.Need-byte-at-requires-2
 byte-at-requires-2 c κs = search needs
 
--- src/lib.rt:72:32
 add-byte-at : tie.Need-add-byte-at
 add-byte-at c = search needs
 
--- src/lib.rt:72:9
 byte-at-requires-3 : tie.Need-byte-at-requires-3
 byte-at-requires-3 c κs = search needs
 
--- src/lib.rt:76:16
 cast-t8 : tie.Need-cast-t8
 cast-t8 c = search needs
 
--- src/lib.rt:77:16
 cast-t9 : tie.Need-cast-t9
 cast-t9 c = search needs
 
--- src/lib.rt:78:19
 add-t7 : tie.Need-add-t7
 add-t7 c = search needs
 
--- src/lib.rt:66:1
 returns : tie.Need-returns
 returns c = script-is _ _ _ _ _ (c .before .before .before .two-bytes-at .ensures .0) (c .before .before .byte-at .ensures .0) (c .before .byte-at2 .ensures .0) (c .byte-at3 .ensures .0) (c .before .before .before .two-bytes-at .ensures .1) (c .before .before .byte-at .ensures .1)
 

@@ -9,33 +9,27 @@ use Rattle.scripts.proofs.two_bytes_behind.Reads as reads
 use Rattle.scripts.proofs.two_bytes_behind.Lts as lts
 use Rattle.file.proofs.two_bytes_at.Reads as two-bytes-at-reads
 
--- src/lib.rt:33:9
 returns : tie.Need-returns
 returns c = let s = c .before .before in
     let low = byteAt-past (s .args .bytes .now) (s .args .at + 2) (omega arith) in
     let high = byteAt-past (s .args .bytes .now) (s .args .at + 2 + 1) (omega arith) in
     (omega arith, omega arith)
 
--- src/lib.rt:35:8
 sub-if2 : tie.Need-sub-if2
 sub-if2 c = search needs
 
--- src/lib.rt:36:9
 returns-2 : tie.Need-returns-2
 returns-2 c = let s = c .before .before .before in
     let low = byteAt-past (s .args .bytes .now) (s .args .at + 2) (omega arith) in
     let high = byteAt-past (s .args .bytes .now) (s .args .at + 2 + 1) (omega arith) in
     (omega arith, omega arith)
 
--- src/lib.rt:38:25
 add-two-bytes-at : tie.Need-add-two-bytes-at
 add-two-bytes-at c = search needs
 
--- src/lib.rt:38:5
 two-bytes-at-requires : tie.Need-two-bytes-at-requires
 two-bytes-at-requires c κs = search needs
 
--- src/lib.rt:28:1
 returns-3 : tie.Need-returns-3
 returns-3 c = search needs
 

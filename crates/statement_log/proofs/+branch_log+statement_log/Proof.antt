@@ -46,7 +46,6 @@ statement-log-below t =
     (falls 2 statement-log-kinds.ps _<_ μ-statement-log t)
     statement-log.Pre
 
--- src/lib.rt:61:9
 branch-log-log-entry-requires : (t : ℕ) → branch-log-lts.Need-log-entry-requires (
   log-entry-reads.Asked,
   log-entry-reads.Learnt,
@@ -55,7 +54,6 @@ branch-log-log-entry-requires : (t : ℕ) → branch-log-lts.Need-log-entry-requ
 ) (branch-log-at t) branch-log.Post
 branch-log-log-entry-requires t c κs = (guard-slot _ _ _ _ _ _ (c .before .before .before .pre .1), guard-small _ _ _ _ _ _ (c .before .before .before .pre .1))
 
--- src/lib.rt:62:52
 branch-log-add-statement-log : (t : ℕ) → branch-log-lts.Need-add-statement-log (
   log-entry-reads.Asked,
   log-entry-reads.Learnt,
@@ -64,7 +62,6 @@ branch-log-add-statement-log : (t : ℕ) → branch-log-lts.Need-add-statement-l
 ) (branch-log-at t) branch-log.Post
 branch-log-add-statement-log t c = omega (arith, guard-slot _ _ _ _ _ _ (c .before .before .before .before .before .before .pre .1) .few)
 
--- src/lib.rt:62:51
 branch-log-cast-statement-log : (t : ℕ) → branch-log-lts.Need-cast-statement-log (
   log-entry-reads.Asked,
   log-entry-reads.Learnt,
@@ -73,7 +70,6 @@ branch-log-cast-statement-log : (t : ℕ) → branch-log-lts.Need-cast-statement
 ) (branch-log-at t) branch-log.Post
 branch-log-cast-statement-log t c = omega (arith, guard-slot _ _ _ _ _ _ (c .before .before .before .before .before .before .pre .1) .few)
 
--- src/lib.rt:62:5
 branch-log-statement-log-requires : (t : ℕ) → branch-log-lts.Need-statement-log-requires (
   log-entry-reads.Asked,
   log-entry-reads.Learnt,
@@ -82,7 +78,6 @@ branch-log-statement-log-requires : (t : ℕ) → branch-log-lts.Need-statement-
 ) (branch-log-at t) branch-log.Post
 branch-log-statement-log-requires t c κs = (omega arith, inside-ready _ _ _ _ _ _ (c .before .before .before .before .before .before .before .pre .1) _ _ (c .before .before .before .log-entry .ensures))
 
--- src/lib.rt:49:1
 branch-log-same-length : (t : ℕ) → branch-log-lts.Need-same-length (
   log-entry-reads.Asked,
   log-entry-reads.Learnt,
@@ -91,7 +86,6 @@ branch-log-same-length : (t : ℕ) → branch-log-lts.Need-same-length (
 ) (branch-log-at t) branch-log.Post
 branch-log-same-length t c = c .before .before .statement-log .kept .1 .1 .1 .1 .1 .0 ∙ c .before .before .before .before .before .before .log-entry .kept .0
 
--- src/lib.rt:49:1
 branch-log-returns : (t : ℕ) → branch-log-lts.Need-returns (
   log-entry-reads.Asked,
   log-entry-reads.Learnt,
@@ -100,7 +94,6 @@ branch-log-returns : (t : ℕ) → branch-log-lts.Need-returns (
 ) (branch-log-at t) branch-log.Post
 branch-log-returns t c = branch-done _ _ _ _ _ _ (c .before .before .before .before .before .before .before .before .before .before .pre .1) _ _ (c .before .before .before .before .before .before .log-entry .ensures) _ _ (c .before .before .statement-log .ensures)
 
--- src/lib.rt:69:9
 statement-log-node-at-requires : (t : ℕ) → statement-log-lts.Need-node-at-requires (
   node-at-reads.Asked,
   node-at-reads.Learnt,
@@ -117,7 +110,6 @@ statement-log-node-at-requires : (t : ℕ) → statement-log-lts.Need-node-at-re
 ) (statement-log-at t) statement-log.Post
 statement-log-node-at-requires t c κs = (c .before .before .pre .1 .context .nearNodes, omega (arith, c .before .before .pre .1 .inside, c .before .before .pre .1 .context .fewNodes))
 
--- src/lib.rt:73:17
 statement-log-statement-log-requires : (t : ℕ) → statement-log-lts.Need-statement-log-requires (
   node-at-reads.Asked,
   node-at-reads.Learnt,
@@ -134,7 +126,6 @@ statement-log-statement-log-requires : (t : ℕ) → statement-log-lts.Need-stat
 ) (statement-log-at t) statement-log.Post
 statement-log-statement-log-requires t c κs = let less = steps-less _ _ _ (c .before .before .before .before .before .args .guard) _ _ _ (c .before .before .before .before .before .pre .1) _ (c .before .before .node-at .ensures .same) (c .before .match .keys1) in (omega arith, first-ready _ _ _ (c .before .before .before .before .before .args .guard) _ _ _ (c .before .before .before .before .before .pre .1) _ (c .before .before .node-at .ensures .same) (c .before .match .keys1))
 
--- src/lib.rt:74:13
 statement-log-statement-log-requires-2 : (t : ℕ) → statement-log-lts.Need-statement-log-requires-2 (
   node-at-reads.Asked,
   node-at-reads.Learnt,
@@ -151,7 +142,6 @@ statement-log-statement-log-requires-2 : (t : ℕ) → statement-log-lts.Need-st
 ) (statement-log-at t) statement-log.Post
 statement-log-statement-log-requires-2 t c κs = let less = steps-less _ _ _ (c .before .before .before .before .before .before .before .before .before .args .guard) _ _ _ (c .before .before .before .before .before .before .before .before .before .pre .1) _ (c .before .before .before .before .before .before .node-at .ensures .same) (c .before .before .before .before .before .match .keys1) in (omega arith, second-ready _ _ _ (c .before .before .before .before .before .before .before .before .before .args .guard) _ _ _ (c .before .before .before .before .before .before .before .before .before .pre .1) _ (c .before .before .before .before .before .before .node-at .ensures .same) (c .before .before .before .before .before .match .keys1) _ _ (c .before .before .before .statement-log .ensures))
 
--- src/lib.rt:76:15
 statement-log-assign-field-log-requires :
     (t : ℕ) → statement-log-lts.Need-assign-field-log-requires (
       node-at-reads.Asked,
@@ -169,7 +159,6 @@ statement-log-assign-field-log-requires :
     ) (statement-log-at t) statement-log.Post
 statement-log-assign-field-log-requires t c κs = (c .before .before .node-at .ensures .smallArg, assign-field-ready _ _ _ (c .before .before .before .before .before .args .guard) _ _ _ (c .before .before .before .before .before .pre .1) _ (c .before .before .node-at .ensures .same) (c .before .match .keys2))
 
--- src/lib.rt:77:15
 statement-log-assign-entry-log-requires :
     (t : ℕ) → statement-log-lts.Need-assign-entry-log-requires (
       node-at-reads.Asked,
@@ -187,7 +176,6 @@ statement-log-assign-entry-log-requires :
     ) (statement-log-at t) statement-log.Post
 statement-log-assign-entry-log-requires t c κs = ((c .before .before .node-at .ensures .smallArg, entry-value-inside _ _ _ (c .before .before .before .before .before .args .guard) _ _ _ (c .before .before .before .before .before .pre .1) _ (c .before .before .node-at .ensures .same) (c .before .match .keys3)), assign-entry-ready _ _ _ (c .before .before .before .before .before .args .guard) _ _ _ (c .before .before .before .before .before .pre .1) _ (c .before .before .node-at .ensures .same) (c .before .match .keys3))
 
--- src/lib.rt:78:15
 statement-log-body-log-requires : (t : ℕ) → statement-log-lts.Need-body-log-requires (
   node-at-reads.Asked,
   node-at-reads.Learnt,
@@ -204,7 +192,6 @@ statement-log-body-log-requires : (t : ℕ) → statement-log-lts.Need-body-log-
 ) (statement-log-at t) statement-log.Post
 statement-log-body-log-requires t c κs = require-ready _ _ _ (c .before .before .before .before .before .args .guard) _ _ _ (c .before .before .before .before .before .pre .1) _ (c .before .before .node-at .ensures .same) (c .before .match .keys4)
 
--- src/lib.rt:80:17
 statement-log-body-log-requires-2 : (t : ℕ) → statement-log-lts.Need-body-log-requires-2 (
   node-at-reads.Asked,
   node-at-reads.Learnt,
@@ -221,7 +208,6 @@ statement-log-body-log-requires-2 : (t : ℕ) → statement-log-lts.Need-body-lo
 ) (statement-log-at t) statement-log.Post
 statement-log-body-log-requires-2 t c κs = condition-ready _ _ _ (c .before .before .before .before .before .args .guard) _ _ _ (c .before .before .before .before .before .pre .1) _ (c .before .before .node-at .ensures .same) (c .before .match .keys5)
 
--- src/lib.rt:81:17
 statement-log-branch-log-requires : (t : ℕ) → statement-log-lts.Need-branch-log-requires (
   node-at-reads.Asked,
   node-at-reads.Learnt,
@@ -238,7 +224,6 @@ statement-log-branch-log-requires : (t : ℕ) → statement-log-lts.Need-branch-
 ) (statement-log-at t) statement-log.Post
 statement-log-branch-log-requires t c κs = let less = branches-less _ _ _ (c .before .before .before .before .before .before .before .before .before .args .guard) _ _ _ (c .before .before .before .before .before .before .before .before .before .pre .1) _ (c .before .before .before .before .before .before .node-at .ensures .same) (c .before .before .before .before .before .match .keys5) in (omega arith, then-ready _ _ _ (c .before .before .before .before .before .before .before .before .before .args .guard) _ _ _ (c .before .before .before .before .before .before .before .before .before .pre .1) _ (c .before .before .before .before .before .before .node-at .ensures .same) (c .before .before .before .before .before .match .keys5) _ _ (c .before .before .before .body-log2 .ensures))
 
--- src/lib.rt:82:13
 statement-log-branch-log-requires-2 : (t : ℕ) → statement-log-lts.Need-branch-log-requires-2 (
   node-at-reads.Asked,
   node-at-reads.Learnt,
@@ -255,7 +240,6 @@ statement-log-branch-log-requires-2 : (t : ℕ) → statement-log-lts.Need-branc
 ) (statement-log-at t) statement-log.Post
 statement-log-branch-log-requires-2 t c κs = let less = branches-less _ _ _ (c .before .before .before .before .before .before .before .before .before .before .before .before .before .args .guard) _ _ _ (c .before .before .before .before .before .before .before .before .before .before .before .before .before .pre .1) _ (c .before .before .before .before .before .before .before .before .before .before .node-at .ensures .same) (c .before .before .before .before .before .before .before .before .before .match .keys5) in (omega arith, else-ready _ _ _ (c .before .before .before .before .before .before .before .before .before .before .before .before .before .args .guard) _ _ _ (c .before .before .before .before .before .before .before .before .before .before .before .before .before .pre .1) _ (c .before .before .before .before .before .before .before .before .before .before .node-at .ensures .same) (c .before .before .before .before .before .before .before .before .before .match .keys5) _ _ (c .before .before .before .before .before .before .before .body-log2 .ensures) _ _ (c .before .before .before .branch-log .ensures))
 
--- src/lib.rt:65:1
 statement-log-same-length : (t : ℕ) → statement-log-lts.Need-same-length (
   node-at-reads.Asked,
   node-at-reads.Learnt,
@@ -272,7 +256,6 @@ statement-log-same-length : (t : ℕ) → statement-log-lts.Need-same-length (
 ) (statement-log-at t) statement-log.Post
 statement-log-same-length t c = c .before .before .statement-log2 .kept .1 .1 .1 .1 .1 .0 ∙ c .before .before .before .before .before .before .statement-log .kept .1 .1 .1 .1 .1 .0
 
--- src/lib.rt:65:1
 statement-log-returns : (t : ℕ) → statement-log-lts.Need-returns (
   node-at-reads.Asked,
   node-at-reads.Learnt,
@@ -289,7 +272,6 @@ statement-log-returns : (t : ℕ) → statement-log-lts.Need-returns (
 ) (statement-log-at t) statement-log.Post
 statement-log-returns t c = sequence-logged _ _ _ (c .before .before .before .before .before .before .before .before .before .before .before .before .args .guard) _ _ _ (c .before .before .before .before .before .before .before .before .before .before .before .before .pre .1) _ (c .before .before .before .before .before .before .before .before .before .node-at .ensures .same) (c .before .before .before .before .before .before .before .before .match .keys1) _ _ (c .before .before .before .before .before .before .statement-log .ensures) _ _ (c .before .before .statement-log2 .ensures)
 
--- src/lib.rt:65:1
 statement-log-same-length-2 : (t : ℕ) → statement-log-lts.Need-same-length-2 (
   node-at-reads.Asked,
   node-at-reads.Learnt,
@@ -306,7 +288,6 @@ statement-log-same-length-2 : (t : ℕ) → statement-log-lts.Need-same-length-2
 ) (statement-log-at t) statement-log.Post
 statement-log-same-length-2 t c = c .before .before .assign-field-log .kept .1 .1 .1 .1 .1 .1 .0
 
--- src/lib.rt:65:1
 statement-log-returns-2 : (t : ℕ) → statement-log-lts.Need-returns-2 (
   node-at-reads.Asked,
   node-at-reads.Learnt,
@@ -323,7 +304,6 @@ statement-log-returns-2 : (t : ℕ) → statement-log-lts.Need-returns-2 (
 ) (statement-log-at t) statement-log.Post
 statement-log-returns-2 t c = assign-field-logged _ _ _ (c .before .before .before .before .before .before .before .before .args .guard) _ _ _ (c .before .before .before .before .before .before .before .before .pre .1) _ (c .before .before .before .before .before .node-at .ensures .same) (c .before .before .before .before .match .keys2) _ _ (c .before .before .assign-field-log .ensures)
 
--- src/lib.rt:65:1
 statement-log-same-length-3 : (t : ℕ) → statement-log-lts.Need-same-length-3 (
   node-at-reads.Asked,
   node-at-reads.Learnt,
@@ -340,7 +320,6 @@ statement-log-same-length-3 : (t : ℕ) → statement-log-lts.Need-same-length-3
 ) (statement-log-at t) statement-log.Post
 statement-log-same-length-3 t c = c .before .before .assign-entry-log .kept .1 .1 .1 .1 .1 .1 .1 .0
 
--- src/lib.rt:65:1
 statement-log-returns-3 : (t : ℕ) → statement-log-lts.Need-returns-3 (
   node-at-reads.Asked,
   node-at-reads.Learnt,
@@ -357,7 +336,6 @@ statement-log-returns-3 : (t : ℕ) → statement-log-lts.Need-returns-3 (
 ) (statement-log-at t) statement-log.Post
 statement-log-returns-3 t c = assign-entry-logged _ _ _ (c .before .before .before .before .before .before .before .before .args .guard) _ _ _ (c .before .before .before .before .before .before .before .before .pre .1) _ (c .before .before .before .before .before .node-at .ensures .same) (c .before .before .before .before .match .keys3) _ _ (c .before .before .assign-entry-log .ensures)
 
--- src/lib.rt:65:1
 statement-log-same-length-4 : (t : ℕ) → statement-log-lts.Need-same-length-4 (
   node-at-reads.Asked,
   node-at-reads.Learnt,
@@ -374,7 +352,6 @@ statement-log-same-length-4 : (t : ℕ) → statement-log-lts.Need-same-length-4
 ) (statement-log-at t) statement-log.Post
 statement-log-same-length-4 t c = c .before .before .body-log .kept .1 .1 .1 .1 .1 .0
 
--- src/lib.rt:65:1
 statement-log-returns-4 : (t : ℕ) → statement-log-lts.Need-returns-4 (
   node-at-reads.Asked,
   node-at-reads.Learnt,
@@ -391,7 +368,6 @@ statement-log-returns-4 : (t : ℕ) → statement-log-lts.Need-returns-4 (
 ) (statement-log-at t) statement-log.Post
 statement-log-returns-4 t c = require-logged _ _ _ (c .before .before .before .before .before .before .before .before .args .guard) _ _ _ (c .before .before .before .before .before .before .before .before .pre .1) _ (c .before .before .before .before .before .node-at .ensures .same) (c .before .before .before .before .match .keys4) _ _ (c .before .before .body-log .ensures)
 
--- src/lib.rt:65:1
 statement-log-same-length-5 : (t : ℕ) → statement-log-lts.Need-same-length-5 (
   node-at-reads.Asked,
   node-at-reads.Learnt,
@@ -408,7 +384,6 @@ statement-log-same-length-5 : (t : ℕ) → statement-log-lts.Need-same-length-5
 ) (statement-log-at t) statement-log.Post
 statement-log-same-length-5 t c = c .before .before .branch-log2 .kept .1 .1 .1 .1 .0 ∙ c .before .before .before .before .before .before .branch-log .kept .1 .1 .1 .1 .0 ∙ c .before .before .before .before .before .before .before .before .before .before .body-log2 .kept .1 .1 .1 .1 .1 .0
 
--- src/lib.rt:65:1
 statement-log-returns-5 : (t : ℕ) → statement-log-lts.Need-returns-5 (
   node-at-reads.Asked,
   node-at-reads.Learnt,
@@ -425,7 +400,6 @@ statement-log-returns-5 : (t : ℕ) → statement-log-lts.Need-returns-5 (
 ) (statement-log-at t) statement-log.Post
 statement-log-returns-5 t c = conditional-logged _ _ _ (c .before .before .before .before .before .before .before .before .before .before .before .before .before .before .before .before .args .guard) _ _ _ (c .before .before .before .before .before .before .before .before .before .before .before .before .before .before .before .before .pre .1) _ (c .before .before .before .before .before .before .before .before .before .before .before .before .before .node-at .ensures .same) (c .before .before .before .before .before .before .before .before .before .before .before .before .match .keys5) _ _ (c .before .before .before .before .before .before .before .before .before .before .body-log2 .ensures) _ _ (c .before .before .before .before .before .before .branch-log .ensures) _ _ (c .before .before .branch-log2 .ensures)
 
--- src/lib.rt:65:1
 statement-log-returns-6 : (t : ℕ) → statement-log-lts.Need-returns-6 (
   node-at-reads.Asked,
   node-at-reads.Learnt,

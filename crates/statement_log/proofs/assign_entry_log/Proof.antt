@@ -13,35 +13,27 @@ use Rattle.owners.proofs.name_code.Reads as name-code-reads
 use Rattle.owners.proofs.place_code.Reads as place-code-reads
 use Rattle.statement_log.proofs.place_log.Reads as place-log-reads
 
--- src/lib.rt:41:9
 field-owner-requires : tie.Need-field-owner-requires
 field-owner-requires c κs = (c .before .before .pre .0 .0, record { at = c .before .before .pre .1 .context .fieldListed })
 
--- src/lib.rt:42:9
 name-code-requires : tie.Need-name-code-requires
 name-code-requires c κs = (c .before .before .before .pre .1 .inside, c .before .before .before .pre .1 .context)
 
--- src/lib.rt:43:17
 place-code-requires : tie.Need-place-code-requires
 place-code-requires c κs = search needs
 
--- src/lib.rt:43:17
 cast-owner : tie.Need-cast-owner
 cast-owner c = search needs
 
--- src/lib.rt:44:9
 body-log-requires : tie.Need-body-log-requires
 body-log-requires c κs = key-ready _ _ (c .before .before .before .before .before .before .args .nodes-at) (c .before .before .before .before .before .before .args .guard) _ _ (c .before .before .before .field-owner .ensures) (c .before .place-code .result) (omega arith) _ _ _ (c .before .before .name-code .ensures) (c .before .place-code .ensures) (c .before .before .before .before .before .before .pre .0 .1) _ _ (c .before .before .before .before .before .before .pre .1)
 
--- src/lib.rt:45:5
 place-log-requires : tie.Need-place-log-requires
 place-log-requires c κs = entry-ready _ _ (c .before .before .before .before .before .before .before .before .before .before .args .nodes-at) (c .before .before .before .before .before .before .before .before .before .before .args .guard) _ _ (c .before .before .before .before .before .before .before .field-owner .ensures) (c .before .before .before .before .before .place-code .result) (omega arith) _ _ _ (c .before .before .before .before .before .before .name-code .ensures) (c .before .before .before .before .before .place-code .ensures) (c .before .before .before .before .before .before .before .before .before .before .pre .0 .1) _ _ (c .before .before .before .before .before .before .before .before .before .before .pre .1) _ _ (c .before .before .before .body-log .ensures)
 
--- src/lib.rt:37:1
 same-length : tie.Need-same-length
 same-length c = c .before .before .place-log .kept .1 .1 .1 .1 .1 .1 .0 ∙ c .before .before .before .before .before .before .body-log .kept .1 .1 .1 .1 .1 .0
 
--- src/lib.rt:37:1
 returns : tie.Need-returns
 returns c = entry-logged _ _ (c .before .before .before .before .before .before .before .before .before .before .before .before .before .args .nodes-at) (c .before .before .before .before .before .before .before .before .before .before .before .before .before .args .guard) _ _ (c .before .before .before .before .before .before .before .before .before .before .field-owner .ensures) (c .before .before .before .before .before .before .before .before .place-code .result) (omega arith) _ _ _ (c .before .before .before .before .before .before .before .before .before .name-code .ensures) (c .before .before .before .before .before .before .before .before .place-code .ensures) (c .before .before .before .before .before .before .before .before .before .before .before .before .before .pre .0 .1) _ _ (c .before .before .before .before .before .before .before .before .before .before .before .before .before .pre .1) _ _ (c .before .before .before .before .before .before .body-log .ensures) _ _ (c .before .before .place-log .ensures)
 

@@ -10,27 +10,21 @@ use Rattle.owners.proofs.field_owner.Reads as field-owner-reads
 use Rattle.owners.proofs.place_code.Reads as place-code-reads
 use Rattle.statement_log.proofs.place_log.Reads as place-log-reads
 
--- src/lib.rt:32:28
 field-owner-requires : tie.Need-field-owner-requires
 field-owner-requires c κs = (c .before .before .pre .0, record { at = c .before .before .pre .1 .context .fieldListed })
 
--- src/lib.rt:32:17
 place-code-requires : tie.Need-place-code-requires
 place-code-requires c κs = search needs
 
--- src/lib.rt:32:17
 cast-owner : tie.Need-cast-owner
 cast-owner c = search needs
 
--- src/lib.rt:33:5
 place-log-requires : tie.Need-place-log-requires
 place-log-requires c κs = field-ready _ _ (c .before .before .before .before .before .args .nodes-at) (c .before .before .before .before .before .args .guard) _ _ (c .before .before .field-owner .ensures) (c .before .place-code .result) (omega arith) _ (c .before .place-code .ensures) _ _ (c .before .before .before .before .before .pre .1)
 
--- src/lib.rt:28:1
 same-length : tie.Need-same-length
 same-length c = c .before .before .place-log .kept .1 .1 .1 .1 .1 .1 .0
 
--- src/lib.rt:28:1
 returns : tie.Need-returns
 returns c = field-logged _ _ (c .before .before .before .before .before .before .before .before .args .nodes-at) (c .before .before .before .before .before .before .before .before .args .guard) _ _ (c .before .before .before .before .before .field-owner .ensures) (c .before .before .before .before .place-code .result) (omega arith) _ (c .before .before .before .before .place-code .ensures) _ _ _ _ (c .before .before .place-log .ensures)
 

@@ -9,27 +9,21 @@ use Rattle.file.proofs.function_end.Reads as function-end-reads
 use Rattle.file.proofs.two_bytes_at.Reads as two-bytes-at-reads
 use Rattle.statement_log.proofs.statement_log.Reads as statement-log-reads
 
--- src/lib.rt:170:35
 function-end-requires : tie.Need-function-end-requires
 function-end-requires c κs = search needs
 
--- src/lib.rt:170:35
 sub-two-bytes-at : tie.Need-sub-two-bytes-at
 sub-two-bytes-at c = search needs
 
--- src/lib.rt:170:9
 two-bytes-at-requires : tie.Need-two-bytes-at-requires
 two-bytes-at-requires c κs = search needs
 
--- src/lib.rt:175:5
 statement-log-requires : tie.Need-statement-log-requires
 statement-log-requires c κs = root-ready _ _ _ _ _ (c .before .before .function-end .ensures .0) (c .before .two-bytes-at .ensures .0) _ _ (c .before .before .before .before .before .pre)
 
--- src/lib.rt:166:1
 same-length : tie.Need-same-length
 same-length c = search needs
 
--- src/lib.rt:166:1
 returns : tie.Need-returns
 returns c = root-logged _ _ (c .before .before .before .before .before .before .before .before .args .nodes-at) _ _ (c .before .before .before .before .before .function-end .ensures .0) (c .before .before .before .before .two-bytes-at .ensures .0) _ _ _ _ (c .before .before .statement-log .ensures)
 

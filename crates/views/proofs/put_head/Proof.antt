@@ -10,39 +10,30 @@ use Rattle.views.proofs.put_head.Tie as tie
 use Rattle.views.proofs.put_head.Reads as reads
 use Rattle.views.proofs.put_head.Lts as lts
 
--- src/lib.rt:35:14
 cast-out : tie.Need-cast-out
 cast-out c = search needs
 
--- src/lib.rt:35:5
 slice-write-out : tie.Need-slice-write-out
 slice-write-out c = search needs
 
--- src/lib.rt:36:14
 cast-out-2 : tie.Need-cast-out-2
 cast-out-2 c = search needs
 
--- src/lib.rt:36:5
 slice-write-out-2 : tie.Need-slice-write-out-2
 slice-write-out-2 c = simp length-set (omega arith)
 
--- src/lib.rt:37:5
 slice-write-out-3 : tie.Need-slice-write-out-3
 slice-write-out-3 c = simp length-set (omega arith)
 
--- src/lib.rt:38:5
 slice-write-out-4 : tie.Need-slice-write-out-4
 slice-write-out-4 c = simp length-set (omega arith)
 
--- src/lib.rt:39:5
 slice-write-out-5 : tie.Need-slice-write-out-5
 slice-write-out-5 c = search needs
 
--- src/lib.rt:30:1
 same-length : tie.Need-same-length
 same-length c = search needs
 
--- src/lib.rt:30:1
 returns : tie.Need-returns
 unfolding headBytes ledgerOf
 returns c = head-set _ _ _ _ _ _ (c .pre)

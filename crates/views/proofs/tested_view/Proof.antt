@@ -12,45 +12,35 @@ use Rattle.views.proofs.refusal.Reads as refusal-reads
 use Rattle.views.proofs.view_bytes.Reads as view-bytes-reads
 use Rattle.views.proofs.view_length.Reads as view-length-reads
 
--- src/lib.rt:72:9
 refusal-requires : tie.Need-refusal-requires
 refusal-requires c κs = search needs
 
--- src/lib.rt:72:9
 returns : tie.Need-returns
 returns c = refused-form _ _ _ _ (c .refusal .ensures) (sym (c .before .before .before .pre) ∙ not-true _ (c .before .if1 .taken))
 
--- src/lib.rt:75:9
 refusal-requires-2 : tie.Need-refusal-requires-2
 refusal-requires-2 c κs = search needs
 
--- src/lib.rt:75:9
 returns-2 : tie.Need-returns-2
 returns-2 c = refused-party _ _ _ _ (c .refusal2 .ensures) (c .before .if2 .taken)
 
--- src/lib.rt:77:9
 view-length-requires : tie.Need-view-length-requires
 view-length-requires c κs = search needs
 
--- src/lib.rt:79:9
 refusal-requires-3 : tie.Need-refusal-requires-3
 refusal-requires-3 c κs = search needs
 
--- src/lib.rt:79:9
 returns-3 : tie.Need-returns-3
 returns-3 c = refused-room _ _ _ _ _ (c .refusal3 .ensures) (c .before .before .view-length .ensures) (c .before .if3 .taken)
 
--- src/lib.rt:81:5
 view-bytes-requires : tie.Need-view-bytes-requires
 view-bytes-requires c κs =
     let long = c .before .before .view-length .ensures .same (c .before .before .before .before .before .before .args .party) in
     omega arith
 
--- src/lib.rt:67:1
 same-length : tie.Need-same-length
 same-length c = search needs
 
--- src/lib.rt:67:1
 returns-4 : tie.Need-returns-4
 returns-4 c =
     accepted _ _ _ _ _ (sym (c .before .before .before .before .before .before .before .before .before .pre) ∙ not-false _ (c .before .before .before .before .before .before .before .if1 .left)) (c .before .before .before .before .before .before .if2 .left) (c .before .before .before .before .before .view-length .ensures) (c .before .before .before .before .if3 .left)

@@ -31,62 +31,48 @@ room c =
     let long = view-length (c .args .l) (eight c) (variables c) (places c) (c .args .party) _ _ _ refl refl refl in
     omega (arith, c .pre)
 
--- src/lib.rt:50:9
 at-most-requires : tie.Need-at-most-requires
 at-most-requires c κs = search needs
 
--- src/lib.rt:51:9
 at-most-requires-2 : tie.Need-at-most-requires-2
 at-most-requires-2 c κs = search needs
 
--- src/lib.rt:52:5
 put-head-requires : tie.Need-put-head-requires
 put-head-requires c κs = omega (arith, room (c .before .before .before .before .before .before .before))
 
--- src/lib.rt:53:5
 put-eight-requires : tie.Need-put-eight-requires
 put-eight-requires c κs = omega (arith, room (c .before .before .before .before .before .before .before .before .before .before .before), c .before .before .before .put-head .kept .0)
 
--- src/lib.rt:54:67
 mul-put-items : tie.Need-mul-put-items
 mul-put-items c = search needs
 
--- src/lib.rt:54:63
 add-put-items : tie.Need-add-put-items
 add-put-items c = search needs
 
--- src/lib.rt:54:5
 put-items-requires : tie.Need-put-items-requires
 put-items-requires c κs =
     omega (arith, room (c .before .before .before .before .before .before .before .before .before .before .before .before .before .before .before), c .before .before .before .put-eight .kept .1 .1 .1 .0, c .before .before .before .before .before .before .before .put-head .kept .0, c .before .before .before .before .before .before .before .before .before .before .at-most .ensures)
 
--- src/lib.rt:55:61
 mul-put-items-2 : tie.Need-mul-put-items-2
 mul-put-items-2 c = search needs
 
--- src/lib.rt:55:57
 add-put-items-2 : tie.Need-add-put-items-2
 add-put-items-2 c = search needs
 
--- src/lib.rt:55:73
 mul-put-items-3 : tie.Need-mul-put-items-3
 mul-put-items-3 c = search needs
 
--- src/lib.rt:55:57
 add-put-items-3 : tie.Need-add-put-items-3
 add-put-items-3 c = search needs
 
--- src/lib.rt:55:5
 put-items-requires-2 : tie.Need-put-items-requires-2
 put-items-requires-2 c κs =
     omega
     (arith, room (c .before .before .before .before .before .before .before .before .before .before .before .before .before .before .before .before .before .before .before), c .before .before .before .put-items .kept .1 .1 .1 .0, c .before .before .before .before .before .before .before .put-eight .kept .1 .1 .1 .0, c .before .before .before .before .before .before .before .before .before .before .before .put-head .kept .0, c .before .before .before .before .before .before .before .before .before .before .before .before .before .before .at-most .ensures, c .before .before .before .before .before .before .before .before .before .before .before .before .before .at-most2 .ensures)
 
--- src/lib.rt:43:1
 same-length : tie.Need-same-length
 same-length c = search needs
 
--- src/lib.rt:43:1
 returns : tie.Need-returns
 returns c =
     let s = c .before .before .before .before .before .before .before .before .before .before .before .before .before .before .before .before .before .before .before .before .before .before in

@@ -10,35 +10,27 @@ use Rattle.writing.proofs.hand_out.Lts as lts
 use Rattle.append.proofs.append.Reads as append-reads
 use Rattle.append.proofs.append_two_bytes.Reads as append-two-bytes-reads
 
--- src/lib.rt:22:17
 add-total : tie.Need-add-total
 add-total c = search needs
 
--- src/lib.rt:22:17
 add-total-2 : tie.Need-add-total-2
 add-total-2 c = search needs
 
--- src/lib.rt:24:9
 returns : tie.Need-returns
 returns c = too-short _ _ (three-long (c .before .before .before .before .args .headings .now) (c .before .before .before .before .args .nodes .now) (c .before .before .before .before .args .count) _ (c .if1 .taken))
 
--- src/lib.rt:29:9
 append-requires : tie.Need-append-requires
 append-requires c κs = search needs
 
--- src/lib.rt:30:9
 append-two-bytes-requires : tie.Need-append-two-bytes-requires
 append-two-bytes-requires c κs = search needs
 
--- src/lib.rt:31:5
 append-requires-2 : tie.Need-append-requires-2
 append-requires-2 c κs = search needs
 
--- src/lib.rt:18:1
 same-length : tie.Need-same-length
 same-length c = search needs
 
--- src/lib.rt:18:1
 returns-2 : tie.Need-returns-2
 returns-2 c = let fits = room-left (c .before .before .before .before .before .before .before .before .before .before .before .before .before .before .before .before .args .headings .now) (c .before .before .before .before .before .before .before .before .before .before .before .before .before .before .before .before .args .nodes .now) (c .before .before .before .before .before .before .before .before .before .before .before .before .before .before .before .before .args .count) _ (c .before .before .before .before .before .before .before .before .before .before .before .before .if1 .left) in stands _ _ _ _ _ fits (total-long (c .before .before .before .before .before .before .before .before .before .before .before .before .before .before .before .before .args .headings .now) (c .before .before .before .before .before .before .before .before .before .before .before .before .before .before .before .before .args .nodes .now) (c .before .before .before .before .before .before .before .before .before .before .before .before .before .before .before .before .args .count)) (three-appended _ 0 (c .before .before .before .before .before .before .before .before .before .before .before .before .before .before .before .before .args .headings .now) (twoBytes (c .before .before .before .before .before .before .before .before .before .before .before .before .before .before .before .before .args .count)) (c .before .before .before .before .before .before .before .before .before .before .before .before .before .before .before .before .args .nodes .now) fits _ _ _ _ _ _ (c .before .before .before .before .before .before .before .before .before .before .append .ensures) (c .before .before .before .before .before .before .append-two-bytes .ensures) (c .before .before .append2 .ensures))
 

@@ -8,23 +8,18 @@ use Rattle.writing.proofs.write.Lts as lts
 use Rattle.checking.proofs.check.Reads as check-reads
 use Rattle.writing.proofs.write_accepted.Reads as write-accepted-reads
 
--- src/lib.rt:59:9
 check-requires : tie.Need-check-requires
 check-requires c κs = search needs
 
--- src/lib.rt:61:9
 returns : tie.Need-returns
 returns c = refused (c .before .before .before .before .args .file .now) _ _ (c .before .check .ensures) (c .if1 .taken)
 
--- src/lib.rt:66:5
 write-accepted-requires : tie.Need-write-accepted-requires
 write-accepted-requires c κs = search needs
 
--- src/lib.rt:56:1
 same-length : tie.Need-same-length
 same-length c = search needs
 
--- src/lib.rt:56:1
 returns-2 : tie.Need-returns-2
 returns-2 c = search needs
 

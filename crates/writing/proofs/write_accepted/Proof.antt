@@ -12,39 +12,30 @@ use Rattle.writing.proofs.write_accepted.Lts as lts
 use Rattle.writing.proofs.hand_out.Reads as hand-out-reads
 use Rattle.file_output.proofs.write_parts.Reads as write-parts-reads
 
--- src/lib.rt:49:35
 slice-aggregate-write-parts : tie.Need-slice-aggregate-write-parts
 slice-aggregate-write-parts c = search needs
 
--- src/lib.rt:49:54
 slice-aggregate-write-parts-2 : tie.Need-slice-aggregate-write-parts-2
 slice-aggregate-write-parts-2 c = search needs
 
--- src/lib.rt:49:9
 write-parts-requires : tie.Need-write-parts-requires
 write-parts-requires c κs = search needs
 
--- src/lib.rt:51:17
 mul-bytes : tie.Need-mul-bytes
 mul-bytes c = omega (arith, parts-fit (c .before .before .before .before .before .before .before .before .args .file .now) _ _ _ _ _ _ (c .before .before .before .write-parts .ensures) (c .before .before .before .before .before .before .before .before .pre))
 
--- src/lib.rt:52:14
 array-share-prefix-headings : tie.Need-array-share-prefix-headings
 array-share-prefix-headings c = omega (arith, parts-fit (c .before .before .before .before .before .before .before .before .args .file .now) _ _ _ _ _ _ (c .before .before .before .write-parts .ensures) (c .before .before .before .before .before .before .before .before .pre))
 
--- src/lib.rt:52:14
 slice-aggregate-hand-out : tie.Need-slice-aggregate-hand-out
 slice-aggregate-hand-out c = let put = c .before .before .before .before .write-parts .ensures in let front = front-stored _ _ _ _ (put .headings) (put .end) in put .end ∙ sym (ap length front)
 
--- src/lib.rt:52:32
 array-share-prefix-nodes : tie.Need-array-share-prefix-nodes
 array-share-prefix-nodes c = omega (arith, parts-fit (c .before .before .before .before .before .before .before .before .before .args .file .now) _ _ _ _ _ _ (c .before .before .before .before .write-parts .ensures) (c .before .before .before .before .before .before .before .before .before .pre))
 
--- src/lib.rt:52:32
 slice-aggregate-hand-out-2 : tie.Need-slice-aggregate-hand-out-2
 slice-aggregate-hand-out-2 c = let put = c .before .before .before .before .before .write-parts .ensures in let back = front-stored _ _ _ _ (put .nodes) (nodes-long (c .before .before .before .before .before .before .before .before .before .before .args .file .now) _ _ _ _ _ _ put (c .before .before .before .before .before .before .before .before .before .before .pre)) in nodes-long (c .before .before .before .before .before .before .before .before .before .before .args .file .now) _ _ _ _ _ _ put (c .before .before .before .before .before .before .before .before .before .before .pre) ∙ sym (ap length back)
 
--- src/lib.rt:52:5
 hand-out-requires : tie.Need-hand-out-requires
 hand-out-requires c κs =
     let put = c .before .before .before .before .before .before .write-parts .ensures in
@@ -54,11 +45,9 @@ hand-out-requires c κs =
     let long = nodes-long (c .before .before .before .before .before .before .before .before .before .before .before .args .file .now) _ _ _ _ _ _ put (c .before .before .before .before .before .before .before .before .before .before .before .pre) in
     (omega (arith, put .end), omega arith)
 
--- src/lib.rt:43:1
 same-length : tie.Need-same-length
 same-length c = search needs
 
--- src/lib.rt:43:1
 returns : tie.Need-returns
 returns c =
     let put = c .before .before .before .before .before .before .before .before .before .write-parts .ensures in
