@@ -8,10 +8,12 @@ use native.Mathlib.Omega.{arith}
 use borrow.Author.Tests.{ltb-false, leb-false, not-false, eqb-true}
 use lib.Dec.{eqb, leb, ltb}
 use lib.ListN.{length, getD, length-map}
-use Rattle.definitions.specs.Basics.{force, any, anyNumbered, countIf, flatMap, firstThatHolds, isZero}
+use Rattle.definitions.specs.Basics.{force, any, anyNumbered, countIf, flatMap, isZero}
 use Rattle.definitions.specs.ContractFile.{FunctionRecord, NodeRecord, Sections, fieldCount, functionCount, nodeCount, nodesAt, functionEnd, fieldRecords, functionRecords, nodeRecords, sectionsOf, fieldOf, parameterOf}
-use Rattle.definitions.specs.Nodes.{Node, nodeOf, children, fieldsNamed, functionOf, contractOf}
-use Rattle.definitions.specs.Numbers.{endsWrongly, countOffLimits, outsideTables, namesNothing, fieldOfDeclaredOwner, usesOf, usedOtherThanOnce, tooDeep, wrongSort, contractSentences, checkNumber}
+use Rattle.definitions.specs.Nodes.{Node, nodeOf, children, fieldsNamed, functionOf}
+use Rattle.definitions.specs.Numbers.{countOffLimits, namesNothing, fieldOfDeclaredOwner, usesOf, usedOtherThanOnce, checkNumber}
+use Rattle.numbers.specs.Settled.{Settled}
+use Rattle.numbers.proofs.Sentences.{accepted-settled}
 use Rattle.trees.specs.Trees.{Falling}
 use Rattle.trees.proofs.Falls.{nodes-fall}
 use Rattle.bound.specs.Sizes.{fewParameters}
@@ -25,14 +27,6 @@ or-left false b h = refl
 or-right : (a b : Bool) → (a || b) ≡ false → b ≡ false
 or-right true b h = absurd (true≢false h)
 or-right false b h = h
-
--- "0 means accepted": none of the sentences holds.
-none-holds : (n : ℕ) (sentences : List Bool) → firstThatHolds (suc n) sentences ≡ 0 → (j : ℕ) → getD sentences j false ≡ false
-unfolding firstThatHolds
-none-holds n [] h j = refl
-none-holds n (true ∷ later) h j = absurd (omega arith)
-none-holds n (false ∷ later) h zero = refl
-none-holds n (false ∷ later) h (suc j) = none-holds (suc n) later h j
 
 none-numbered : {A : Type 0} (test : ℕ → A → Bool) (n : ℕ) (xs : List A) → anyNumbered test n xs ≡ false → (i : ℕ) (d : A) → i < length xs → test (n + i) (getD xs i d) ≡ false
 unfolding anyNumbered
@@ -93,14 +87,8 @@ module _ (file : List ℕ) (accepted : checkNumber file ≡ 0) where
   abbrev nodes : List Node
   nodes = map nodeOf (sections .nodes)
 
-  abbrev sentences : List Bool
-  sentences =
-      endsWrongly file ∷ countOffLimits file ∷ outsideTables sections ∷ namesNothing sections ∷ usedOtherThanOnce sections ∷ tooDeep sections ∷ wrongSort sections
-      ∷ contractSentences (contractOf sections)
-
-  no-sentence : (j : ℕ) → getD sentences j false ≡ false
-  unfolding checkNumber
-  no-sentence = none-holds 0 sentences accepted
+  settled : Settled file
+  settled = accepted-settled file accepted
 
   pub fields-counted : length (sections .fields) ≡ fieldCount file
   unfolding sectionsOf
@@ -127,7 +115,7 @@ module _ (file : List ℕ) (accepted : checkNumber file ≡ 0) where
   pub counts : Counts
   unfolding countOffLimits
   counts =
-      let off = no-sentence 1 in
+      let off = settled .counts in
       let four = or-left (ltb 64 (fieldCount file) || isZero (functionCount file) || ltb 16 (functionCount file) || manyParameters) (ltb 512 (nodeCount file)) off in
       let three = or-left (ltb 64 (fieldCount file) || isZero (functionCount file) || ltb 16 (functionCount file)) manyParameters four in
       let two = or-left (ltb 64 (fieldCount file) || isZero (functionCount file)) (ltb 16 (functionCount file)) three in
@@ -160,17 +148,17 @@ module _ (file : List ℕ) (accepted : checkNumber file ≡ 0) where
   unfolding namesNothing
   roots-inside =
       roots-below (length (sections .nodes)) (sections .functions)
-      (or-right ownersOff rootsOff (or-left (ownersOff || rootsOff) (anyNumbered nodeOff 0 (sections .nodes)) (no-sentence 3)))
+      (or-right ownersOff rootsOff (or-left (ownersOff || rootsOff) (anyNumbered nodeOff 0 (sections .nodes)) (settled .numbers)))
 
   pub falling : Falling nodes
-  falling = nodes-fall sections (no-sentence 3)
+  falling = nodes-fall sections (settled .numbers)
 
   -- Number 5.
   pub used-once : (n : ℕ) → n < length (sections .nodes)
       → countIf (eqb n) (map (λ r. r .root) (sections .functions)) + countIf (eqb n) (flatMap children nodes) ≤ 1
   unfolding usedOtherThanOnce usesOf
   used-once n l =
-      let off = none-numbered (λ m r. not (eqb (countIf (eqb m) (usesOf sections)) 1)) 0 (sections .nodes) (no-sentence 4) n noRecord l in
+      let off = none-numbered (λ m r. not (eqb (countIf (eqb m) (usesOf sections)) 1)) 0 (sections .nodes) (settled .uses) n noRecord l in
       let e : 0 + n ≡ n = omega arith in
       let one = eqb-true (countIf (eqb n) (usesOf sections)) 1 (not-false _ (rw e at off)) in
       let parts = count-append (eqb n) (map (λ r. r .root) (sections .functions)) (flatMap (λ r. children (nodeOf r)) (sections .nodes)) in

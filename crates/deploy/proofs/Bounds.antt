@@ -14,7 +14,7 @@ use Rattle.definitions.specs.Calls.{deployNumber}
 use Rattle.file.proofs.Laws.{force-is}
 use Rattle.file.proofs.Sections.{functions-are}
 use Rattle.nodes.proofs.Truth.{either-false}
-use Rattle.file.specs.Settled.{Settled}
+use Rattle.numbers.specs.Settled.{Settled}
 use Rattle.reading.specs.Shape.{shapeNumber}
 use Rattle.reading.proofs.Laws.{settled, check-after-shape}
 use Rattle.context.proofs.Declarations.{parameters-length}

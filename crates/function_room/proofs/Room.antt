@@ -1,18 +1,19 @@
 -- Each function of an accepted file can be written, behind those before it and alone.
-use mathlib.Core.Path.{_≡_, refl, ap, _∙_}
+use mathlib.Core.Path.{_≡_, ap, _∙_}
 use mathlib.Core.Bool.{Bool, true, false, cond}
 use mathlib.Core.List.{List, [], _∷_}
 use Prim.Native.Nat.{ℕ, zero, suc, _+_, _*_, _-_, _<_, _≤_}
 use native.Mathlib.Omega.{arith}
-use lib.ListN.{length, getD, length-map}
-use Rattle.definitions.specs.Basics.{firstThatHolds}
+use lib.ListN.{length, length-map}
 use Rattle.definitions.specs.Syntax.{Statement, Parameter, Function, functionAt}
 use Rattle.definitions.specs.ContractFile.{byteAt, functionCount, nodesAt, nodeCount, parameterRecords, parameterOf, sectionsOf}
 use Rattle.definitions.specs.Nodes.{contractOf}
-use Rattle.definitions.specs.Numbers.{endsWrongly, countOffLimits, outsideTables, namesNothing, usedOtherThanOnce, tooDeep, wrongSort, contractSentences, checkNumber}
+use Rattle.definitions.specs.Numbers.{checkNumber}
 use Rattle.definitions.specs.Written.{always}
 use Rattle.definitions.specs.Rewriting.{privateParameters}
 use Rattle.file.proofs.Sections.{count-of-nodes}
+use Rattle.numbers.specs.Settled.{Settled}
+use Rattle.numbers.proofs.Sentences.{accepted-settled}
 use Rattle.trees.specs.Trees.{statementIn}
 use Rattle.context.specs.Context.{nodesIn, fieldsIn, parametersIn, scopeIn, Context}
 use Rattle.context.specs.Functions.{functionStart, rootAt}
@@ -32,14 +33,6 @@ use Rattle.function_room.proofs.Sparse.{variables-sparse}
 use Rattle.event_owners.proofs.Files.{owners-listed}
 use Rattle.function_room.proofs.Owners.{owners-fit}
 use Rattle.function_room.proofs.Written.{before-step, headings-before-step, written-length}
-
--- "0 means accepted": none of the sentences holds.
-none-holds : (n : ℕ) (sentences : List Bool) → firstThatHolds (suc n) sentences ≡ 0 → (j : ℕ) → getD sentences j false ≡ false
-unfolding firstThatHolds
-none-holds n [] h j = refl
-none-holds n (true ∷ later) h j = absurd (omega arith)
-none-holds n (false ∷ later) h zero = refl
-none-holds n (false ∷ later) h (suc j) = none-holds (suc n) later h j
 
 body-within : (gs : List Function) (f : ℕ) → f < length gs → statementSize ((functionAt gs f) .body) ≤ bodiesSize gs
 unfolding bodiesSize
@@ -79,17 +72,11 @@ module _ (file : List ℕ) where
       rw e (omega (arith, headings-grow f more (omega arith), headings-before-step file (f + more) (omega arith)))
 
 module _ (file : List ℕ) (accepted : checkNumber file ≡ 0) where
-  abbrev sentences : List Bool
-  sentences =
-      endsWrongly file ∷ countOffLimits file ∷ outsideTables (sectionsOf file) ∷ namesNothing (sectionsOf file) ∷ usedOtherThanOnce (sectionsOf file) ∷ tooDeep (sectionsOf file)
-      ∷ wrongSort (sectionsOf file) ∷ contractSentences (contractOf (sectionsOf file))
-
-  no-sentence : (j : ℕ) → getD sentences j false ≡ false
-  unfolding checkNumber
-  no-sentence = none-holds 0 sentences accepted
+  settled : Settled file
+  settled = accepted-settled file accepted
 
   pub functions-few : functionCount file ≤ 16
-  functions-few = few-functions file (no-sentence 1)
+  functions-few = few-functions file (settled .counts)
 
   pub file-fits : headingsBefore file (functionCount file) + 2 + 8 * nodesBefore file (functionCount file) ≤ 49152
   file-fits = omega (arith, room-suffices file accepted, written-length file)
@@ -99,10 +86,10 @@ module _ (file : List ℕ) (accepted : checkNumber file ≡ 0) where
     start = functionStart file f
 
     pub function-context : Context file start (nodesAt file)
-    function-context = context-of file f (no-sentence 1) (no-sentence 2) (no-sentence 3) (no-sentence 6) inside
+    function-context = context-of file f (settled .counts) (settled .tables) (settled .numbers) (settled .sorts) inside
 
     pub function-root : rootAt file start < nodeCount file
-    function-root = root-below file f (no-sentence 3) inside
+    function-root = root-below file f (settled .numbers) inside
 
     abbrev body : Statement
     body = statementIn (nodesIn file) (rootAt file start)

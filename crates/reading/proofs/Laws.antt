@@ -17,7 +17,8 @@ use Rattle.file.specs.Layout.{IsLayout}
 use Rattle.file.proofs.Laws.{force-is}
 use Rattle.nodes.proofs.Truth.{either-false}
 use Rattle.counts.proofs.Laws.{limits, hasManyParameters}
-use Rattle.file.specs.Settled.{Settled}
+use Rattle.numbers.specs.Settled.{Settled}
+use Rattle.numbers.proofs.Sentences.{none-holds}
 use Rattle.reading.specs.Shape.{shapeNumber}
 
 pub few-nodes : (file : List ℕ) (l : Layout) → IsLayout file l → countOffLimits file ≡ false → l .nodes ≤ 512
@@ -72,24 +73,11 @@ check-after-shape file =
     (contractSentences (contractOf s))
 
 -- A file of number 0 is one of which none of the seven holds.
-first-fails : (n : ℕ) (holds : Bool) (later : List Bool) → firstThatHolds (suc n) (holds ∷ later) ≡ 0
-    → (holds ≡ false) × (firstThatHolds (suc (suc n)) later ≡ 0)
-unfolding firstThatHolds
-first-fails n true later h = absurd (omega arith)
-first-fails n false later h = (refl, h)
-
 pub settled : (file : List ℕ) → shapeNumber file ≡ 0 → Settled file
 unfolding shapeNumber
 settled file h =
-    let s = sectionsOf file in
-    let one = first-fails 0 (endsWrongly file) _ h in
-    let two = first-fails 1 (countOffLimits file) _ (one .1) in
-    let three = first-fails 2 (outsideTables s) _ (two .1) in
-    let four = first-fails 3 (namesNothing s) _ (three .1) in
-    let five = first-fails 4 (usedOtherThanOnce s) _ (four .1) in
-    let six = first-fails 5 (tooDeep s) _ (five .1) in
-    let seven = first-fails 6 (wrongSort s) _ (six .1) in
-    record { ends = one .0; counts = two .0; tables = three .0; numbers = four .0; uses = five .0; depth = six .0; sorts = seven .0 }
+    let no = none-holds 0 _ h in
+    record { ends = no 0; counts = no 1; tables = no 2; numbers = no 3; uses = no 4; depth = no 5; sorts = no 6 }
 
 -- A part of a slice, as code takes it.
 take-none : (n : ℕ) → take {A = ℕ} n [] ≡ []
@@ -114,12 +102,12 @@ rest-is : (f : ℕ) (l : List ℕ) → take (length l - f) (drop f l) ≡ drop f
 rest-is f l = take-all (length l - f) (drop f l) (omega (arith, length-drop f l))
 
 -- A section's number is 0 where none of its sentences holds.
-none-holds : (e c t : Bool) → orElse (firstThatHolds 1 (e ∷ c ∷ [])) (firstThatHolds 22 (t ∷ [])) ≡ 0 → (e ≡ false) × (t ≡ false)
+neither-holds : (e c t : Bool) → orElse (firstThatHolds 1 (e ∷ c ∷ [])) (firstThatHolds 22 (t ∷ [])) ≡ 0 → (e ≡ false) × (t ≡ false)
 unfolding firstThatHolds
-none-holds true c t h = absurd (omega arith)
-none-holds false true t h = absurd (omega arith)
-none-holds false false true h = absurd (omega arith)
-none-holds false false false h = (refl, refl)
+neither-holds true c t h = absurd (omega arith)
+neither-holds false true t h = absurd (omega arith)
+neither-holds false false true h = absurd (omega arith)
+neither-holds false false false h = (refl, refl)
 
 module _ (file : List ℕ) (n number : ℕ) (e : number ≡ sectionNumber file n) where
   pub refused-part : (number ≡ 0 → ⊥) → [] ≡ sectionAnswer file n
@@ -129,7 +117,7 @@ module _ (file : List ℕ) (n number : ℕ) (e : number ≡ sectionNumber file n
   module _ (z : number ≡ 0) where
     accepted : (endsWrongly file ≡ false) × (ltb 2 n ≡ false)
     unfolding sectionNumber
-    accepted = none-holds (endsWrongly file) (countOffLimits file) (ltb 2 n) (sym e ∙ z)
+    accepted = neither-holds (endsWrongly file) (countOffLimits file) (ltb 2 n) (sym e ∙ z)
 
     pub accepted-ends : endsWrongly file ≡ false
     accepted-ends = accepted .0

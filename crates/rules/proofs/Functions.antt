@@ -20,7 +20,7 @@ use Rattle.file.proofs.Sections.{functions-are, count-of-nodes}
 use Rattle.faults.specs.Faults.{leastFault, numberOf}
 use Rattle.faults.proofs.Faults.{least-append, least-sentence}
 use Rattle.links.specs.Names.{linkedBy}
-use Rattle.file.specs.Settled.{Settled}
+use Rattle.numbers.specs.Settled.{Settled}
 use Rattle.scopes.specs.Trees.{nodesOf, statementOn}
 use Rattle.scopes.specs.Scopes.{scopeAt}
 use Rattle.scopes.proofs.Lists.{or-left, or-right}

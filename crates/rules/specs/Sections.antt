@@ -9,7 +9,7 @@ use Rattle.definitions.specs.ContractFile.{sectionsOf, fieldOf, functionRecord,
 use Rattle.definitions.specs.Nodes.{functionOf}
 use Rattle.definitions.specs.Numbers.{fieldFaults, functionFaults}
 use Rattle.faults.specs.Faults.{leastFault}
-use Rattle.file.specs.Settled.{Settled}
+use Rattle.numbers.specs.Settled.{Settled}
 use Rattle.scopes.specs.Trees.{nodesOf}
 
 abbrev pub fieldsOf : List ℕ → List Field

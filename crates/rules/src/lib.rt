@@ -17,7 +17,7 @@ ghost use Rattle.definitions.specs.ContractFile.{sectionsOf, fieldCount};
 ghost use Rattle.definitions.specs.Nodes.{contractOf};
 ghost use Rattle.definitions.specs.Numbers.{contractSentences};
 ghost use Rattle.file.specs.Layout.{IsLayout};
-ghost use Rattle.file.specs.Settled.{Settled};
+ghost use Rattle.numbers.specs.Settled.{Settled};
 ghost use Rattle.rules.specs.Sections.{ownerFault, allFieldsFault, FunctionReady, functionFault, allFunctionsFault};
 
 // "8. .. an owner code's field isn't final": in field f's own owner code.

@@ -12,7 +12,7 @@ use Rattle.definitions.specs.ContractFile.{NodeRecord, nodeRecord, sectionsOf, 
 use Rattle.definitions.specs.Nodes.{constantKind, meKind, fieldKind, entryKind, parameterKind, operatorKind, negationKind, revealKind, skipKind, sequenceKind, assignFieldKind, assignEntryKind, requireKind, conditionalKind, noKind, kindOf, unknownNode, nodeOf, nodeOfKind, nodeAt, constantValue, children, expressionParts, statementParts, expressionOf, statementOf}
 use Rattle.definitions.specs.Owners.{Links, linksOfCondition}
 use Rattle.file.proofs.Sections.{node-of, count-of-nodes}
-use Rattle.file.specs.Settled.{Settled}
+use Rattle.numbers.specs.Settled.{Settled}
 use Rattle.scopes.specs.Trees.{nodesOf, expressionOn}
 use Rattle.scopes.proofs.Lists.{getD-map, first-below, rest-below}
 use Rattle.scopes.proofs.Levels.{expression-unfolds}

@@ -7,7 +7,7 @@ use Rattle.definitions.specs.Nodes.{nodeAt, expressionOf, statementOf}
 use Rattle.trees.specs.Trees.{Falling}
 use Rattle.trees.proofs.Falls.{nodes-fall}
 use Rattle.trees.proofs.Unfolding as trees
-use Rattle.file.specs.Settled.{Settled}
+use Rattle.numbers.specs.Settled.{Settled}
 use Rattle.scopes.specs.Trees.{nodesOf, expressionOn, statementOn}
 
 module _ (file : List ℕ) (s : Settled file) where

@@ -18,7 +18,7 @@ use Rattle.codes.proofs.Codes.{owner-final, owner-argument}
 use Rattle.judgements.specs.Judging.{IsField, Final}
 use Rattle.judgements.specs.declared.Declared.{Declared}
 use Rattle.judgements.specs.declared.Given.{Given}
-use Rattle.file.specs.Settled.{Settled}
+use Rattle.numbers.specs.Settled.{Settled}
 use Rattle.scopes.specs.Trees.{nodesOf}
 use Rattle.scopes.specs.Scopes.{FieldAt, ParameterAt, scopeAt}
 use Rattle.scopes.specs.declared.Parameters.{Parameters}

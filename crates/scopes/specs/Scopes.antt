@@ -7,7 +7,7 @@ use Rattle.definitions.specs.ContractFile.{sectionsOf, fieldOf, parameterOf, pa
 use Rattle.judgements.specs.Judging.{IsField, IsParameter, Present, Final}
 use Rattle.judgements.specs.declared.Declared.{Declared}
 use Rattle.judgements.specs.declared.Given.{Given}
-use Rattle.file.specs.Settled.{Settled}
+use Rattle.numbers.specs.Settled.{Settled}
 use Rattle.scopes.specs.declared.Parameters.{Parameters}
 
 abbrev pub scopeAt : List ℕ → Parameters → Scope

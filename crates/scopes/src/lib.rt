@@ -9,7 +9,7 @@ ghost use mathlib.Core.Bool.{true};
 ghost use Prim.Native.Nat.{_≤_};
 ghost use Rattle.definitions.specs.ContractFile.{ownerOfCode};
 ghost use Rattle.definitions.specs.Numbers.{targetInTables, ownerFits};
-ghost use Rattle.file.specs.Settled.{Settled};
+ghost use Rattle.numbers.specs.Settled.{Settled};
 ghost use Rattle.scopes.specs.Scopes.{FieldAt, ParameterAt, scopeAt};
 
 // Where a function's parameters begin, and how many there are.

@@ -8,7 +8,7 @@ use Rattle.definitions.specs.Basics.{any}
 use Rattle.definitions.specs.Syntax.{Statement}
 use Rattle.definitions.specs.ContractFile.{NodeRecord}
 use Rattle.definitions.specs.Nodes.{kindOf, nodeOf, nodeOfKind, nodeAt, children, expressionParts, statementParts, statementOf}
-use Rattle.file.specs.Settled.{Settled}
+use Rattle.numbers.specs.Settled.{Settled}
 use Rattle.scopes.specs.Trees.{nodesOf, expressionOn, statementOn}
 use Rattle.scopes.proofs.Lists.{first-below, rest-below}
 use Rattle.scopes.proofs.Levels.{statement-unfolds}

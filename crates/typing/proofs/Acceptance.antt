@@ -8,12 +8,13 @@ use Rattle.definitions.specs.Basics.{any, flatMap}
 use Rattle.definitions.specs.Syntax.{toFinal, skip, Field, Contract, fieldAt, functionAt, scopeOf, isFinal}
 use Rattle.definitions.specs.ContractFile.{FunctionRecord, sectionsOf, fieldOf}
 use Rattle.definitions.specs.Nodes.{Node, nodeOf, functionOf, contractOf}
-use Rattle.definitions.specs.Numbers.{fault, endsWrongly, countOffLimits, fieldInTables, parameterInTables, nodeInTables, outsideTables, namesNothing, usedOtherThanOnce, tooDeep, wrongSort, statementFaults, fieldOfDeclaredOwner, fieldFaults, functionFaults, contractFaults, contractSentences, checkNumber}
+use Rattle.definitions.specs.Numbers.{fault, fieldInTables, parameterInTables, nodeInTables, outsideTables, statementFaults, fieldOfDeclaredOwner, fieldFaults, functionFaults, contractFaults, checkNumber}
 use Rattle.definitions.specs.Calls.{contractIn}
 use Rattle.relations.specs.Acceptance.{FieldsFit, AcceptedBody, constantsFitIn}
 use Rattle.typing.proofs.Basics.{append-left-empty, append-right-empty, or-left-false, or-right-false, fault-none-not}
 use Rattle.typing.proofs.Places.{noField}
-use Rattle.typing.proofs.FaultNumbers.{none-holds, contract-faultless}
+use Rattle.numbers.proofs.Sentences.{no-sentence-holds, accepted-settled}
+use Rattle.typing.proofs.FaultNumbers.{contract-faultless}
 use Rattle.typing.proofs.Tables.{FieldFits, statement-constants, each-field-fits}
 
 -- Where what is put together from each element is empty, it is so from each.
@@ -23,22 +24,12 @@ flatMap-empty F [] h i e past = past
 flatMap-empty F (x ∷ xs) h zero e past = append-left-empty (F x) (flatMap F xs) h
 flatMap-empty F (x ∷ xs) h (suc i) e past = flatMap-empty F xs (append-right-empty (F x) (flatMap F xs) h) i e past
 
--- The sentences of a check by their places: number n stands at n - 1.
-abbrev sentences : List ℕ → List Bool
-sentences file =
-    let s = sectionsOf file in
-    endsWrongly file ∷ countOffLimits file ∷ outsideTables s ∷ namesNothing s ∷ usedOtherThanOnce s ∷ tooDeep s ∷ wrongSort s ∷ contractSentences (contractOf s)
-
 module _ (file : List ℕ) (clear : checkNumber file ≡ 0) where
-  pub no-sentence-holds : (j : ℕ) → getD (sentences file) j false ≡ false
-  unfolding checkNumber
-  no-sentence-holds = none-holds 0 (sentences file) clear
-
   pub in-tables : outsideTables (sectionsOf file) ≡ false
-  in-tables = no-sentence-holds 2
+  in-tables = (accepted-settled file clear) .tables
 
   pub no-faults : contractFaults (contractIn file) ≡ []
-  no-faults = contract-faultless (contractIn file) (λ j. no-sentence-holds (suc (suc (suc (suc (suc (suc (suc j))))))))
+  no-faults = contract-faultless (contractIn file) (λ j. no-sentence-holds file clear (suc (suc (suc (suc (suc (suc (suc j))))))))
 
   abbrev fieldsOff : Bool
   fieldsOff = any (λ r. not (fieldInTables r)) ((sectionsOf file) .fields)

@@ -17,7 +17,7 @@ use Rattle.definitions.specs.Calls.{contractOfLedger, plainPlaces, isWellFormed
 use Rattle.relations.specs.Environment.{Environment}
 use Rattle.relations.specs.Standing.{Stands, AllStand, readersOf}
 use Rattle.typing.proofs.Basics.{and-right, or-left-false, or-right-false, not-false-true, not-true-false}
-use Rattle.typing.proofs.FaultNumbers.{none-holds}
+use Rattle.numbers.proofs.Sentences.{none-holds}
 use Rattle.typing.proofs.Forms.{plain-at}
 use Rattle.typing.proofs.Contents.{readers-in-call}
 use Rattle.typing.proofs.WellFormed.{ledger-fields-fit, places-stand, ledger-final, ledger-numbers-typed, ledger-numbers-length}

@@ -21,7 +21,7 @@ use Rattle.relations.specs.Standing.{AllStand}
 use Rattle.typing.proofs.Basics.{and-both, or-left-false, or-right-false}
 use Rattle.typing.proofs.Places.{getD-numbersFrom, first-place, length-field-places}
 use Rattle.typing.proofs.Forms.{length-zipWith, getD-zipWith}
-use Rattle.typing.proofs.FaultNumbers.{none-holds}
+use Rattle.numbers.proofs.Sentences.{none-holds}
 use Rattle.typing.proofs.Acceptance.{fields-fit}
 use Rattle.typing.proofs.Contents.{formsOf, standing-fit}
 

@@ -3,12 +3,11 @@ use mathlib.Core.Path.{_≡_, refl, sym}
 use mathlib.Core.Bool.{Bool, true, false, _&&_, _||_, not, false≢true}
 use mathlib.Core.List.{List, [], _∷_, _++_, map}
 use mathlib.Core.Option.{none}
-use Prim.Native.Nat.{ℕ, zero, suc}
-use native.Mathlib.Omega.{arith}
+use Prim.Native.Nat.{ℕ, suc}
 use borrow.Author.Tests.{eqb-true, eq-eqb}
 use lib.Dec.{eqb, leb}
 use lib.ListN.{length, getD}
-use Rattle.definitions.specs.Basics.{any, flatMap, firstThatHolds}
+use Rattle.definitions.specs.Basics.{any, flatMap}
 use Rattle.definitions.specs.Syntax.{DataType, boolean, address, Owner, Expression, constant, me, field, entry, parameter, operator, negation, reveal, Statement, skip, sequence, assignField, assignEntry, require, conditional, Field, Contract, Scope, fieldAt, sameType, isPlainField, isFinal, isMapping, isDivision}
 use Rattle.definitions.specs.Owners.{Links, noLinks, isReader, placeOwner, nameOf, ownerOf, isPublic, linksAfter}
 use Rattle.definitions.specs.DataTypes.{operandsFit, typeOf}
@@ -130,14 +129,6 @@ unfolding contractFaults
 known-contract c =
     both (known-flatMap (fieldFaults (c .fields)) (known-field (c .fields)) (c .fields))
     (known-flatMap (functionFaults (c .fields)) (λ g. known-statement (record { fields = c .fields; parameters = g .parameters }) noLinks (g .body)) (c .functions))
-
--- Sentences of which none has a number.
-pub none-holds : (n : ℕ) (sentences : List Bool) → firstThatHolds (suc n) sentences ≡ 0 → (j : ℕ) → getD sentences j false ≡ false
-unfolding firstThatHolds
-none-holds n [] h j = refl
-none-holds n (true ∷ later) h j = absurd (omega arith)
-none-holds n (false ∷ later) h zero = refl
-none-holds n (false ∷ later) h (suc j) = none-holds (suc n) later h j
 
 pub contract-faultless : (c : Contract) → ((j : ℕ) → getD (contractSentences c) j false ≡ false) → contractFaults c ≡ []
 contract-faultless c off = none-known (contractFaults c) (known-contract c) off
