@@ -9,9 +9,8 @@ use borrow.Author.Tests.{eq-eqb, ne-eqb, lt-ltb, le-ltb, le-leb, lt-leb, ltb-tru
 use lib.Dec.{eqb, ltb}
 use lib.ListN.{length, getD, set, length-set, List·getD-eq-default}
 use lib.Seq.{getD-set-same, getD-set-other}
-use Rattle.definitions.specs.Syntax.{Field, Parameter, plainField, finalField, mapping, isFinal, finalName, parameterName}
-use Rattle.definitions.specs.ContractFile.{byteAt, fieldCount, fieldOf, parameterOf, shapeOf}
-use Rattle.definitions.specs.Places.{finalAddress, position}
+use Rattle.definitions.specs.ContractFile.{Field, Parameter, plainField, finalField, mapping, isFinal, finalName, parameterName, byteAt, fieldCount, fieldOf, parameterOf, shapeOf}
+use Rattle.definitions.specs.Original.{finalAddress, position}
 use Rattle.context.specs.Context.{fieldsIn, scopeIn}
 use Rattle.context.proofs.Declarations.{field-declared, field-missing, parameter-declared, parameter-missing}
 use Rattle.positions.proofs.Laws.{fields-count}

@@ -5,9 +5,8 @@ use mathlib.Core.List.{List}
 use Prim.Native.Nat.{ℕ, _-_, _≤_}
 use lib.Dec.{eqb}
 use lib.ListN.{length}
-use Rattle.definitions.specs.Syntax.{Name, finalName, parameterName}
-use Rattle.definitions.specs.ContractFile.{byteAt, fieldCount, isFinalCode, isParameterCode}
-use Rattle.definitions.specs.Places.{addressIn}
+use Rattle.definitions.specs.ContractFile.{Name, finalName, parameterName, byteAt, fieldCount, isFinalCode, isParameterCode}
+use Rattle.definitions.specs.Original.{addressIn}
 use Rattle.context.specs.Context.{scopeIn}
 use Rattle.circuits.specs.Circuits.{addressFrom}
 

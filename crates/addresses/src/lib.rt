@@ -5,8 +5,7 @@ use positions::position;
 use positions::put_number;
 ghost use mathlib.Core.Path.{_≡_};
 ghost use Prim.Native.Nat.{_<_, _≤_};
-ghost use Rattle.definitions.specs.Syntax.{finalName, parameterName};
-ghost use Rattle.definitions.specs.ContractFile.{fieldCount};
+ghost use Rattle.definitions.specs.ContractFile.{finalName, parameterName, fieldCount};
 ghost use Rattle.addresses.specs.Addresses.{named, addressOfCode, FewNames, AddressRoom, Addressed};
 
 // The address that final f holds; a field that is not final holds none.

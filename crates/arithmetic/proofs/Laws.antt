@@ -6,8 +6,7 @@ use native.Mathlib.Nat.{div-zero, mod-zero}
 use borrow.Author.Tests.{ne-eqb}
 use lib.Dec.{eqb}
 use Rattle.definitions.specs.Basics.{bit, isTrue}
-use Rattle.definitions.specs.Syntax.{plus}
-use Rattle.definitions.specs.ContractFile.{operatorOf}
+use Rattle.definitions.specs.ContractFile.{plus, operatorOf}
 use Rattle.definitions.specs.Original.{operate}
 
 pub record Unlisted (code : ℕ) : Type 0 where

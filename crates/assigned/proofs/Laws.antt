@@ -6,8 +6,7 @@ use mathlib.Core.Option.{Option, none}
 use Prim.Native.Nat.{ℕ}
 use lib.Dec.{eqb}
 use lib.ListN.{set}
-use Rattle.definitions.specs.Syntax.{Name, Owner, FieldOwner, fieldAt, isEveryone}
-use Rattle.definitions.specs.ContractFile.{fieldOwnerCode}
+use Rattle.definitions.specs.ContractFile.{Name, Owner, FieldOwner, fieldAt, isEveryone, fieldOwnerCode}
 use Rattle.definitions.specs.Owners.{nameOf, placeOwner}
 use Rattle.owners.specs.Codes.{nameCode, placeCode}
 use Rattle.context.specs.Context.{fieldsIn, scopeIn}

@@ -2,10 +2,9 @@
 use mathlib.Core.List.{List}
 use mathlib.Core.Option.{none}
 use Prim.Native.Nat.{ℕ, _<_, _≤_}
-use Rattle.definitions.specs.Syntax.{fieldAt}
-use Rattle.definitions.specs.ContractFile.{nodeCount}
+use Rattle.definitions.specs.ContractFile.{fieldAt, nodeCount}
 use Rattle.definitions.specs.Owners.{nameOf, placeOwner}
-use Rattle.definitions.specs.Written.{always}
+use Rattle.definitions.specs.Rewriting.{always}
 use Rattle.context.specs.Context.{Context, fieldsIn, scopeIn}
 use Rattle.events.specs.Events.{Events, inTurn, placeEvents}
 use Rattle.plans.specs.Plans.{nodeExpression}

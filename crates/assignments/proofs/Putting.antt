@@ -5,8 +5,7 @@ use mathlib.Core.List.{_++_}
 use mathlib.Core.Option.{none}
 use Prim.Native.Nat.{ℕ}
 use lib.Dec.{eqb}
-use Rattle.definitions.specs.Syntax.{Expression, Statement, Scope, Owner, fieldAt, shapeCode}
-use Rattle.definitions.specs.ContractFile.{ownerOfCode}
+use Rattle.definitions.specs.ContractFile.{Expression, Statement, Scope, Owner, fieldAt, shapeCode, ownerOfCode}
 use Rattle.definitions.specs.Owners.{Links, nameOf, placeOwner}
 use Rattle.definitions.specs.Numbers.{fault, expressionFaults, entryFaults, valueFaults, conditionFaults, statementFaults}
 use Rattle.faults.specs.Faults.{leastFault}

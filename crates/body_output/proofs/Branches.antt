@@ -5,7 +5,7 @@ use Prim.Native.Nat.{ℕ, _+_, _*_, _-_, _<_, _≤_}
 use native.Mathlib.Omega.{arith}
 use lib.ListN.{length}
 use Rattle.definitions.specs.ContractFile.{NodeRecord, node}
-use Rattle.definitions.specs.WrittenFile.{Tree, leaf, twoChildren, setting, nodeBytes, bodyTree, commandTree}
+use Rattle.definitions.specs.Rewriting.{Tree, leaf, twoChildren, setting, nodeBytes, bodyTree, commandTree}
 use Rattle.buffer.specs.Buffer.{stored}
 use Rattle.context.proofs.Statements.{branches-below}
 use Rattle.node_output.specs.Numbering.{Room, Numbered}

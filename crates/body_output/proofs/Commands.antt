@@ -3,9 +3,8 @@ use mathlib.Core.Path.{_≡_, refl, ap, ap₂, sym, _∙_}
 use Prim.Native.Nat.{ℕ, suc, _+_}
 use native.Mathlib.Numerals.{add-one}
 use lib.ListN.{length, length-append}
-use Rattle.definitions.specs.Syntax.{boolean, Expression, Statement, Scope}
-use Rattle.definitions.specs.Written.{BodyExpression, Command, Guard, always, under}
-use Rattle.definitions.specs.Rewriting.{stepsBefore, inBody, single, inSequence, inBranch, inBranches, rewriteStatement}
+use Rattle.definitions.specs.ContractFile.{boolean, Expression, Statement, Scope}
+use Rattle.definitions.specs.Rewriting.{BodyExpression, Command, Guard, always, under, stepsBefore, inBody, single, inSequence, inBranch, inBranches, rewriteStatement}
 use Rattle.events.specs.Events.{variablesOf, variableCount, stepsOf, inTurn, bodyEvents, branchEvents, statementEvents}
 use Rattle.events.proofs.Pieces.{body-made}
 use Rattle.events.proofs.Singles.{conditional-command}

@@ -5,11 +5,8 @@ use Prim.Native.Nat.{ℕ, _+_, _*_, _-_, _≤_}
 use native.Mathlib.Omega.{arith}
 use lib.ListN.{length, take}
 use Rattle.definitions.specs.Basics.{flatMap}
-use Rattle.definitions.specs.Syntax.{Statement}
-use Rattle.definitions.specs.ContractFile.{NodeRecord}
-use Rattle.definitions.specs.Written.{Command}
-use Rattle.definitions.specs.Rewriting.{Step, inBody, stepsBefore}
-use Rattle.definitions.specs.WrittenFile.{nodeBytes, commandTree}
+use Rattle.definitions.specs.ContractFile.{Statement, NodeRecord}
+use Rattle.definitions.specs.Rewriting.{Command, Step, inBody, stepsBefore, nodeBytes, commandTree}
 use Rattle.trees.specs.Trees.{expressionIn, statementIn}
 use Rattle.buffer.specs.Buffer.{stored}
 use Rattle.context.specs.Context.{nodesIn, scopeIn}

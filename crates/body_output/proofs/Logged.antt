@@ -7,13 +7,9 @@ use native.Mathlib.Omega.{arith}
 use borrow.Author.Tests.{eqb-true, eqb-false}
 use lib.Dec.{eqb}
 use lib.ListN.{length, length-map}
-use Rattle.definitions.specs.Syntax.{Statement, Scope}
-use Rattle.definitions.specs.ContractFile.{NodeRecord, nodeCount, sectionsOf}
-use Rattle.definitions.specs.Nodes.{nodeOf}
+use Rattle.definitions.specs.ContractFile.{Statement, Scope, NodeRecord, nodeCount, sectionsOf, nodeOf}
 use Rattle.file.proofs.Sections.{count-of-nodes}
-use Rattle.definitions.specs.Written.{Guard, always}
-use Rattle.definitions.specs.Rewriting.{single, rewriteStatement}
-use Rattle.definitions.specs.WrittenFile.{commandTree}
+use Rattle.definitions.specs.Rewriting.{Guard, always, single, rewriteStatement, commandTree}
 use Rattle.trees.specs.Trees.{expressionIn, statementIn}
 use Rattle.context.specs.Context.{Context, nodesIn, scopeIn}
 use Rattle.context.proofs.Statements.{still-is, assign-field-is, assign-entry-is, require-is}

@@ -9,9 +9,7 @@ use borrow.Author.Tests.{eq-eqb, ne-eqb}
 use lib.Dec.{eqb}
 use lib.ListN.{length}
 use Rattle.definitions.specs.ContractFile.{byteAt, parameterRecords, parameterOf, node}
-use Rattle.definitions.specs.Written.{BodyExpression}
-use Rattle.definitions.specs.Rewriting.{Step, privateParameters, openings}
-use Rattle.definitions.specs.WrittenFile.{leaf, setting, nodeBytes, bodyTree}
+use Rattle.definitions.specs.Rewriting.{BodyExpression, Step, privateParameters, openings, leaf, setting, nodeBytes, bodyTree}
 use Rattle.buffer.specs.Buffer.{stored}
 use Rattle.node_output.specs.Numbering.{Room, Numbered}
 use Rattle.node_output.proofs.Laws.{room-any, numbered-leaf}

@@ -8,11 +8,8 @@ use borrow.Author.Tests.{lt-ltb}
 use lib.Dec.{ltb}
 use lib.ListN.{length, take, length-map}
 use Rattle.definitions.specs.Basics.{flatMap}
-use Rattle.definitions.specs.Syntax.{Parameter}
-use Rattle.definitions.specs.ContractFile.{byteAt, twoBytesAt, functionEnd, parameterRecords, parameterOf, node}
-use Rattle.definitions.specs.Written.{Command, Constraint}
-use Rattle.definitions.specs.Rewriting.{Step, privateParameters, openings, stepsBefore, withVerify, rewriteFunction}
-use Rattle.definitions.specs.WrittenFile.{Tree, leaf, twoChildren, nodeBytes, commandTree}
+use Rattle.definitions.specs.ContractFile.{Parameter, byteAt, twoBytesAt, functionEnd, parameterRecords, parameterOf, node}
+use Rattle.definitions.specs.Rewriting.{Command, Constraint, Step, privateParameters, openings, stepsBefore, withVerify, rewriteFunction, Tree, leaf, twoChildren, nodeBytes, commandTree}
 use Rattle.trees.specs.Trees.{statementIn}
 use Rattle.buffer.specs.Buffer.{stored}
 use Rattle.context.specs.Context.{nodesIn, parametersIn, scopeIn}

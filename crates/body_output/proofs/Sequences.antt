@@ -4,10 +4,8 @@ use mathlib.Core.List.{List}
 use Prim.Native.Nat.{ℕ, _+_, _*_, _-_, _<_, _≤_}
 use native.Mathlib.Omega.{arith}
 use lib.ListN.{length}
-use Rattle.definitions.specs.Syntax.{Statement}
-use Rattle.definitions.specs.ContractFile.{NodeRecord, node}
-use Rattle.definitions.specs.Written.{always}
-use Rattle.definitions.specs.WrittenFile.{twoChildren, nodeBytes, commandTree}
+use Rattle.definitions.specs.ContractFile.{Statement, NodeRecord, node}
+use Rattle.definitions.specs.Rewriting.{always, twoChildren, nodeBytes, commandTree}
 use Rattle.trees.specs.Trees.{statementIn}
 use Rattle.buffer.specs.Buffer.{stored}
 use Rattle.context.specs.Context.{nodesIn, scopeIn}

@@ -6,9 +6,7 @@ use Prim.Native.Nat.{ℕ, _+_, _*_, _<_, _≤_}
 use lib.Dec.{ltb}
 use lib.ListN.{length}
 use Rattle.definitions.specs.ContractFile.{NodeRecord, nodeCount}
-use Rattle.definitions.specs.Written.{Command}
-use Rattle.definitions.specs.Rewriting.{inBody, stepsBefore}
-use Rattle.definitions.specs.WrittenFile.{Tree, threeChildren, commandTree}
+use Rattle.definitions.specs.Rewriting.{Command, inBody, stepsBefore, Tree, threeChildren, commandTree}
 use Rattle.trees.specs.Trees.{expressionIn}
 use Rattle.context.specs.Context.{Context, nodesIn, scopeIn}
 use Rattle.context.specs.Functions.{rootAt}

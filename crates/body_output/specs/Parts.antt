@@ -3,11 +3,8 @@ use mathlib.Core.Bool.{Bool, cond}
 use mathlib.Core.List.{List, map}
 use Prim.Native.Nat.{ℕ, _+_, _*_}
 use lib.ListN.{length}
-use Rattle.definitions.specs.Syntax.{boolean, Statement, Scope}
-use Rattle.definitions.specs.ContractFile.{NodeRecord, nodeRecord, parameterRecords, parameterOf}
-use Rattle.definitions.specs.Written.{BodyExpression, Command, always}
-use Rattle.definitions.specs.Rewriting.{Step, privateParameters, openings, rewriteStatement}
-use Rattle.definitions.specs.WrittenFile.{Tree, leaf, twoChildren, commandTree}
+use Rattle.definitions.specs.ContractFile.{boolean, Statement, Scope, NodeRecord, nodeRecord, parameterRecords, parameterOf}
+use Rattle.definitions.specs.Rewriting.{BodyExpression, Command, always, Step, privateParameters, openings, rewriteStatement, Tree, leaf, twoChildren, commandTree}
 use Rattle.trees.specs.Trees.{expressionIn, statementIn}
 use Rattle.context.specs.Context.{nodesIn, scopeIn}
 use Rattle.context.specs.Functions.{rootAt}

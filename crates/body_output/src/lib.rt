@@ -19,7 +19,7 @@ use step_output::put_steps;
 ghost use mathlib.Core.Path.{_≡_};
 ghost use mathlib.Core.Bool.{true};
 ghost use Prim.Native.Nat.{_+_, _*_, _≤_};
-ghost use Rattle.definitions.specs.WrittenFile.{commandTree};
+ghost use Rattle.definitions.specs.Rewriting.{commandTree};
 ghost use Rattle.trees.specs.Trees.{statementIn};
 ghost use Rattle.context.specs.Context.{nodesIn};
 ghost use Rattle.node_output.specs.Numbering.{Numbered};

@@ -9,8 +9,7 @@ use borrow.Author.Tests.{ltb-false, leb-false, not-false, eqb-true}
 use lib.Dec.{eqb, leb, ltb}
 use lib.ListN.{length, getD, length-map}
 use Rattle.definitions.specs.Basics.{force, any, anyNumbered, countIf, flatMap, isZero}
-use Rattle.definitions.specs.ContractFile.{FunctionRecord, NodeRecord, Sections, fieldCount, functionCount, nodeCount, nodesAt, functionEnd, fieldRecords, functionRecords, nodeRecords, sectionsOf, fieldOf, parameterOf}
-use Rattle.definitions.specs.Nodes.{Node, nodeOf, children, fieldsNamed, functionOf}
+use Rattle.definitions.specs.ContractFile.{FunctionRecord, NodeRecord, Sections, fieldCount, functionCount, nodeCount, nodesAt, functionEnd, fieldRecords, functionRecords, nodeRecords, sectionsOf, fieldOf, parameterOf, Node, nodeOf, children, fieldsNamed, functionOf}
 use Rattle.definitions.specs.Numbers.{countOffLimits, namesNothing, fieldOfDeclaredOwner, usesOf, usedOtherThanOnce, checkNumber}
 use Rattle.numbers.specs.Settled.{Settled}
 use Rattle.numbers.proofs.Sentences.{accepted-settled}

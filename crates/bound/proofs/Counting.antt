@@ -10,8 +10,7 @@ use lib.Dec.{eqb, ltb}
 use lib.ListN.{length, take}
 use lib.Seq.{take-suc, take-length}
 use Rattle.definitions.specs.Basics.{all, countIf, flatMap}
-use Rattle.definitions.specs.ContractFile.{NodeRecord}
-use Rattle.definitions.specs.Nodes.{Kind, constantKind, meKind, fieldKind, entryKind, parameterKind, operatorKind, negationKind, revealKind, skipKind, sequenceKind, assignFieldKind, assignEntryKind, requireKind, conditionalKind, noKind, kindOf, Node, unknownNode, nodeOfKind, nodeAt, expressionParts, statementParts, children, expressionOf, statementOf}
+use Rattle.definitions.specs.ContractFile.{NodeRecord, Kind, constantKind, meKind, fieldKind, entryKind, parameterKind, operatorKind, negationKind, revealKind, skipKind, sequenceKind, assignFieldKind, assignEntryKind, requireKind, conditionalKind, noKind, kindOf, Node, unknownNode, nodeOfKind, nodeAt, expressionParts, statementParts, children, expressionOf, statementOf}
 use Rattle.trees.specs.Trees.{expressionIn, statementIn, IsRead, Falling}
 use Rattle.trees.proofs.Unfolding.{expression-unfolds, statement-unfolds}
 use Rattle.trees.specs.Sizes.{expressionSize, statementSize}

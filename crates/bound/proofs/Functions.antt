@@ -7,10 +7,8 @@ use native.Mathlib.Omega.{arith}
 use lib.Dec.{eqb}
 use lib.ListN.{length, length-append}
 use Rattle.definitions.specs.Basics.{any, flatMap, twoBytes}
-use Rattle.definitions.specs.Syntax.{everyone, ownedBy, Field, Parameter, Function, Contract, Scope, dataTypeCode}
-use Rattle.definitions.specs.Written.{Command, Variable, supplied, readFrom, guard, Claim, equals, opensForCaller, always, Constraint, WrittenFunction}
-use Rattle.definitions.specs.Rewriting.{privateParameters, openings, heldUnder, withVerify, rewriteStatement, rewriteFunction, rewrite}
-use Rattle.definitions.specs.WrittenFile.{Tree, leaf, oneChild, twoChildren, threeChildren, setting, size, numbered, bodyTree, commandTree, claimTrees, functionTrees, sizes, numberedAll, nodeBytes, fieldBytes, parameterBytes, variableBytes, keyOf, eachOnce, keysOf, guardNumber, claimBytes, constraintBytes, functionBytes, functionsBytes, contractBytes}
+use Rattle.definitions.specs.ContractFile.{everyone, ownedBy, Field, Parameter, Function, Contract, Scope, dataTypeCode}
+use Rattle.definitions.specs.Rewriting.{Command, Variable, supplied, readFrom, guard, Claim, equals, opensForCaller, always, Constraint, WrittenFunction, privateParameters, openings, heldUnder, withVerify, rewriteStatement, rewriteFunction, rewrite, Tree, leaf, oneChild, twoChildren, threeChildren, setting, size, numbered, bodyTree, commandTree, claimTrees, functionTrees, sizes, numberedAll, nodeBytes, fieldBytes, parameterBytes, variableBytes, keyOf, eachOnce, guardNumber, claimBytes, constraintBytes, functionBytes, functionsBytes, contractBytes}
 use Rattle.trees.specs.Sizes.{statementSize}
 use Rattle.bound.specs.Sizes.{bodiesSize, commandSize, stepsSize, claimWeight, claimsWeight, constraintsWeight, passageWeight, fewParameters}
 use Rattle.bound.proofs.Pieces.{constraints-append, steps-before, held-weight, statement-light}
@@ -60,7 +58,7 @@ unfolding flatMap
 codes-length [] = omega arith
 codes-length (v ∷ vs) = let h = codes-length vs in let k = key-length v in omega (arith, length-append (keyOf v) (flatMap keyOf vs))
 
-keys-length : (vs : List Variable) → length (keysOf vs) ≤ length vs
+keys-length : (vs : List Variable) → length (eachOnce [] (flatMap keyOf vs)) ≤ length vs
 keys-length vs = let h = once-length [] (flatMap keyOf vs) in let k = codes-length vs in omega arith
 
 -- Sizes of several trees, and the nodes that they are written as.
@@ -133,7 +131,7 @@ function-weight n g =
     let s = sizes-append (flatMap (λ c. claimTrees (c .claim)) (g .constraints)) (commandTree (g .body) ∷ []) in
     let whole =
     eight-lengths (length (g .parameters) ∷ flatMap parameterBytes (g .parameters)) (twoBytes (length (g .variables))) (flatMap variableBytes (g .variables))
-    (twoBytes (length (keysOf (g .variables)))) (keysOf (g .variables)) (twoBytes (length (g .constraints))) (constraintBytes n (g .constraints))
+    (twoBytes (length (eachOnce [] (flatMap keyOf (g .variables))))) (eachOnce [] (flatMap keyOf (g .variables))) (twoBytes (length (g .constraints))) (constraintBytes n (g .constraints))
     (twoBytes (n + sizes (functionTrees g) - 1)) in
     omega arith
 

@@ -6,11 +6,9 @@ use mathlib.Core.Option.{none}
 use Prim.Native.Nat.{ℕ, suc, _+_, _*_, _≤_}
 use native.Mathlib.Omega.{arith}
 use lib.ListN.{length, length-append}
-use Rattle.definitions.specs.Syntax.{meName, Owner, everyone, ownedBy, Expression, Statement, Scope, fieldAt, isDivision}
+use Rattle.definitions.specs.ContractFile.{meName, Owner, everyone, ownedBy, Expression, Statement, Scope, fieldAt, isDivision}
 use Rattle.definitions.specs.Owners.{nameOf, placeOwner, isPublic}
-use Rattle.definitions.specs.Written.{BodyExpression, Circuit, Command, readFrom, Claim, equals, Guard, under, Constraint}
-use Rattle.definitions.specs.Rewriting.{Step, Generator, StatementGenerator, kept, onePart, twoParts, supplying, readForm, reading, inBody, inCircuit, inPlace, stepsBefore, heldUnder, single, inSequence, inBranch, inBranches, rewriteStatement}
-use Rattle.definitions.specs.WrittenFile.{size, bodyTree, circuitTree, commandTree}
+use Rattle.definitions.specs.Rewriting.{BodyExpression, Circuit, Command, readFrom, Claim, equals, Guard, under, Constraint, Step, Generator, StatementGenerator, kept, onePart, twoParts, supplying, readForm, reading, inBody, inCircuit, inPlace, stepsBefore, heldUnder, single, inSequence, inBranch, inBranches, rewriteStatement, size, bodyTree, circuitTree, commandTree}
 use Rattle.trees.specs.Sizes.{expressionSize, statementSize}
 use Rattle.bound.specs.Sizes.{bodySize, circuitSize, commandSize, stepsSize, claimWeight, claimsWeight, constraintsWeight, pieceWeight, passageWeight}
 

@@ -4,10 +4,9 @@ use mathlib.Core.List.{List, [], _∷_, map}
 use Prim.Native.Nat.{ℕ, _≤_}
 use native.Mathlib.Omega.{arith}
 use lib.ListN.{length, length-map}
-use Rattle.definitions.specs.ContractFile.{FunctionRecord, sectionsOf, fieldOf}
-use Rattle.definitions.specs.Nodes.{Node, nodeOf, functionOf, contractOf}
+use Rattle.definitions.specs.ContractFile.{FunctionRecord, sectionsOf, fieldOf, Node, nodeOf, functionOf, contractOf}
 use Rattle.definitions.specs.Numbers.{checkNumber}
-use Rattle.definitions.specs.WrittenFile.{writtenFile}
+use Rattle.definitions.specs.Rewriting.{writtenFile}
 use Rattle.trees.specs.Trees.{Falling}
 use Rattle.bound.specs.Sizes.{bodiesSize}
 use Rattle.bound.specs.Counting.{sumOf}

@@ -2,10 +2,8 @@
 use mathlib.Core.List.{List, [], _∷_}
 use Prim.Native.Nat.{ℕ, _+_, _*_, _≤_}
 use lib.ListN.{length}
-use Rattle.definitions.specs.Syntax.{Function}
-use Rattle.definitions.specs.Written.{BodyExpression, Circuit, Command, Claim, equals, opensForCaller, Constraint}
-use Rattle.definitions.specs.Rewriting.{Step, Piece, Passage}
-use Rattle.definitions.specs.WrittenFile.{size, bodyTree, circuitTree, commandTree}
+use Rattle.definitions.specs.ContractFile.{Function}
+use Rattle.definitions.specs.Rewriting.{BodyExpression, Circuit, Command, Claim, equals, opensForCaller, Constraint, Step, Piece, Passage, size, bodyTree, circuitTree, commandTree}
 use Rattle.trees.specs.Sizes.{statementSize}
 
 -- The nodes of the bodies of some functions together.

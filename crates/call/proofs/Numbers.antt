@@ -7,9 +7,9 @@ use borrow.Author.Tests.{eq-eqb, ne-eqb, lt-ltb, le-ltb, le-leb, lt-leb, leb-fal
 use lib.Dec.{leb, ltb}
 use lib.ListN.{length}
 use Rattle.definitions.specs.Basics.{firstThatHolds}
-use Rattle.definitions.specs.ContractFile.{functionCount}
+use Rattle.definitions.specs.ContractFile.{functionCount, contractIn}
 use Rattle.definitions.specs.Ledger as ledger
-use Rattle.definitions.specs.Calls.{contractIn, isWellFormed, notCallable, argumentsOff, callNumber, callWith, honestParametersOf, honestVariablesOf, ledgerAfterCall}
+use Rattle.definitions.specs.Ledger.{isWellFormed, notCallable, argumentsOff, callNumber, callWith, honestParametersOf, honestVariablesOf, ledgerAfterCall}
 use Rattle.context.specs.Context.{parametersIn}
 use Rattle.context.specs.Functions.{functionStart}
 use Rattle.scopes.proofs.Lists.{or-right}

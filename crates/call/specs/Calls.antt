@@ -2,7 +2,7 @@
 use mathlib.Core.Path.{_≡_}
 use mathlib.Core.List.{List}
 use Prim.Native.Nat.{ℕ}
-use Rattle.definitions.specs.Calls.{callNumber, ledgerAfterCall}
+use Rattle.definitions.specs.Ledger.{callNumber, ledgerAfterCall}
 use Rattle.ledgers.specs.declared.Ledger as code
 use Rattle.ledgers.specs.Ledgers.{ledgerOf}
 use Rattle.call.specs.declared.Called.{Called}

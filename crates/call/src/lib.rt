@@ -10,7 +10,7 @@ ghost use mathlib.Core.Path.{_≡_};
 ghost use Prim.Native.Nat.{_<_};
 ghost use lib.Dec.{leb};
 ghost use Rattle.definitions.specs.ContractFile.{functionCount};
-ghost use Rattle.definitions.specs.Calls.{notCallable, callNumber};
+ghost use Rattle.definitions.specs.Ledger.{notCallable, callNumber};
 ghost use Rattle.context.specs.Context.{parametersIn};
 ghost use Rattle.context.specs.Functions.{functionStart};
 ghost use Rattle.ledgers.specs.Ledgers.{ledgerOf};

@@ -8,11 +8,8 @@ use borrow.Author.Tests.{eq-eqb, ne-eqb}
 use lib.ListN.{length, getD, drop, length-map, drop-of-length-le}
 use lib.Seq.{drop-cons}
 use Rattle.definitions.specs.Basics.{any}
-use Rattle.definitions.specs.Syntax.{Parameter, Function, boolean, parameterAt}
-use Rattle.definitions.specs.DataTypes.{isOfType}
-use Rattle.definitions.specs.ContractFile.{byteAt, dataTypeOf, functionCount, parameterRecords, parameterOf}
-use Rattle.definitions.specs.Ledger.{Ledger}
-use Rattle.definitions.specs.Calls.{argumentsOff}
+use Rattle.definitions.specs.ContractFile.{Parameter, Function, boolean, parameterAt, isOfType, byteAt, dataTypeOf, functionCount, parameterRecords, parameterOf}
+use Rattle.definitions.specs.Ledger.{Ledger, argumentsOff}
 use Rattle.context.specs.Context.{parametersIn}
 use Rattle.context.specs.Functions.{functionStart}
 use Rattle.context.proofs.Declarations.{parameter-declared, parameters-length}

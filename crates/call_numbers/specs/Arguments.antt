@@ -5,8 +5,7 @@ use Prim.Native.Nat.{ℕ}
 use lib.Dec.{eqb}
 use lib.ListN.{length}
 use Rattle.definitions.specs.Basics.{any}
-use Rattle.definitions.specs.Syntax.{Parameter}
-use Rattle.definitions.specs.DataTypes.{isOfType}
+use Rattle.definitions.specs.ContractFile.{Parameter, isOfType}
 
 abbrev pub anyOutside : List Parameter → List ℕ → Bool
 anyOutside parameters arguments = any not (zipWith (λ p v. isOfType (p .type) v) parameters arguments)

@@ -7,11 +7,9 @@ use native.Mathlib.Omega.{arith}
 use borrow.Author.Tests.{eq-eqb, ne-eqb}
 use lib.Dec.{eqb}
 use lib.ListN.{length, getD, take, set}
-use Rattle.definitions.specs.Syntax.{Parameter, parameterAt}
-use Rattle.definitions.specs.ContractFile.{byteAt, parameterOf}
-use Rattle.definitions.specs.Places.{Reader, anyone, only}
-use Rattle.definitions.specs.Ledger.{Content, plain, contentFor}
-use Rattle.definitions.specs.Calls.{honestParameters}
+use Rattle.definitions.specs.ContractFile.{Parameter, parameterAt, byteAt, parameterOf}
+use Rattle.definitions.specs.Original.{Reader, anyone, only}
+use Rattle.definitions.specs.Ledger.{Content, plain, contentFor, honestParameters}
 use Rattle.contents.specs.Contents.{contentsOf}
 use Rattle.contents.proofs.Laws.{length-contentsOf}
 use Rattle.context.specs.Context.{parametersIn}

@@ -7,10 +7,8 @@ use native.Mathlib.Numerals.{add-one}
 use native.Mathlib.Omega.{arith}
 use lib.ListN.{length, take, drop, set, drop-of-length-le}
 use lib.Seq.{drop-cons, take-suc-set}
-use Rattle.definitions.specs.Syntax.{Parameter, boolean, parameterAt}
-use Rattle.definitions.specs.ContractFile.{byteAt}
-use Rattle.definitions.specs.Ledger.{Content, plain, contentAt}
-use Rattle.definitions.specs.Calls.{publicOf}
+use Rattle.definitions.specs.ContractFile.{Parameter, boolean, parameterAt, byteAt}
+use Rattle.definitions.specs.Ledger.{Content, plain, contentAt, publicOf}
 use Rattle.contents.specs.Contents.{contentsOf, contentOfFive}
 use Rattle.contents.proofs.Laws.{length-contentsOf}
 use Rattle.context.specs.Context.{parametersIn}

@@ -4,11 +4,9 @@ use mathlib.Core.Bool.{Bool, cond}
 use mathlib.Core.List.{List, [], _∷_, _++_}
 use Prim.Native.Nat.{ℕ, _+_, _*_, _≤_}
 use lib.ListN.{length, take}
-use Rattle.definitions.specs.Syntax.{parameterAt}
-use Rattle.definitions.specs.ContractFile.{byteAt}
-use Rattle.definitions.specs.Places.{Reader, anyone, only}
-use Rattle.definitions.specs.Ledger.{Content}
-use Rattle.definitions.specs.Calls.{publicOf}
+use Rattle.definitions.specs.ContractFile.{parameterAt, byteAt}
+use Rattle.definitions.specs.Original.{Reader, anyone, only}
+use Rattle.definitions.specs.Ledger.{Content, publicOf}
 use Rattle.contents.specs.Contents.{contentsOf}
 use Rattle.context.specs.Context.{parametersIn}
 

@@ -5,15 +5,11 @@ use mathlib.Core.List.{List, _++_, map}
 use Prim.Native.Nat.{ℕ, suc, _+_, _*_, _<_, _≤_}
 use native.Mathlib.Omega.{arith}
 use lib.ListN.{length, getD, replicate, length-append, length-replicate}
-use Rattle.definitions.specs.Syntax.{Name, Field, Function, Scope, Statement, functionAt}
+use Rattle.definitions.specs.ContractFile.{Name, Field, Function, Scope, Statement, functionAt, fieldCount, functionCount, ownerOfCode, Node, contractIn}
 use Rattle.definitions.specs.Owners.{noLinks}
-use Rattle.definitions.specs.ContractFile.{fieldCount, functionCount, ownerOfCode}
-use Rattle.definitions.specs.Nodes.{Node}
-use Rattle.definitions.specs.Written.{Variable, always}
-use Rattle.definitions.specs.Rewriting.{rewriteStatement, openings, privateParameters}
-use Rattle.definitions.specs.Places.{addressIn, readerOf}
-use Rattle.definitions.specs.Ledger.{Content, Ledger, openedNumber}
-use Rattle.definitions.specs.Calls.{contractOfLedger, callNumber, honestContents, honestVariables, honestVariablesOf}
+use Rattle.definitions.specs.Rewriting.{Variable, always, rewriteStatement, openings, privateParameters}
+use Rattle.definitions.specs.Original.{addressIn, readerOf}
+use Rattle.definitions.specs.Ledger.{Content, Ledger, openedNumber, callNumber, honestContents, honestVariables, honestVariablesOf}
 use Rattle.relations.specs.Acceptance.{AcceptedBody}
 use Rattle.relations.specs.Environment.{Environment}
 use Rattle.typing.proofs.WellFormed.{ledger-body-accepted}
@@ -133,13 +129,13 @@ module _ (l : Ledger) (function caller : ℕ) (arguments : List ℕ) (clear : ca
   there : function < functionCount (l .file)
   there = omega (arith, function-exists l function caller arguments clear, functions-count (l .file))
 
-  called-is : functionAt ((contractOfLedger l) .functions) function ≡ functionIn (l .file) (functionStart (l .file) function)
+  called-is : functionAt ((contractIn (l .file)) .functions) function ≡ functionIn (l .file) (functionStart (l .file) function)
   called-is = function-in (l .file) function there
 
   pub call-accepted : AcceptedBody (scopeIn (l .file) (functionStart (l .file) function)) (nodeStatement (l .file) (rootAt (l .file) (functionStart (l .file) function)))
   call-accepted =
       subst (λ (called : Function). AcceptedBody (record { fields = fieldsIn (l .file); parameters = called .parameters }) (called .body)) called-is
-      (subst (λ (fields : List Field). AcceptedBody (record { fields = fields; parameters = (functionAt ((contractOfLedger l) .functions) function) .parameters }) ((functionAt ((contractOfLedger l) .functions) function) .body))
+      (subst (λ (fields : List Field). AcceptedBody (record { fields = fields; parameters = (functionAt ((contractIn (l .file)) .functions) function) .parameters }) ((functionAt ((contractIn (l .file)) .functions) function) .body))
       (fields-in (l .file)) (ledger-body-accepted l (call-well-formed l function caller arguments clear) function))
 
   pub call-environment-in : Environment (scopeIn (l .file) (functionStart (l .file) function))
@@ -147,8 +143,8 @@ module _ (l : Ledger) (function caller : ℕ) (arguments : List ℕ) (clear : ca
   call-environment-in =
       subst (λ (called : Function). Environment (record { fields = fieldsIn (l .file); parameters = called .parameters })
       (addressIn (record { fields = fieldsIn (l .file); parameters = called .parameters }) caller arguments opened) arguments opened) called-is
-      (subst (λ (fields : List Field). Environment (record { fields = fields; parameters = (functionAt ((contractOfLedger l) .functions) function) .parameters })
-      (addressIn (record { fields = fields; parameters = (functionAt ((contractOfLedger l) .functions) function) .parameters }) caller arguments opened) arguments opened)
+      (subst (λ (fields : List Field). Environment (record { fields = fields; parameters = (functionAt ((contractIn (l .file)) .functions) function) .parameters })
+      (addressIn (record { fields = fields; parameters = (functionAt ((contractIn (l .file)) .functions) function) .parameters }) caller arguments opened) arguments opened)
       (fields-in (l .file)) (call-environment l function caller arguments clear))
 
   honest-is-of : honestOf caller (suc (l .call)) arguments opened (fieldsIn (l .file)) (functionIn (l .file) start) ≡ honestVariablesOf l function caller arguments

@@ -5,9 +5,8 @@ use Prim.Native.Nat.{ℕ, zero, suc, _+_, _-_, _<_, _≤_}
 use native.Mathlib.Omega.{arith}
 use borrow.Author.Tests.{ne-eqb, lt-ltb, le-ltb, le-leb, lt-leb}
 use lib.ListN.{getD}
-use Rattle.definitions.specs.Syntax.{Name, Owner}
-use Rattle.definitions.specs.ContractFile.{ownerOfCode}
-use Rattle.definitions.specs.Places as places
+use Rattle.definitions.specs.ContractFile.{Name, Owner, ownerOfCode}
+use Rattle.definitions.specs.Original as original
 use Rattle.definitions.specs.Ledger as ledger
 use Rattle.readers.specs.Readers.{readerOfCode, Short}
 use Rattle.readers.specs.declared.Reader.{Reader}
@@ -39,14 +38,14 @@ place-parameter code h =
     let e : 128 + (code - 128) ≡ code = omega arith in
     record { reads = λ addresses. rw (ne-eqb code 0 (λ z. omega arith), ne-eqb code 1 (λ o. omega arith), le-leb 16 code (omega arith), le-ltb code 80 (omega arith), e) }
 
-pub reader-everyone : (addresses : List ℕ) (code : ℕ) → code ≡ 0 → places.Reader.anyone ≡ places.readerOf (addressFrom addresses) (ownerOfCode code)
+pub reader-everyone : (addresses : List ℕ) (code : ℕ) → code ≡ 0 → original.Reader.anyone ≡ original.readerOf (addressFrom addresses) (ownerOfCode code)
 reader-everyone addresses code e = rw e
 
 pub reader-named : (addresses : List ℕ) (code place address : ℕ) → AddressPlace code place → address ≡ getD addresses place 0
-    → places.Reader.only address ≡ places.readerOf (addressFrom addresses) (ownerOfCode code)
-reader-named addresses code place address p e = ap places.Reader.only e ∙ sym (p .reads addresses)
+    → original.Reader.only address ≡ original.readerOf (addressFrom addresses) (ownerOfCode code)
+reader-named addresses code place address p e = ap original.Reader.only e ∙ sym (p .reads addresses)
 
-pub reader-short : (addresses : List ℕ) (code : ℕ) (reader : Reader) → readerOfCode reader ≡ places.readerOf (addressFrom addresses) (ownerOfCode code)
+pub reader-short : (addresses : List ℕ) (code : ℕ) (reader : Reader) → readerOfCode reader ≡ original.readerOf (addressFrom addresses) (ownerOfCode code)
     → NarrowCode addresses code → Short reader
 reader-short addresses code Anyone e narrow = tt
 reader-short addresses code (Only x) e narrow = subst NarrowReader (sym e) narrow
@@ -55,9 +54,9 @@ module _ (address : Name → ℕ) (call i : ℕ) (o : Owner) where
   pub slot-none : (slot : ℕ) → slot ≡ 0 → ledger.Content.plain 0 ≡ contentOfSlot address call i o slot
   slot-none slot e = rw e
 
-  pub slot-some : (slot index v : ℕ) (reader : places.Reader) (content : ledger.Content) → (slot ≡ 0 → ⊥) → reader ≡ places.readerOf address o → index ≡ 8 + i → v ≡ slot - 1
+  pub slot-some : (slot index v : ℕ) (reader : original.Reader) (content : ledger.Content) → (slot ≡ 0 → ⊥) → reader ≡ original.readerOf address o → index ≡ 8 + i → v ≡ slot - 1
       → content ≡ ledger.contentFor reader call index v → content ≡ contentOfSlot address call i o slot
   slot-some zero index v reader content n r e f c = absurd (n refl)
   slot-some (suc x) index v reader content n r e f c =
       let value : v ≡ x = omega arith in
-      c ∙ ap (λ (r : places.Reader). ledger.contentFor r call index v) r ∙ ap₂ (λ (k y : ℕ). ledger.contentFor (places.readerOf address o) call k y) e value
+      c ∙ ap (λ (r : original.Reader). ledger.contentFor r call index v) r ∙ ap₂ (λ (k y : ℕ). ledger.contentFor (original.readerOf address o) call k y) e value

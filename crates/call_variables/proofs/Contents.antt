@@ -7,8 +7,7 @@ use native.Mathlib.Omega.{arith}
 use borrow.Author.Tests.{eq-eqb, ne-eqb}
 use lib.ListN.{length, getD, take, drop, set, length-append}
 use lib.Seq.{drop-cons, take-suc-set, take-all}
-use Rattle.definitions.specs.Syntax.{Name}
-use Rattle.definitions.specs.ContractFile.{ownerOfCode}
+use Rattle.definitions.specs.ContractFile.{Name, ownerOfCode}
 use Rattle.definitions.specs.Ledger.{Content}
 use Rattle.contents.specs.Contents.{contentsOf}
 use Rattle.contents.proofs.Laws.{length-contentsOf}

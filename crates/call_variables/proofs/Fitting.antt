@@ -4,10 +4,10 @@ use mathlib.Core.Bool.{Bool, true, false, _&&_, cond}
 use mathlib.Core.List.{List, [], _∷_, _++_}
 use mathlib.Core.Option.{Option, none, some}
 use Prim.Native.Nat.{ℕ, suc, _+_}
-use Rattle.definitions.specs.Syntax.{Name, meName, finalName, parameterName, Owner, everyone, ownedBy, FieldOwner, toEveryone, toKey, toFinal, Expression, Statement, Parameter, Scope, fieldAt, parameterAt, isFinal, isDivision}
+use Rattle.definitions.specs.ContractFile.{Name, meName, finalName, parameterName, Owner, everyone, ownedBy, FieldOwner, toEveryone, toKey, toFinal, Expression, Statement, Parameter, Scope, fieldAt, parameterAt, isFinal, isDivision}
 use Rattle.definitions.specs.Owners.{Links, isPublicAddress, placeOwner, parameterOwner, nameOf, ownerOf, isPublic, linksAfter}
 use Rattle.definitions.specs.Numbers.{ownerFits, expressionFaults, statementFaults}
-use Rattle.definitions.specs.Written.{Variable, supplied, readFrom, guard, variableOwner, Guard}
+use Rattle.definitions.specs.Rewriting.{Variable, supplied, readFrom, guard, variableOwner, Guard}
 use Rattle.relations.specs.Acceptance.{constantsFit, constantsFitIn, FieldsFit}
 use Rattle.typing.proofs.Basics.{and-left, and-right}
 use Rattle.typing.proofs.Faults.{entry-read-fits, operator-fits, negation-fits, reveal-fits, sequence-fits, assign-field-fits, assign-entry-fits, require-fits, conditional-fits}

@@ -6,7 +6,7 @@ use Prim.Native.Nat.{ℕ, _+_, _<_, _≤_}
 use native.Mathlib.Omega.{arith}
 use lib.ListN.{length, take, drop, replicate, length-append, length-replicate, replicate-append-replicate}
 use lib.Seq.{take-at}
-use Rattle.definitions.specs.Written.{always}
+use Rattle.definitions.specs.Rewriting.{always}
 use Rattle.buffer.specs.Buffer.{stored}
 use Rattle.buffer.proofs.Laws.{stored-nothing, stored-then}
 use Rattle.context.specs.Context.{scopeIn}

@@ -6,12 +6,11 @@ use Prim.Native.Nat.{ℕ, zero, suc, _<_, _≤_}
 use native.Mathlib.Omega.{arith}
 use borrow.Author.Tests.{ltb-true}
 use lib.ListN.{getD, replicate}
-use Rattle.definitions.specs.Syntax.{DataType, boolean, uint, address, Name, meName, Expression, Statement}
+use Rattle.definitions.specs.ContractFile.{DataType, boolean, uint, address, Name, meName, Expression, Statement, isOfType, typeOf}
 use Rattle.definitions.specs.Owners.{Links, linksAfter}
-use Rattle.definitions.specs.DataTypes.{isOfType, typeOf}
 use Rattle.definitions.specs.Numbers.{statementFaults}
 use Rattle.definitions.specs.Original.{value}
-use Rattle.definitions.specs.Written.{Variable, supplied, readFrom, guard, always}
+use Rattle.definitions.specs.Rewriting.{Variable, supplied, readFrom, guard, always}
 use Rattle.relations.specs.Acceptance.{constantsFit, constantsFitIn, FieldsFit}
 use Rattle.relations.specs.Environment.{Environment}
 use Rattle.typing.proofs.Basics.{and-left, and-right}

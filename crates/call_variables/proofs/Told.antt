@@ -7,14 +7,10 @@ use native.Mathlib.Omega.{arith}
 use borrow.Author.Tests.{ltb-true, ltb-false}
 use lib.Dec.{ltb}
 use lib.ListN.{length, getD, replicate, List·getD-eq-default}
-use Rattle.definitions.specs.Syntax.{DataType, boolean, address, Name, meName, finalName, parameterName, Owner, everyone, ownedBy, toEveryone, Field, Expression, Scope, fieldAt, parameterAt, plainField, isFinal, sameType}
-use Rattle.definitions.specs.DataTypes.{isOfType}
-use Rattle.definitions.specs.ContractFile.{ownerOfCode, ownerCode}
-use Rattle.definitions.specs.Nodes.{Node}
+use Rattle.definitions.specs.ContractFile.{DataType, boolean, address, Name, meName, finalName, parameterName, Owner, everyone, ownedBy, toEveryone, Field, Expression, Scope, fieldAt, parameterAt, plainField, isFinal, sameType, isOfType, ownerOfCode, ownerCode, Node}
 use Rattle.definitions.specs.Numbers.{ownerFits}
-use Rattle.definitions.specs.Written.{Variable, supplied, readFrom, guard, variableOwner}
-use Rattle.definitions.specs.Rewriting.{openings}
-use Rattle.definitions.specs.Places.{position, readerOf}
+use Rattle.definitions.specs.Rewriting.{Variable, supplied, readFrom, guard, variableOwner, openings}
+use Rattle.definitions.specs.Original.{position, readerOf}
 use Rattle.definitions.specs.Ledger.{Content, plain, contentFor}
 use Rattle.relations.specs.Acceptance.{FieldsFit}
 use Rattle.relations.specs.Environment.{Environment}

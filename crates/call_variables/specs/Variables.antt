@@ -5,9 +5,8 @@ use mathlib.Core.List.{List, [], _∷_, _++_}
 use Prim.Native.Nat.{ℕ, zero, suc, _+_, _*_, _≤_, _<_}
 use lib.Dec.{eqb}
 use lib.ListN.{length, getD, take, drop, replicate}
-use Rattle.definitions.specs.Syntax.{Name, Owner}
-use Rattle.definitions.specs.ContractFile.{ownerOfCode}
-use Rattle.definitions.specs.Places.{Reader, anyone, only, readerOf}
+use Rattle.definitions.specs.ContractFile.{Name, Owner, ownerOfCode}
+use Rattle.definitions.specs.Original.{Reader, anyone, only, readerOf}
 use Rattle.definitions.specs.Ledger.{Content, plain, contentFor}
 use Rattle.contents.specs.Contents.{contentsOf}
 use Rattle.logged_variables.specs.PerEntry.{FromEntry, perEntry}

@@ -14,7 +14,7 @@ ghost use mathlib.Core.Path.{_≡_};
 ghost use Prim.Native.Nat.{_≤_};
 ghost use lib.ListN.{getD};
 ghost use Rattle.definitions.specs.ContractFile.{ownerOfCode};
-ghost use Rattle.definitions.specs.Places.{readerOf};
+ghost use Rattle.definitions.specs.Original.{readerOf};
 ghost use Rattle.context.specs.Functions.{rootAt};
 ghost use Rattle.contents.specs.Contents.{contentsOf, contentOfCode};
 ghost use Rattle.readers.specs.Readers.{readerOfCode};

@@ -3,13 +3,10 @@ use mathlib.Core.Path.{_≡_, refl, ap, sym, _∙_}
 use mathlib.Core.Bool.{Bool, true, false, cond}
 use mathlib.Core.List.{List, map}
 use Prim.Native.Nat.{ℕ, _<_}
-use Rattle.definitions.specs.Syntax.{Name, Function, functionAt}
-use Rattle.definitions.specs.ContractFile.{functionCount}
-use Rattle.definitions.specs.Nodes.{contractOf}
+use Rattle.definitions.specs.ContractFile.{Name, Function, functionAt, functionCount, contractOf, contractIn}
 use Rattle.definitions.specs.Rewriting.{rewriteFunction}
-use Rattle.definitions.specs.Places.{addressIn}
-use Rattle.definitions.specs.Ledger.{Content, Ledger, State, plainNumber, stateAfter, walkCompletes}
-use Rattle.definitions.specs.Calls.{contractIn, publicOf, callWith}
+use Rattle.definitions.specs.Original.{addressIn}
+use Rattle.definitions.specs.Ledger.{Content, Ledger, State, plainNumber, stateAfter, walkCompletes, publicOf, callWith}
 use Rattle.context.specs.Context.{fieldsIn, parametersIn, scopeIn}
 use Rattle.context.specs.Functions.{functionStart}
 use Rattle.context.proofs.Functions.{function-in}

@@ -4,8 +4,7 @@ use mathlib.Core.List.{List}
 use Prim.Native.Nat.{ℕ, zero, suc, _<_}
 use native.Mathlib.Omega.{arith}
 use Rattle.definitions.specs.Basics.{firstThatHolds}
-use Rattle.definitions.specs.ContractFile.{sectionsOf}
-use Rattle.definitions.specs.Nodes.{contractOf}
+use Rattle.definitions.specs.ContractFile.{sectionsOf, contractOf}
 use Rattle.definitions.specs.Numbers.{checkNumber, contractSentences, orElse}
 use Rattle.reading.specs.Shape.{shapeNumber}
 use Rattle.reading.proofs.Laws.{check-after-shape}

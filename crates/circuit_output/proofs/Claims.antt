@@ -5,8 +5,7 @@ use Prim.Native.Nat.{ℕ, suc, _+_, _-_}
 use lib.ListN.{length}
 use Rattle.definitions.specs.Basics.{twoBytes}
 use Rattle.definitions.specs.ContractFile.{ownerCode}
-use Rattle.definitions.specs.Written.{Claim, equals, opensForCaller, Constraint}
-use Rattle.definitions.specs.WrittenFile.{size, sizes, circuitTree, claimTrees, guardNumber, claimBytes, constraintBytes}
+use Rattle.definitions.specs.Rewriting.{Claim, equals, opensForCaller, Constraint, size, sizes, circuitTree, claimTrees, guardNumber, claimBytes, constraintBytes}
 use Rattle.logged_steps.specs.Held.{Holds}
 use Rattle.written_trees.specs.Numbers.{claimNumbers, constraintNumbers}
 use Rattle.circuit_output.specs.Circuits.{four, sixBytes, sixesFrom}

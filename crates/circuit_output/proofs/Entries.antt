@@ -5,8 +5,7 @@ use Prim.Native.Nat.{ℕ, zero, suc, _+_, _*_, _-_}
 use native.Mathlib.Omega.{arith}
 use borrow.Author.Tests.{eq-eqb, ne-eqb}
 use lib.ListN.{getD}
-use Rattle.definitions.specs.Syntax.{Scope}
-use Rattle.definitions.specs.Nodes.{Node}
+use Rattle.definitions.specs.ContractFile.{Scope, Node}
 use Rattle.circuit_output.specs.Circuits.{claimAt, claimsAt, Claimable, EntryClaimable}
 
 module _ (scope : Scope) (nodes : List Node) (log : List ℕ) (from : ℕ) where

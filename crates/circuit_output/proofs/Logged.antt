@@ -8,11 +8,8 @@ use native.Mathlib.Numerals.{add-one}
 use lib.Dec.{eqb}
 use lib.ListN.{length, getD}
 use Rattle.definitions.specs.Basics.{flatMap}
-use Rattle.definitions.specs.Syntax.{Scope, Owner}
-use Rattle.definitions.specs.ContractFile.{ownerCode}
-use Rattle.definitions.specs.Nodes.{Node}
-use Rattle.definitions.specs.Written.{Guard}
-use Rattle.definitions.specs.WrittenFile.{Tree, size, sizes, claimTrees, guardNumber}
+use Rattle.definitions.specs.ContractFile.{Scope, Owner, ownerCode, Node}
+use Rattle.definitions.specs.Rewriting.{Guard, Tree, size, sizes, claimTrees, guardNumber}
 use Rattle.trees.specs.Trees.{expressionIn}
 use Rattle.events.specs.Events.{Event, claimedEvent, constraintsOf}
 use Rattle.entries.specs.Entries.{suppliedEntry, claimedEntry, readEntry, guardEntry, Entries, noEntry, entryThen}

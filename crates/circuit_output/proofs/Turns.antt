@@ -6,7 +6,7 @@ use native.Mathlib.Omega.{arith}
 use native.Mathlib.Numerals.{add-one}
 use lib.ListN.{length}
 use Rattle.definitions.specs.Basics.{flatMap}
-use Rattle.definitions.specs.WrittenFile.{size, sizes, numbered, numberedAll, nodeBytes}
+use Rattle.definitions.specs.Rewriting.{size, sizes, numbered, numberedAll, nodeBytes}
 use Rattle.buffer.specs.Buffer.{stored}
 use Rattle.buffer.proofs.Laws.{stored-nothing, stored-length}
 use Rattle.node_output.specs.Numbering.{treeBytes, Room, Numbered}

@@ -6,10 +6,8 @@ use Prim.Native.Nat.{ℕ, zero, suc, _+_, _*_, _-_, _<_, _≤_}
 use lib.Dec.{eqb}
 use lib.ListN.{length, getD}
 use Rattle.definitions.specs.Basics.{flatMap, twoBytes}
-use Rattle.definitions.specs.Syntax.{Scope}
-use Rattle.definitions.specs.ContractFile.{nodeCount}
-use Rattle.definitions.specs.Nodes.{Node}
-use Rattle.definitions.specs.WrittenFile.{Tree, size, sizes, numberedAll, nodeBytes}
+use Rattle.definitions.specs.ContractFile.{Scope, nodeCount, Node}
+use Rattle.definitions.specs.Rewriting.{Tree, size, sizes, numberedAll, nodeBytes}
 use Rattle.trees.specs.Trees.{expressionIn}
 use Rattle.buffer.specs.Buffer.{stored}
 use Rattle.context.specs.Context.{nodesIn, scopeIn}

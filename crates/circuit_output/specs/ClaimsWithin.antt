@@ -1,7 +1,7 @@
 -- Claimed events whose circuits can be written.
 use mathlib.Core.List.{List, [], _∷_}
 use Prim.Native.Nat.{ℕ, suc, _+_, _≤_}
-use Rattle.definitions.specs.Syntax.{Scope}
+use Rattle.definitions.specs.ContractFile.{Scope}
 use Rattle.events.specs.Events.{Event, suppliedEvent, claimedEvent, readEvent, guardEvent}
 use Rattle.variable_counts.specs.Counts.{circuitCount}
 

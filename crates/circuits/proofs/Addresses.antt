@@ -7,8 +7,8 @@ use native.Mathlib.Omega.{arith}
 use borrow.Author.Tests.{ltb-true, ltb-false}
 use lib.Dec.{ltb}
 use lib.ListN.{length, getD, List·getD-eq-default}
-use Rattle.definitions.specs.Syntax.{Name, meName, finalName, parameterName, Scope, fieldAt, plainField, boolean, toEveryone}
-use Rattle.definitions.specs.Places.{addressIn}
+use Rattle.definitions.specs.ContractFile.{Name, meName, finalName, parameterName, Scope, fieldAt, plainField, boolean, toEveryone}
+use Rattle.definitions.specs.Original.{addressIn}
 use Rattle.circuits.specs.Circuits.{addressFrom}
 
 module _ (scope : Scope) (caller : ℕ) (arguments places addresses : List ℕ) (few : length (scope .fields) ≤ 64) where

@@ -3,9 +3,9 @@ use mathlib.Core.Path.{_≡_}
 use mathlib.Core.List.{List}
 use Prim.Native.Nat.{ℕ}
 use lib.ListN.{getD}
-use Rattle.definitions.specs.Syntax.{DataType, Operator}
+use Rattle.definitions.specs.ContractFile.{DataType, Operator}
 use Rattle.definitions.specs.Original.{operate, negate}
-use Rattle.definitions.specs.Written.{Circuit}
+use Rattle.definitions.specs.Rewriting.{Circuit}
 use Rattle.definitions.specs.Ledger.{circuitValue, contentAt, plainNumber, openedNumber}
 use Rattle.contents.specs.Contents.{contentsOf}
 use Rattle.circuits.specs.Circuits.{valueFrom}

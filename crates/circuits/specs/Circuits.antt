@@ -5,9 +5,8 @@ use Prim.Native.Nat.{ℕ, zero, suc, _+_, _-_, _/_}
 use lib.Dec.{eqb, ltb}
 use lib.ListN.{length, getD}
 use Rattle.definitions.specs.Basics.{all}
-use Rattle.definitions.specs.Syntax.{Name, meName, finalName, parameterName}
-use Rattle.definitions.specs.ContractFile.{NodeRecord, ownerOfCode}
-use Rattle.definitions.specs.Written.{Circuit, Claim, equals, opensForCaller, Guard, always, under, Constraint}
+use Rattle.definitions.specs.ContractFile.{Name, meName, finalName, parameterName, NodeRecord, ownerOfCode}
+use Rattle.definitions.specs.Rewriting.{Circuit, Claim, equals, opensForCaller, Guard, always, under, Constraint}
 use Rattle.definitions.specs.Ledger.{circuitValue, constraintHolds}
 use Rattle.contents.specs.Contents.{contentsOf}
 use Rattle.written_trees.specs.Trees.{circuitIn}

@@ -8,9 +8,7 @@ use native.Mathlib.Omega.{arith}
 use borrow.Author.Tests.{eqb-true, ne-eqb, lt-ltb, le-ltb, le-leb, lt-leb, ltb-true, leb-true}
 use lib.Dec.{eqb, leb, ltb}
 use lib.ListN.{getD}
-use Rattle.definitions.specs.Syntax.{DataType, meName, finalName, parameterName, everyone, ownedBy, toEveryone, toKey, toFinal, Operator, dataTypeCode, isDivision, isEveryone}
-use Rattle.definitions.specs.ContractFile.{isFinalCode, ownerOfCode, fieldOwnerOfCode, operatorOf}
-use Rattle.definitions.specs.DataTypes.{operandsFit, resultType}
+use Rattle.definitions.specs.ContractFile.{DataType, meName, finalName, parameterName, everyone, ownedBy, toEveryone, toKey, toFinal, Operator, dataTypeCode, isDivision, isEveryone, isFinalCode, ownerOfCode, fieldOwnerOfCode, operatorOf, operandsFit, resultType}
 use Rattle.definitions.specs.Owners.{isReader, placeOwner, ownerOfParts}
 use Rattle.definitions.specs.Numbers.{targetInTables, isTagged, isNone, mayBePut, fault}
 use Rattle.links.specs.Names.{nameOfCode, nameWith, linkedBy}

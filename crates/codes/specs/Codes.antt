@@ -3,8 +3,7 @@ use mathlib.Core.Bool.{Bool, _&&_, _||_, cond}
 use Prim.Native.Nat.{ℕ}
 use lib.Dec.{eqb, leb}
 use Rattle.definitions.specs.Basics.{isZero}
-use Rattle.definitions.specs.Syntax.{Operator, operatorCode}
-use Rattle.definitions.specs.ContractFile.{isFinalCode}
+use Rattle.definitions.specs.ContractFile.{Operator, operatorCode, isFinalCode}
 
 abbrev pub fitCodes : Operator → ℕ → ℕ → Bool
 fitCodes o left right =

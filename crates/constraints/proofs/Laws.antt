@@ -8,9 +8,8 @@ use borrow.Author.Tests.{eq-eqb, ne-eqb, lt-ltb, le-ltb, le-leb, lt-leb}
 use lib.Dec.{eqb}
 use lib.ListN.{length, getD}
 use Rattle.definitions.specs.Basics.{all}
-use Rattle.definitions.specs.Syntax.{ownedBy, parameterName}
-use Rattle.definitions.specs.ContractFile.{NodeRecord, ownerOfCode, isFinalCode}
-use Rattle.definitions.specs.Places.{anyone, only, readerOf}
+use Rattle.definitions.specs.ContractFile.{ownedBy, parameterName, NodeRecord, ownerOfCode, isFinalCode}
+use Rattle.definitions.specs.Original.{anyone, only, readerOf}
 use Rattle.definitions.specs.Ledger.{Content, contentAt, isContentOf, opensFor, isSet, plainNumber, claimHolds, circuitValue}
 use Rattle.contents.specs.Contents.{contentsOf}
 use Rattle.written_trees.specs.Trees.{circuitIn}

@@ -8,10 +8,8 @@ use borrow.Author.Tests.{ne-eqb, lt-ltb, le-ltb, le-leb}
 use lib.ListN.{length, getD, length-append}
 use lib.Seq.{getD-append-add}
 use Rattle.definitions.specs.Basics.{flatMap}
-use Rattle.definitions.specs.Syntax.{Owner, everyone, ownedBy, meName, finalName, parameterName}
-use Rattle.definitions.specs.ContractFile.{NodeRecord, ownerOfCode, ownerCode}
-use Rattle.definitions.specs.Written.{Circuit, Claim, equals, opensForCaller, Guard, always, under, Constraint}
-use Rattle.definitions.specs.WrittenFile.{Tree, size, sizes, numbered, numberedAll, circuitTree, claimTrees, guardNumber}
+use Rattle.definitions.specs.ContractFile.{Owner, everyone, ownedBy, meName, finalName, parameterName, NodeRecord, ownerOfCode, ownerCode}
+use Rattle.definitions.specs.Rewriting.{Circuit, Claim, equals, opensForCaller, Guard, always, under, Constraint, Tree, size, sizes, numbered, numberedAll, circuitTree, claimTrees, guardNumber}
 use Rattle.written_trees.specs.Trees.{circuitIn}
 use Rattle.written_trees.proofs.Numbering.{size-positive, numbered-length}
 use Rattle.written_trees.proofs.RoundTrip.{circuit-is-back}

@@ -1,8 +1,8 @@
 -- A function's constraints as flat numbers: guard, variable, owner code and root of each.
 use mathlib.Core.List.{List, [], _∷_}
 use Prim.Native.Nat.{_<_}
-use Rattle.definitions.specs.Syntax.{Owner, everyone, ownedBy, meName, finalName, parameterName}
-use Rattle.definitions.specs.Written.{Claim, equals, opensForCaller, Constraint}
+use Rattle.definitions.specs.ContractFile.{Owner, everyone, ownedBy, meName, finalName, parameterName}
+use Rattle.definitions.specs.Rewriting.{Claim, equals, opensForCaller, Constraint}
 
 -- A name that has an owner code: of a final, a field below 64.
 abbrev pub HasCode : Owner → Type 0

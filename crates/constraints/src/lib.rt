@@ -12,7 +12,7 @@ ghost use mathlib.Core.Bool.{_&&_};
 ghost use lib.Dec.{eqb};
 ghost use lib.ListN.{length};
 ghost use Rattle.definitions.specs.ContractFile.{ownerOfCode};
-ghost use Rattle.definitions.specs.Places.{anyone, only, readerOf};
+ghost use Rattle.definitions.specs.Original.{anyone, only, readerOf};
 ghost use Rattle.definitions.specs.Ledger.{contentAt, isContentOf, opensFor, isSet, claimHolds};
 ghost use Rattle.contents.specs.Contents.{contentOfCode, contentsOf};
 ghost use Rattle.written_trees.specs.Trees.{circuitIn};

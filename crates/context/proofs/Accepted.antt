@@ -9,8 +9,7 @@ use borrow.Author.Tests.{ltb-true, ltb-false, leb-false, not-false}
 use lib.Dec.{leb, ltb}
 use lib.ListN.{length, getD, length-map, List·getD-eq-default}
 use Rattle.definitions.specs.Basics.{all, any, anyNumbered, isZero}
-use Rattle.definitions.specs.ContractFile.{FieldRecord, FunctionRecord, NodeRecord, byteAt, fieldCount, functionCount, functionsAt, functionEnd, functionsEnd, nodesAt, nodeCount, fieldRecords, parameterRecords, functionRecord, functionRecords, nodeRecord, sectionsOf, fieldOf}
-use Rattle.definitions.specs.Nodes.{Node, unknownNode, nodeOf, nodeAt, children, expressionParts, statementParts, isExpression, isStatement, fieldsNamed}
+use Rattle.definitions.specs.ContractFile.{FieldRecord, FunctionRecord, NodeRecord, byteAt, fieldCount, functionCount, functionsAt, functionEnd, functionsEnd, nodesAt, nodeCount, fieldRecords, parameterRecords, functionRecord, functionRecords, nodeRecord, sectionsOf, fieldOf, Node, unknownNode, nodeOf, nodeAt, children, expressionParts, statementParts, isExpression, isStatement, fieldsNamed}
 use Rattle.definitions.specs.Numbers.{countOffLimits, fieldInTables, parameterInTables, nodeInTables, outsideTables, fieldOfDeclaredOwner, namesNothing, wrongSort}
 use Rattle.trees.specs.Trees.{Falling}
 use Rattle.trees.proofs.Falls.{nodes-fall}

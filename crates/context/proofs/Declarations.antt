@@ -5,8 +5,7 @@ use mathlib.Core.List.{List, map}
 use Prim.Native.Nat.{ℕ, zero, suc, _+_, _*_, _<_, _≤_}
 use native.Mathlib.Omega.{arith}
 use lib.ListN.{length, getD, length-map, List·getD-eq-default}
-use Rattle.definitions.specs.Syntax.{Field, Parameter, fieldAt, parameterAt, plainField, boolean, toEveryone}
-use Rattle.definitions.specs.ContractFile.{byteAt, fieldCount, fieldRecords, parameterRecords, fieldOf, parameterOf}
+use Rattle.definitions.specs.ContractFile.{Field, Parameter, fieldAt, parameterAt, plainField, boolean, toEveryone, byteAt, fieldCount, fieldRecords, parameterRecords, fieldOf, parameterOf}
 use Rattle.file.proofs.Sections.{fields-are}
 use Rattle.context.specs.Context.{fieldsIn, parametersIn, fieldRecordAt, parameterRecordAt}
 

@@ -5,9 +5,7 @@ use Prim.Native.Nat.{ℕ, zero, suc, _+_, _<_}
 use mathlib.Core.Bool.{false}
 use native.Mathlib.Omega.{arith}
 use lib.ListN.{length, getD, length-map, List·getD-map}
-use Rattle.definitions.specs.Syntax.{functionAt}
-use Rattle.definitions.specs.ContractFile.{FunctionRecord, functionCount, functionsAt, functionRecord, nodeCount, sectionsOf}
-use Rattle.definitions.specs.Nodes.{nodeOf, functionOf, contractOf}
+use Rattle.definitions.specs.ContractFile.{functionAt, FunctionRecord, functionCount, functionsAt, functionRecord, nodeCount, sectionsOf, nodeOf, functionOf, contractOf}
 use Rattle.definitions.specs.Numbers.{namesNothing}
 use Rattle.trees.specs.Trees.{statementIn}
 use Rattle.file.proofs.Sections.{functions-are, count-of-nodes}

@@ -8,9 +8,7 @@ use borrow.Author.Tests.{ne-eqb, ltb-true, ltb-false}
 use lib.Dec.{eqb, ltb}
 use lib.ListN.{getD, length-map, List·getD-map, List·getD-eq-default}
 use Rattle.definitions.specs.Basics.{all}
-use Rattle.definitions.specs.Syntax.{Expression, Statement}
-use Rattle.definitions.specs.ContractFile.{NodeRecord, nodesAt, nodeCount, nodeRecord, sectionsOf, dataTypeOf, ownerOfCode, operatorOf}
-use Rattle.definitions.specs.Nodes.{Kind, constantKind, meKind, fieldKind, entryKind, parameterKind, operatorKind, negationKind, revealKind, skipKind, sequenceKind, assignFieldKind, assignEntryKind, requireKind, conditionalKind, noKind, kindOf, Node, unknownNode, nodeOfKind, nodeOf, nodeAt, children, expressionParts, statementParts, expressionOf}
+use Rattle.definitions.specs.ContractFile.{Expression, Statement, NodeRecord, nodesAt, nodeCount, nodeRecord, sectionsOf, dataTypeOf, ownerOfCode, operatorOf, Kind, constantKind, meKind, fieldKind, entryKind, parameterKind, operatorKind, negationKind, revealKind, skipKind, sequenceKind, assignFieldKind, assignEntryKind, requireKind, conditionalKind, noKind, kindOf, Node, unknownNode, nodeOfKind, nodeOf, nodeAt, children, expressionParts, statementParts, expressionOf}
 use Rattle.definitions.specs.Numbers.{kindInTables}
 use Rattle.trees.specs.Trees.{expressionIn, Keeps}
 use Rattle.trees.proofs.Unfolding.{expression-unfolds}

@@ -6,9 +6,7 @@ use Prim.Native.Nat.{ℕ, _+_, _*_, _<_}
 use borrow.Author.Tests.{ne-eqb, ltb-true}
 use lib.Dec.{eqb, ltb}
 use Rattle.definitions.specs.Basics.{all}
-use Rattle.definitions.specs.Syntax.{Statement}
-use Rattle.definitions.specs.ContractFile.{NodeRecord, nodeCount, nodeRecord}
-use Rattle.definitions.specs.Nodes.{Kind, constantKind, meKind, fieldKind, entryKind, parameterKind, operatorKind, negationKind, revealKind, skipKind, sequenceKind, assignFieldKind, assignEntryKind, requireKind, conditionalKind, noKind, kindOf, Node, nodeOfKind, expressionParts, statementParts, statementOf}
+use Rattle.definitions.specs.ContractFile.{Statement, NodeRecord, nodeCount, nodeRecord, Kind, constantKind, meKind, fieldKind, entryKind, parameterKind, operatorKind, negationKind, revealKind, skipKind, sequenceKind, assignFieldKind, assignEntryKind, requireKind, conditionalKind, noKind, kindOf, Node, nodeOfKind, expressionParts, statementParts, statementOf}
 use Rattle.trees.specs.Trees.{expressionIn, statementIn}
 use Rattle.trees.proofs.Unfolding.{statement-unfolds}
 use Rattle.context.specs.Context.{nodesIn, Context}

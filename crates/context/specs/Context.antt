@@ -4,9 +4,7 @@ use mathlib.Core.Bool.{true}
 use mathlib.Core.List.{List, map}
 use Prim.Native.Nat.{ℕ, _+_, _*_, _<_, _≤_}
 use Rattle.definitions.specs.Basics.{all}
-use Rattle.definitions.specs.Syntax.{Field, Parameter, Scope}
-use Rattle.definitions.specs.ContractFile.{FieldRecord, ParameterRecord, byteAt, fieldCount, nodesAt, nodeCount, nodeRecord, parameterRecords, sectionsOf, fieldOf, parameterOf}
-use Rattle.definitions.specs.Nodes.{Node, nodeOf, nodeAt, isExpression, isStatement, expressionParts, statementParts}
+use Rattle.definitions.specs.ContractFile.{Field, Parameter, Scope, FieldRecord, ParameterRecord, byteAt, fieldCount, nodesAt, nodeCount, nodeRecord, parameterRecords, sectionsOf, fieldOf, parameterOf, Node, nodeOf, nodeAt, isExpression, isStatement, expressionParts, statementParts}
 use Rattle.definitions.specs.Numbers.{fieldInTables, nodeInTables}
 use Rattle.trees.specs.Trees.{Falling}
 

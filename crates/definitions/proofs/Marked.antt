@@ -3,7 +3,7 @@ use mathlib.Core.List.{List, [], _∷_, _++_, List·Memᴰ}
 use Prim.Native.Nat.{ℕ, zero, suc, _-_}
 use lib.ListN.{length, take}
 use Rattle.definitions.specs.Basics.{twoBytes, flatMap}
-use Rattle.definitions.specs.Runs.{Request}
+use Rattle.definitions.specs.View.{Request}
 use Rattle.definitions.proofs.Cases.{Case, hasNumber, isWritten, isReported, hasSection, adds, isViewed, isDisclosed, Holds, allPass, each-holds}
 
 -- "Final h; uint `count` owned by h; one function, private uint r, `count` takes reveal of r to h."

@@ -22,8 +22,7 @@ unfoldable pub any : {A : Type 0} → (A → Bool) → List A → Bool
 any test [] = false
 any test (x ∷ xs) = test x || any test xs
 
--- Some element passes a test that also sees its number, counted from the one given.
-unfoldable pub anyNumbered : {A : Type 0} → (ℕ → A → Bool) → ℕ → List A → Bool
+unfoldable pub anyNumbered : {A : Type 0} → (ℕ → A → Bool) → ℕ → List A → Bool  -- The test also sees an element's number, counted from the one given.
 anyNumbered test n [] = false
 anyNumbered test n (x ∷ xs) = test n x || anyNumbered test (suc n) xs
 
@@ -38,19 +37,14 @@ largest (n ∷ ns) = max n (largest ns)
 abbrev pub isZero : ℕ → Bool
 isZero n = eqb n 0
 
--- A bool's value: 1 for true, 0 for false.
-abbrev pub bit : Bool → ℕ
+abbrev pub bit : Bool → ℕ  -- A bool's value: 1 for true, 0 for false.
 bit b = cond b 1 0
 
 abbrev pub isTrue : ℕ → Bool
 isTrue n = not (isZero n)
 
--- 01, The contract file: "Numbers of several bytes are low byte first."
-abbrev pub twoBytes : ℕ → List ℕ
+abbrev pub twoBytes : ℕ → List ℕ  -- 01, The contract file: "Numbers of several bytes are low byte first."
 twoBytes n = n % 256 ∷ n / 256 % 256 ∷ []
-
-abbrev pub fourBytes : ℕ → List ℕ
-fourBytes n = n % 256 ∷ n / 256 % 256 ∷ n / 65536 % 256 ∷ n / 16777216 % 256 ∷ []
 
 -- 01, Numbers: "The first sentence that holds gives the number; 0 means accepted." The first of the sentences has the number given.
 unfoldable pub firstThatHolds : ℕ → List Bool → ℕ

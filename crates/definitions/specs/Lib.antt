@@ -1,17 +1,9 @@
 pub mod Basics
-pub mod Syntax
 pub mod ContractFile
-pub mod Nodes
 pub mod Owners
-pub mod DataTypes
 pub mod Numbers
-pub mod Written
 pub mod Rewriting
-pub mod WrittenFile
-pub mod Places
 pub mod Original
 pub mod Ledger
-pub mod Calls
 pub mod View
 pub mod Report
-pub mod Runs

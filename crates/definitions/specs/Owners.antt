@@ -1,32 +1,26 @@
 -- 01, Owners: names, links, and what each expression belongs to.
 use Rattle.definitions.specs.Basics.{Bool, true, _&&_, _||_, cond, not, Option, none, some}
-use Rattle.definitions.specs.Syntax.{address, Name, meName, finalName, parameterName, Owner, everyone, ownedBy, FieldOwner, toEveryone, toKey, toFinal, equal, conjunction, Expression, constant, me, field, entry, parameter, operator, negation, reveal, Statement, skip, sequence, assignField, assignEntry, require, conditional, Scope, Parameter, fieldAt, parameterAt, sameType, sameName, isEveryone, isFinal, isOperator}
+use Rattle.definitions.specs.ContractFile.{address, Name, meName, finalName, parameterName, Owner, everyone, ownedBy, FieldOwner, toEveryone, toKey, toFinal, equal, conjunction, Expression, constant, me, field, entry, parameter, operator, negation, reveal, Statement, skip, sequence, assignField, assignEntry, require, conditional, Scope, Parameter, fieldAt, parameterAt, sameType, sameName, isEveryone, isFinal, isOperator}
 
--- Which names are linked.
-abbrev pub Links : Type 0
+abbrev pub Links : Type 0  -- Which names are linked.
 Links = Name → Name → Bool
 
--- A name is linked to itself: "(the same name counts)".
-abbrev pub noLinks : Links
+abbrev pub noLinks : Links  -- A name is linked to itself: "(the same name counts)".
 noLinks = sameName
 
--- "Links are chained."
-unfoldable pub withLink : Name → Name → Links → Links
+unfoldable pub withLink : Name → Name → Links → Links  -- "Links are chained."
 withLink x y linked a b = linked a b || (linked a x && linked y b) || (linked a y && linked x b)
 
 abbrev pub withLinkOf : Option Name → Option Name → Links → Links
-withLinkOf none right linked = linked
-withLinkOf (some x) right linked = elim right [ none ↦ linked | some y ↦ withLink x y linked ]
+withLinkOf left right linked = elim left [ none ↦ linked | some x ↦ elim right [ none ↦ linked | some y ↦ withLink x y linked ] ]
 
 abbrev pub isPublicAddress : Parameter → Bool
 isPublicAddress p = sameType (p .type) address && not (p .private)
 
--- "An operator or not belongs to all when its operands do, otherwise to the caller."
-abbrev pub ownerOfParts : Owner → Owner → Owner
+abbrev pub ownerOfParts : Owner → Owner → Owner  -- "An operator or not belongs to all when its operands do, otherwise to the caller."
 ownerOfParts left right = cond (isEveryone left && isEveryone right) everyone (ownedBy meName)
 
--- "a place (kinds 3 to 5) to its declared owner (tag: the name used as key)". A tag with no name is number 10.
-abbrev pub placeOwner : FieldOwner → Option Name → Owner
+abbrev pub placeOwner : FieldOwner → Option Name → Owner  -- "a place (kinds 3 to 5) to its declared owner (tag: the name used as key)". A tag with no name is number 10.
 placeOwner toEveryone key = everyone
 placeOwner (toFinal f) key = ownedBy (finalName f)
 placeOwner toKey key = ownedBy (elim key [ none ↦ meName | some n ↦ n ])
@@ -34,13 +28,11 @@ placeOwner toKey key = ownedBy (elim key [ none ↦ meName | some n ↦ n ])
 abbrev pub parameterOwner : Parameter → Owner
 parameterOwner p = cond (p .private) (ownedBy meName) everyone
 
--- "A name linked to me is the caller": an owner that is all or the caller.
-abbrev pub isReader : Links → Owner → Bool
+abbrev pub isReader : Links → Owner → Bool  -- "A name linked to me is the caller": an owner that is all or the caller.
 isReader linked = elim [ everyone ↦ true | ownedBy n ↦ linked n meName ]
 
 module _ (scope : Scope) where
-  -- "A name is me, a final, or a public address parameter."
-  unfoldable pub nameOf : Expression → Option Name
+  unfoldable pub nameOf : Expression → Option Name  -- "A name is me, a final, or a public address parameter."
   nameOf (constant t v) = none
   nameOf me = some meName
   nameOf (field f) = cond (isFinal ((fieldAt (scope .fields) f) .shape)) (some (finalName f)) none
@@ -50,8 +42,7 @@ module _ (scope : Scope) where
   nameOf (negation part) = none
   nameOf (reveal part o) = none
 
-  -- "A constant and me belong to all; a place .. to its declared owner ..; a reveal to its target."
-  unfoldable pub ownerOf : Expression → Owner
+  unfoldable pub ownerOf : Expression → Owner  -- "A constant and me belong to all; a place .. to its declared owner ..; a reveal to its target."
   ownerOf (constant t v) = everyone
   ownerOf me = everyone
   ownerOf (field f) = placeOwner ((fieldAt (scope .fields) f) .owner) none
@@ -64,21 +55,18 @@ module _ (scope : Scope) where
   abbrev pub isPublic : Expression → Bool
   isPublic e = isEveryone (ownerOf e)
 
-  -- "A completed require of name == name, or of an "and" tree holding such, links the two names"
-  unfoldable pub linksOfCondition : Expression → Links → Links
+  unfoldable pub linksOfCondition : Expression → Links → Links  -- "A completed require of name == name, or of an "and" tree holding such, links the two names"
   linksOfCondition (constant t v) linked = linked
   linksOfCondition me linked = linked
   linksOfCondition (field f) linked = linked
   linksOfCondition (entry f key) linked = linked
   linksOfCondition (parameter k) linked = linked
-  linksOfCondition (operator o left right) linked =
-      cond (isOperator o equal) (withLinkOf (nameOf left) (nameOf right) linked)
+  linksOfCondition (operator o left right) linked = cond (isOperator o equal) (withLinkOf (nameOf left) (nameOf right) linked)
       (cond (isOperator o conjunction) (linksOfCondition right (linksOfCondition left linked)) linked)
   linksOfCondition (negation part) linked = linked
   linksOfCondition (reveal part o) linked = linked
 
-  -- ".. for what follows in sequence. An if gives on the links it was given, and nothing from inside."
-  unfoldable pub linksAfter : Statement → Links → Links
+  unfoldable pub linksAfter : Statement → Links → Links  -- ".. for what follows in sequence. An if gives on the links it was given, and nothing from inside."
   linksAfter skip linked = linked
   linksAfter (sequence first second) linked = linksAfter second (linksAfter first linked)
   linksAfter (assignField f value) linked = linked

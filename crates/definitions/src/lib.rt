@@ -1,7 +1,7 @@
 // 01, The contract file: "Uint arithmetic is modulo 4,294,967,296." The code of the three wrapping operators; the paper's definitions
 // are in specs/.
 ghost use mathlib.Core.Path.{_≡_};
-ghost use Rattle.definitions.specs.Syntax.{plus, minus, times};
+ghost use Rattle.definitions.specs.ContractFile.{plus, minus, times};
 ghost use Rattle.definitions.specs.Original.{operate};
 
 pub fn sum(left: u32, right: u32) -> u32

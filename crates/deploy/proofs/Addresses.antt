@@ -10,9 +10,9 @@ use lib.Dec.{eqb, ltb}
 use lib.ListN.{length, getD, drop, drop-of-length-le}
 use lib.Seq.{drop-cons}
 use Rattle.definitions.specs.Basics.{any, countIf, firstThatHolds}
-use Rattle.definitions.specs.Syntax.{Field, fieldAt, isFinal}
+use Rattle.definitions.specs.ContractFile.{Field, fieldAt, isFinal, contractIn}
 use Rattle.definitions.specs.Numbers.{checkNumber, orElse}
-use Rattle.definitions.specs.Calls.{contractIn, finalsOff, deployNumber}
+use Rattle.definitions.specs.Ledger.{finalsOff, deployNumber}
 use Rattle.context.specs.Context.{fieldsIn}
 use Rattle.context.proofs.Functions.{fields-in}
 use Rattle.deploy.specs.Deployments.{addressesNumber}

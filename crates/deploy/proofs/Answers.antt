@@ -7,7 +7,7 @@ use native.Mathlib.Omega.{arith}
 use borrow.Author.Tests.{eq-eqb, ne-eqb}
 use Rattle.definitions.specs.Basics.{isZero}
 use Rattle.definitions.specs.Ledger as ledger
-use Rattle.definitions.specs.Calls.{deployNumber, deployed}
+use Rattle.definitions.specs.Ledger.{deployNumber, deployed}
 use Rattle.ledgers.specs.declared.Ledger.{Ledger}
 use Rattle.ledgers.specs.Ledgers.{ledgerOf}
 use Rattle.deploy.specs.declared.Deployment.{Deployment}

@@ -10,7 +10,7 @@ use lib.ListN.{length}
 use Rattle.definitions.specs.Basics.{any, isZero}
 use Rattle.definitions.specs.ContractFile.{FunctionRecord, byteAt, fieldCount, functionCount, functionsAt, functionEnd, functionsEnd, nodesAt, nodeCount, fileEnd, parameterRecords, functionRecord, functionRecords, sectionsOf}
 use Rattle.definitions.specs.Numbers.{endsWrongly, countOffLimits, checkNumber, orElse}
-use Rattle.definitions.specs.Calls.{deployNumber}
+use Rattle.definitions.specs.Ledger.{deployNumber}
 use Rattle.file.proofs.Laws.{force-is}
 use Rattle.file.proofs.Sections.{functions-are}
 use Rattle.nodes.proofs.Truth.{either-false}

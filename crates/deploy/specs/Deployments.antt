@@ -4,8 +4,9 @@ use mathlib.Core.Bool.{cond}
 use mathlib.Core.List.{List, [], _∷_}
 use Prim.Native.Nat.{ℕ}
 use Rattle.definitions.specs.Basics.{isZero, firstThatHolds}
+use Rattle.definitions.specs.ContractFile.{contractIn}
 use Rattle.definitions.specs.Ledger as ledger
-use Rattle.definitions.specs.Calls.{contractIn, finalsOff, deployNumber, deployed}
+use Rattle.definitions.specs.Ledger.{finalsOff, deployNumber, deployed}
 use Rattle.ledgers.specs.Ledgers.{ledgerOf}
 use Rattle.deploy.specs.declared.Deployment.{Deployment}
 

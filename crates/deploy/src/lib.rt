@@ -6,11 +6,10 @@ ghost use mathlib.Core.Path.{_≡_};
 ghost use mathlib.Core.Bool.{cond};
 ghost use Prim.Native.Nat.{_<_, _≤_};
 ghost use Rattle.definitions.specs.Basics.{any, countIf};
-ghost use Rattle.definitions.specs.Syntax.{fieldAt, isFinal};
-ghost use Rattle.definitions.specs.ContractFile.{fieldCount};
+ghost use Rattle.definitions.specs.ContractFile.{fieldAt, isFinal, fieldCount};
 ghost use lib.Dec.{ltb};
 ghost use Rattle.definitions.specs.Numbers.{orElse};
-ghost use Rattle.definitions.specs.Calls.{deployNumber};
+ghost use Rattle.definitions.specs.Ledger.{deployNumber};
 ghost use Rattle.context.specs.Context.{fieldsIn};
 ghost use Rattle.deploy.specs.Deployments.{addressesNumber, Deployed, Refused};
 

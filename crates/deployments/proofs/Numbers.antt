@@ -12,9 +12,8 @@ use lib.ListN.{length, getD, set, drop, replicate, length-append, length-replica
 use lib.Seq.{drop-cons, drop-drop, getD-drop}
 use Rattle.buffer.specs.Buffer.{stored}
 use Rattle.buffer.proofs.Laws.{stored-one, stored-then, stored-nothing}
-use Rattle.definitions.specs.Syntax.{Field, fieldAt, isFinal}
-use Rattle.definitions.specs.ContractFile.{byteAt, fieldCount, shapeOf, fieldOf}
-use Rattle.definitions.specs.Places.{placeCount, deployedNumbers}
+use Rattle.definitions.specs.ContractFile.{Field, fieldAt, isFinal, byteAt, fieldCount, shapeOf, fieldOf}
+use Rattle.definitions.specs.Original.{placeCount, deployedNumbers}
 use Rattle.context.specs.Context.{fieldsIn}
 use Rattle.context.proofs.Declarations.{field-declared}
 

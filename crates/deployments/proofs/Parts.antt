@@ -8,13 +8,9 @@ use native.Mathlib.Omega.{arith}
 use lib.ListN.{length, getD, set, take, drop, replicate, length-append, length-map, length-replicate}
 use lib.Seq.{getD-drop, take-at, take-suc, take-suc-set, take-all}
 use Rattle.buffer.specs.Buffer.{stored}
-use Rattle.definitions.specs.Syntax.{Field, Shape, plainField, finalField, mapping, isFinal, isMapping}
-use Rattle.definitions.specs.Nodes.{contractOf}
-use Rattle.definitions.specs.Places as places
-use Rattle.definitions.specs.Places.{numbersFrom, placeCount, perPlace, deployedNumbers}
-use Rattle.definitions.specs.Calls.{contractIn}
+use Rattle.definitions.specs.ContractFile.{Field, Shape, plainField, finalField, mapping, isFinal, isMapping, contractOf, fieldCount, contractIn}
+use Rattle.definitions.specs.Original.{numbersFrom, placeCount, perPlace, deployedNumbers}
 use Rattle.context.specs.Context.{fieldsIn}
-use Rattle.definitions.specs.ContractFile.{fieldCount}
 use Rattle.deployments.specs.Deployments.{Deployable}
 use Rattle.deployments.proofs.Places.{length-numbers, asked}
 

@@ -6,9 +6,9 @@ use native.Mathlib.Numerals.{add-one}
 use native.Mathlib.Omega.{arith}
 use lib.ListN.{length, getD, set, take, drop, length-append, length-map, length-drop, drop-of-length-le}
 use lib.Seq.{drop-cons, drop-drop, take-suc-set, append-snoc}
-use Rattle.definitions.specs.Syntax.{Field, FieldOwner, toEveryone, toKey, toFinal, fieldAt}
-use Rattle.definitions.specs.Places as places
-use Rattle.definitions.specs.Places.{numbersFrom, placeCount, perPlace, placeReader, finalAddress}
+use Rattle.definitions.specs.ContractFile.{Field, FieldOwner, toEveryone, toKey, toFinal, fieldAt}
+use Rattle.definitions.specs.Original as original
+use Rattle.definitions.specs.Original.{numbersFrom, placeCount, perPlace, placeReader, finalAddress}
 use Rattle.definitions.specs.Ledger as ledger
 use Rattle.contents.specs.declared.Content.{Content}
 use Rattle.contents.specs.declared.Place.{Place}
@@ -22,9 +22,9 @@ use Rattle.deployments.specs.Deployments.{contentsFor, readersOf, fieldC
 use Rattle.deployments.proofs.Numbers.{opened}
 
 -- An address of a place's reader is a byte.
-abbrev ShortReader : places.Reader → Type 0
-ShortReader places.Reader.anyone = Unit
-ShortReader (places.Reader.only x) = x < 256
+abbrev ShortReader : original.Reader → Type 0
+ShortReader original.Reader.anyone = Unit
+ShortReader (original.Reader.only x) = x < 256
 
 short-code : (r : Reader) → ShortReader (readerOfCode r) → Short r
 short-code Anyone h = h
@@ -39,7 +39,7 @@ pub short-reader : (r : Reader) (final : ℕ → ℕ) (owner : FieldOwner) (key 
     → key < 256 → Short r
 short-reader r final owner key e below k = short-code r (subst ShortReader (sym e) (short-place final owner key below k))
 
-contents-first : (r : places.Reader) (rs : List places.Reader) (n : ℕ) (ns : List ℕ) → contentsFor (r ∷ rs) (n ∷ ns) ≡ ledger.contentFor r 0 0 n ∷ contentsFor rs ns
+contents-first : (r : original.Reader) (rs : List original.Reader) (n : ℕ) (ns : List ℕ) → contentsFor (r ∷ rs) (n ∷ ns) ≡ ledger.contentFor r 0 0 n ∷ contentsFor rs ns
 unfolding contentsFor zipWith
 contents-first r rs n ns = refl
 
@@ -47,7 +47,7 @@ contents-none : (ns : List ℕ) → contentsFor [] ns ≡ []
 unfolding contentsFor zipWith
 contents-none ns = refl
 
-contents-append : (rs ss : List places.Reader) (ns : List ℕ) → length rs ≤ length ns → contentsFor (rs ++ ss) ns ≡ contentsFor rs ns ++ contentsFor ss (drop (length rs) ns)
+contents-append : (rs ss : List original.Reader) (ns : List ℕ) → length rs ≤ length ns → contentsFor (rs ++ ss) ns ≡ contentsFor rs ns ++ contentsFor ss (drop (length rs) ns)
 contents-append [] ss ns h = rw (contents-none ns)
 contents-append (r ∷ rs) ss [] h = absurd (omega arith)
 contents-append (r ∷ rs) ss (n ∷ ns) h =
@@ -66,7 +66,7 @@ place-more places n m content h e =
     rw (e, take-suc-set places n (record { content = content }) h) (map-append contentOfPlace (take n places) (record { content = content } ∷ []))
 
 module _ (fields : List Field) (numbers : List ℕ) (f p count key : ℕ) where
-  abbrev readerAt : ℕ → places.Reader
+  abbrev readerAt : ℕ → original.Reader
   readerAt k = placeReader (finalAddress fields numbers) ((fieldAt fields f) .owner) k
 
   field-step : key < count → p + key < length numbers
@@ -111,7 +111,7 @@ field-start fields numbers f p count places =
 
 -- One field more is given its contents.
 module _ (fields : List Field) (numbers : List ℕ) where
-  abbrev pub asked : Field → ℕ → places.Reader
+  abbrev pub asked : Field → ℕ → original.Reader
   asked d key = placeReader (finalAddress fields numbers) (d .owner) key
 
   readers-step : (f : ℕ) → f < length fields
@@ -145,7 +145,7 @@ module _ (fields : List Field) (numbers : List ℕ) where
         ∙ ap (λ (ns : List ℕ). contentsFor own (drop p numbers) ++ contentsFor rest ns) (ap (λ (n : ℕ). drop n (drop p numbers)) long ∙ drop-drop many p numbers) in
         ap (λ (l : List ledger.Content). l ++ contentsFor rest (drop (p + many) numbers)) stands
         ∙ append-assoc (contentsIn p before) (contentsFor own (drop p numbers)) (contentsFor rest (drop (p + many) numbers))
-        ∙ ap (λ (l : List ledger.Content). contentsIn p before ++ l) (sym split ∙ ap (λ (rs : List places.Reader). contentsFor rs (drop p numbers)) (sym step)) ∙ inv
+        ∙ ap (λ (l : List ledger.Content). contentsIn p before ++ l) (sym split ∙ ap (λ (rs : List original.Reader). contentsFor rs (drop p numbers)) (sym step)) ∙ inv
 
   pub fields-done : (f p : ℕ) (made : List Place) (goal : List ledger.Content) → length fields ≤ f → p + length (perPlace asked (drop f fields)) ≡ length numbers
       → contentsIn p made ++ contentsFor (perPlace asked (drop f fields)) (drop p numbers) ≡ goal → contentsIn (length numbers) made ≡ goal

@@ -4,9 +4,8 @@ use mathlib.Core.List.{List, _++_, map, zipWith}
 use Prim.Native.Nat.{ℕ, _+_, _<_, _≤_}
 use lib.ListN.{length, getD, drop}
 use Rattle.buffer.specs.Buffer.{stored}
-use Rattle.definitions.specs.Syntax.{Field, fieldAt}
-use Rattle.definitions.specs.ContractFile.{fieldCount}
-use Rattle.definitions.specs.Places.{Reader, numbersFrom, placeReader, placeReaders, finalAddress}
+use Rattle.definitions.specs.ContractFile.{Field, fieldAt, fieldCount}
+use Rattle.definitions.specs.Original.{Reader, numbersFrom, placeReader, placeReaders, finalAddress}
 use Rattle.definitions.specs.Ledger as ledger
 use Rattle.context.specs.Context.{fieldsIn}
 use Rattle.contents.specs.declared.Place.{Place}

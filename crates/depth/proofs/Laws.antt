@@ -10,7 +10,7 @@ use lib.ListN.{length, set, length-set}
 use lib.Seq.{getD-set-same, getD-set-other}
 use borrow.Author.Tests.{eqb-true, eqb-false, leb-false}
 use Rattle.definitions.specs.Basics.{any, largest}
-use Rattle.definitions.specs.Nodes.{Node, nodeAt, children, chainLength}
+use Rattle.definitions.specs.ContractFile.{Node, nodeAt, children, chainLength}
 use Rattle.nodes.proofs.Truth.{either-false}
 use Rattle.depth.specs.Chains.{ChildrenBelow, Chains, depthIn}
 

@@ -8,8 +8,7 @@ use lib.Dec.{leb, ltb}
 use lib.ListN.{set, replicate, getD-replicate, List·getD-eq-default}
 use borrow.Author.Tests.{lt-ltb, le-ltb, ltb-true, ltb-false, leb-false}
 use Rattle.definitions.specs.Basics.{any, anyNumbered, largest}
-use Rattle.definitions.specs.ContractFile.{NodeRecord, FunctionRecord, twoBytesAt, functionEnd, fieldRecords, functionRecord, functionRecords, nodeRecord, nodeRecords, sectionsOf}
-use Rattle.definitions.specs.Nodes.{nodeOf, nodeAt, children, fieldsNamed, expressionParts, statementParts, chainLength}
+use Rattle.definitions.specs.ContractFile.{NodeRecord, FunctionRecord, twoBytesAt, functionEnd, fieldRecords, functionRecord, functionRecords, nodeRecord, nodeRecords, sectionsOf, nodeOf, nodeAt, children, fieldsNamed, expressionParts, statementParts, chainLength}
 use Rattle.definitions.specs.Numbers.{tooDeep}
 use Rattle.file.specs.declared.Layout.{Layout}
 use Rattle.file.specs.declared.Node.{Node}

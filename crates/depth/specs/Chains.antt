@@ -6,8 +6,7 @@ use Prim.Native.Nat.{ℕ, suc, _<_, _≤_}
 use lib.Dec.{leb, ltb}
 use lib.ListN.{length, getD}
 use Rattle.definitions.specs.Basics.{any}
-use Rattle.definitions.specs.ContractFile.{FunctionRecord, sectionsOf}
-use Rattle.definitions.specs.Nodes.{Node, nodeAt, children, chainLength}
+use Rattle.definitions.specs.ContractFile.{FunctionRecord, sectionsOf, Node, nodeAt, children, chainLength}
 use Rattle.definitions.specs.Numbers.{namesNothing}
 use Rattle.file.specs.declared.Layout.{Layout}
 use Rattle.file.specs.Layout.{IsLayout}

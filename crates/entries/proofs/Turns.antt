@@ -5,11 +5,8 @@ use Prim.Native.Nat.{ℕ, zero, suc, _+_, _<_}
 use native.Mathlib.Omega.{arith}
 use native.Mathlib.Numerals.{add-one}
 use lib.ListN.{length}
-use Rattle.definitions.specs.Syntax.{Owner, Expression}
-use Rattle.definitions.specs.Written.{Guard}
-use Rattle.definitions.specs.WrittenFile.{guardNumber}
-use Rattle.definitions.specs.ContractFile.{ownerCode}
-use Rattle.definitions.specs.Nodes.{Node}
+use Rattle.definitions.specs.ContractFile.{Owner, Expression, ownerCode, Node}
+use Rattle.definitions.specs.Rewriting.{Guard, guardNumber}
 use Rattle.trees.specs.Trees.{expressionIn}
 use Rattle.events.specs.Events.{suppliedEvent, claimedEvent, readEvent, guardEvent, variablesOf, variableCount, Events, inTurn, supplyEvents, readEvents, branchEvents}
 use Rattle.entries.specs.declared.Position.{Position}

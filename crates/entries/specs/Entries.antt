@@ -2,11 +2,8 @@
 use mathlib.Core.List.{List, [], _∷_, _++_}
 use Prim.Native.Nat.{ℕ, zero, suc, _<_}
 use lib.ListN.{length}
-use Rattle.definitions.specs.Syntax.{Owner}
-use Rattle.definitions.specs.ContractFile.{ownerCode}
-use Rattle.definitions.specs.Nodes.{Node}
-use Rattle.definitions.specs.Written.{Guard, always, under}
-use Rattle.definitions.specs.WrittenFile.{guardNumber}
+use Rattle.definitions.specs.ContractFile.{Owner, ownerCode, Node}
+use Rattle.definitions.specs.Rewriting.{Guard, always, under, guardNumber}
 use Rattle.trees.specs.Trees.{expressionIn}
 use Rattle.events.specs.Events.{Event, suppliedEvent, claimedEvent, readEvent, guardEvent}
 

@@ -3,7 +3,7 @@ use mathlib.Core.Path.{_≡_}
 use mathlib.Core.List.{List}
 use Prim.Native.Nat.{ℕ, _+_, _*_, _<_, _≤_}
 use lib.ListN.{length}
-use Rattle.definitions.specs.Nodes.{Node}
+use Rattle.definitions.specs.ContractFile.{Node}
 use Rattle.buffer.specs.Buffer.{stored}
 use Rattle.events.specs.Events.{Event, variableCount}
 use Rattle.entries.specs.declared.Position.{Position}

@@ -5,11 +5,9 @@ use mathlib.Core.List.{List}
 use Prim.Native.Nat.{ℕ, zero, suc}
 use borrow.Author.Tests.{ne-eqb}
 use lib.ListN.{getD}
-use Rattle.definitions.specs.Syntax.{DataType, isDivision}
-use Rattle.definitions.specs.ContractFile.{operatorOf}
-use Rattle.definitions.specs.Places.{position}
-use Rattle.definitions.specs.Original.{operate, operates, negate}
-use Rattle.definitions.specs.Written.{BodyExpression}
+use Rattle.definitions.specs.ContractFile.{DataType, isDivision, operatorOf}
+use Rattle.definitions.specs.Original.{position, operate, operates, negate}
+use Rattle.definitions.specs.Rewriting.{BodyExpression}
 use Rattle.definitions.specs.Ledger as ledger
 use Rattle.context.specs.Context.{fieldsIn}
 use Rattle.contents.specs.Contents.{contentOfCode, contentsOf}

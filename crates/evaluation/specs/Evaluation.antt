@@ -3,7 +3,7 @@ use mathlib.Core.Path.{_≡_}
 use mathlib.Core.Bool.{Bool}
 use mathlib.Core.List.{List}
 use Prim.Native.Nat.{ℕ}
-use Rattle.definitions.specs.Written.{BodyExpression}
+use Rattle.definitions.specs.Rewriting.{BodyExpression}
 use Rattle.definitions.specs.Ledger as ledger
 use Rattle.context.specs.Context.{fieldsIn}
 use Rattle.contents.specs.Contents.{contentOfCode, contentsOf}

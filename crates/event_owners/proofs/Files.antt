@@ -6,11 +6,9 @@ use Prim.Native.Nat.{ℕ, suc, _+_, _*_, _-_, _<_, _≤_}
 use native.Mathlib.Omega.{arith}
 use borrow.Author.Tests.{ltb-true, ltb-false, leb-true, eqb-true}
 use lib.Dec.{eqb, leb, ltb}
-use Rattle.definitions.specs.Syntax.{meName, finalName, parameterName, everyone, ownedBy, toEveryone, toKey, toFinal}
-use Rattle.definitions.specs.ContractFile.{FieldRecord, NodeRecord, byteAt, fieldCount, nodesAt, nodeRecord, isFinalCode, ownerOfCode, fieldOf}
-use Rattle.definitions.specs.Nodes.{Kind, constantKind, meKind, fieldKind, entryKind, parameterKind, operatorKind, negationKind, revealKind, skipKind, sequenceKind, assignFieldKind, assignEntryKind, requireKind, conditionalKind, noKind, kindOf, nodeOfKind, expressionOf, statementOf, statementAt}
+use Rattle.definitions.specs.ContractFile.{meName, finalName, parameterName, everyone, ownedBy, toEveryone, toKey, toFinal, FieldRecord, NodeRecord, byteAt, fieldCount, nodesAt, nodeRecord, isFinalCode, ownerOfCode, fieldOf, Kind, constantKind, meKind, fieldKind, entryKind, parameterKind, operatorKind, negationKind, revealKind, skipKind, sequenceKind, assignFieldKind, assignEntryKind, requireKind, conditionalKind, noKind, kindOf, nodeOfKind, expressionOf, statementOf, statementAt}
 use Rattle.definitions.specs.Numbers.{fieldInTables, targetInTables, kindInTables}
-use Rattle.definitions.specs.Written.{Guard}
+use Rattle.definitions.specs.Rewriting.{Guard}
 use Rattle.trees.specs.Trees.{statementIn, Keeps}
 use Rattle.trees.proofs.Kept.{statement-kept}
 use Rattle.events.specs.Events.{statementEvents}

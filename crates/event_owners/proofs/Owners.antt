@@ -4,9 +4,9 @@ use mathlib.Core.Bool.{Bool, true, false, _&&_, cond}
 use mathlib.Core.List.{List, [], _∷_, _++_}
 use mathlib.Core.Option.{Option, none, some}
 use Prim.Native.Nat.{ℕ, suc, _+_, _<_}
-use Rattle.definitions.specs.Syntax.{Name, meName, finalName, parameterName, Owner, everyone, ownedBy, FieldOwner, toEveryone, toKey, toFinal, Expression, Statement, Parameter, Scope, fieldAt, parameterAt, isFinal, isDivision}
+use Rattle.definitions.specs.ContractFile.{Name, meName, finalName, parameterName, Owner, everyone, ownedBy, FieldOwner, toEveryone, toKey, toFinal, Expression, Statement, Parameter, Scope, fieldAt, parameterAt, isFinal, isDivision}
 use Rattle.definitions.specs.Owners.{isPublicAddress, placeOwner, parameterOwner, nameOf, ownerOf, isPublic}
-use Rattle.definitions.specs.Written.{Guard, under}
+use Rattle.definitions.specs.Rewriting.{Guard, under}
 use Rattle.events.specs.Events.{Event, suppliedEvent, claimedEvent, readEvent, guardEvent, variableCount, Events, noEvents, inTurn, supplyEvents, readEvents, bodyEvents, circuitEvents, placeEvents, branchEvents, statementEvents}
 use Rattle.event_owners.specs.Listed.{Listed, ownersListed}
 

@@ -2,9 +2,8 @@
 use mathlib.Core.Path.{_≡_, refl, ap}
 use mathlib.Core.List.{List, [], _∷_, _++_}
 use Prim.Native.Nat.{suc}
-use Rattle.definitions.specs.Syntax.{Scope}
-use Rattle.definitions.specs.Written.{Variable, supplied, readFrom, guard, equals, Claim, Guard, Constraint}
-use Rattle.definitions.specs.Rewriting.{Step, inBody, inCircuit, heldUnder}
+use Rattle.definitions.specs.ContractFile.{Scope}
+use Rattle.definitions.specs.Rewriting.{Variable, supplied, readFrom, guard, equals, Claim, Guard, Constraint, Step, inBody, inCircuit, heldUnder}
 use Rattle.events.specs.Events.{Event, suppliedEvent, claimedEvent, readEvent, guardEvent, variablesOf, stepsOf, constraintsOf}
 
 pub variables-append : (first second : List Event) → variablesOf (first ++ second) ≡ variablesOf first ++ variablesOf second

@@ -2,9 +2,8 @@
 use mathlib.Core.Path.{_≡_, ap, sym}
 use mathlib.Core.List.{List, _++_}
 use lib.ListN.{length}
-use Rattle.definitions.specs.Syntax.{Field, Function, Scope}
-use Rattle.definitions.specs.Written.{Variable, Constraint, always}
-use Rattle.definitions.specs.Rewriting.{Piece, heldUnder, privateParameters, openings, rewriteFunction}
+use Rattle.definitions.specs.ContractFile.{Field, Function, Scope}
+use Rattle.definitions.specs.Rewriting.{Variable, Constraint, always, Piece, heldUnder, privateParameters, openings, rewriteFunction}
 use Rattle.events.specs.Events.{Event, variablesOf, constraintsOf, statementEvents}
 use Rattle.events.proofs.Statements.{statement-made}
 

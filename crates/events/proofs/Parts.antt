@@ -1,9 +1,9 @@
 -- An expression's events are those of its parts, with what it makes itself.
 use mathlib.Core.Path.{_≡_, refl, ap, sym}
 use mathlib.Core.Bool.{Bool, true, false, _&&_, cond, not, false≢true}
-use Rattle.definitions.specs.Syntax.{Owner, everyone, ownedBy, Expression, Scope, isEveryone, isDivision}
+use Rattle.definitions.specs.ContractFile.{Owner, everyone, ownedBy, Expression, Scope, isEveryone, isDivision}
 use Rattle.definitions.specs.Owners.{ownerOf, isPublic}
-use Rattle.definitions.specs.Written.{Guard}
+use Rattle.definitions.specs.Rewriting.{Guard}
 use Rattle.events.specs.Events.{Events, supplyEvents, readEvents, bodyEvents, circuitEvents, placeEvents}
 use Rattle.events.specs.Parts.{isSupplied, isRead, suppliedFor, eachPart}
 

@@ -4,10 +4,9 @@ use mathlib.Core.Bool.{Bool, true, false, cond}
 use mathlib.Core.List.{List, _∷_, _++_, append-nil}
 use Prim.Native.Nat.{ℕ, suc, _+_}
 use lib.ListN.{length}
-use Rattle.definitions.specs.Syntax.{meName, Owner, everyone, ownedBy, Operator, Expression, Scope, isDivision}
+use Rattle.definitions.specs.ContractFile.{meName, Owner, everyone, ownedBy, Operator, Expression, Scope, isDivision}
 use Rattle.definitions.specs.Owners.{isPublic}
-use Rattle.definitions.specs.Written.{Variable, BodyExpression, Circuit, Guard, supplied}
-use Rattle.definitions.specs.Rewriting.{Generator, kept, onePart, twoParts, supplying, reading, inBody, inCircuit, inPlace}
+use Rattle.definitions.specs.Rewriting.{Variable, BodyExpression, Circuit, Guard, supplied, Generator, kept, onePart, twoParts, supplying, reading, inBody, inCircuit, inPlace}
 use Rattle.events.specs.Events.{Event, variablesOf, stepsOf, constraintsOf, Events, noEvents, inTurn, supplyEvents, readEvents, bodyEvents, circuitEvents, placeEvents}
 use Rattle.events.specs.Making.{MakesPiece}
 use Rattle.events.proofs.Appended.{variables-append, steps-append, constraints-append, held-append}

@@ -3,9 +3,8 @@ use mathlib.Core.Path.{_≡_, ap, sym}
 use mathlib.Core.List.{List}
 use Prim.Native.Nat.{ℕ, _+_}
 use lib.ListN.{length}
-use Rattle.definitions.specs.Syntax.{Expression, Scope}
-use Rattle.definitions.specs.Written.{Command, Guard}
-use Rattle.definitions.specs.Rewriting.{Step, inBody, stepsBefore, inBranch, inBranches, StatementGenerator}
+use Rattle.definitions.specs.ContractFile.{Expression, Scope}
+use Rattle.definitions.specs.Rewriting.{Command, Guard, Step, inBody, stepsBefore, inBranch, inBranches, StatementGenerator}
 use Rattle.events.specs.Events.{stepsOf, bodyEvents}
 use Rattle.events.proofs.Pieces.{body-made}
 

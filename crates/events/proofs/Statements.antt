@@ -4,10 +4,9 @@ use mathlib.Core.List.{List, _∷_, _++_}
 use mathlib.Core.Option.{none}
 use Prim.Native.Nat.{ℕ, suc, _+_}
 use lib.ListN.{length}
-use Rattle.definitions.specs.Syntax.{Statement, Scope, fieldAt}
+use Rattle.definitions.specs.ContractFile.{Statement, Scope, fieldAt}
 use Rattle.definitions.specs.Owners.{nameOf, placeOwner}
-use Rattle.definitions.specs.Written.{Variable, BodyExpression, Command, Guard, under, guard}
-use Rattle.definitions.specs.Rewriting.{Generator, kept, inBody, inPlace, StatementGenerator, single, inSequence, inBranch, inBranches, rewriteStatement}
+use Rattle.definitions.specs.Rewriting.{Variable, BodyExpression, Command, Guard, under, guard, Generator, kept, inBody, inPlace, StatementGenerator, single, inSequence, inBranch, inBranches, rewriteStatement}
 use Rattle.events.specs.Events.{Event, variablesOf, constraintsOf, Events, inTurn, branchEvents, statementEvents}
 use Rattle.events.specs.Making.{MakesPiece, MakesPassage}
 use Rattle.events.proofs.Appended.{variables-append, constraints-append}

@@ -4,10 +4,9 @@ use mathlib.Core.List.{List, [], _∷_, _++_}
 use mathlib.Core.Option.{none}
 use Prim.Native.Nat.{ℕ, suc, _+_}
 use lib.ListN.{length}
-use Rattle.definitions.specs.Syntax.{meName, Owner, everyone, ownedBy, Operator, Expression, Statement, Scope, fieldAt, isDivision}
+use Rattle.definitions.specs.ContractFile.{meName, Owner, everyone, ownedBy, Operator, Expression, Statement, Scope, fieldAt, isDivision}
 use Rattle.definitions.specs.Owners.{nameOf, ownerOf, placeOwner, isPublic}
-use Rattle.definitions.specs.Written.{Variable, supplied, readFrom, guard, equals, Guard, under, Constraint}
-use Rattle.definitions.specs.Rewriting.{Step, inBody, inCircuit}
+use Rattle.definitions.specs.Rewriting.{Variable, supplied, readFrom, guard, equals, Guard, under, Constraint, Step, inBody, inCircuit}
 
 pub data Event : Type 0 where
   -- A variable is made, to be supplied for an owner and an expression.

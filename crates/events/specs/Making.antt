@@ -1,9 +1,8 @@
 -- When events make a piece, or a statement's passage: the same variables, steps and constraints.
 use mathlib.Core.Path.{_≡_}
 use mathlib.Core.List.{List}
-use Rattle.definitions.specs.Syntax.{Scope}
-use Rattle.definitions.specs.Written.{Guard}
-use Rattle.definitions.specs.Rewriting.{Piece, Passage, heldUnder}
+use Rattle.definitions.specs.ContractFile.{Scope}
+use Rattle.definitions.specs.Rewriting.{Guard, Piece, Passage, heldUnder}
 use Rattle.events.specs.Events.{Event, variablesOf, stepsOf, constraintsOf}
 
 pub record MakesPiece (scope : Scope) (g : Guard) (events : List Event) {A : Type 0} (piece : Piece A) : Type 0 where

@@ -4,9 +4,7 @@ use mathlib.Core.Bool.{true}
 use mathlib.Core.List.{List, map}
 use Prim.Native.Nat.{ℕ, zero, suc, _+_, _*_, _<_}
 use lib.ListN.{length, length-map}
-use Rattle.definitions.specs.Syntax.{Expression, Scope}
-use Rattle.definitions.specs.ContractFile.{nodeRecord, nodeCount, operatorOf, parameterRecords, parameterOf}
-use Rattle.definitions.specs.Nodes.{nodeAt, nodeOf}
+use Rattle.definitions.specs.ContractFile.{Expression, Scope, nodeRecord, nodeCount, operatorOf, parameterRecords, parameterOf, nodeAt, nodeOf}
 use Rattle.definitions.specs.Owners.{Links, linksOfCondition, withLinkOf, nameOf}
 use Rattle.definitions.specs.Numbers.{targetInTables}
 use Rattle.file.specs.Node.{IsNode, recordOf}

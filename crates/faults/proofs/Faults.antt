@@ -7,7 +7,7 @@ use native.Mathlib.Omega.{arith}
 use lib.Dec.{eqb}
 use Rattle.definitions.specs.Basics.{any, firstThatHolds}
 use Rattle.definitions.specs.Numbers.{fault, contractFaults, contractSentences}
-use Rattle.definitions.specs.Syntax.{Contract}
+use Rattle.definitions.specs.ContractFile.{Contract}
 use Rattle.faults.specs.Faults.{firstOf, leastFault, numberOf}
 
 or-assoc : (a b c : Bool) → (a || (b || c)) ≡ ((a || b) || c)

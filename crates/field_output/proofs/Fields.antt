@@ -8,10 +8,9 @@ use borrow.Author.Tests.{leb-true, eqb-true}
 use lib.Dec.{eqb, leb}
 use lib.ListN.{length, length-append}
 use Rattle.definitions.specs.Basics.{flatMap, isZero}
-use Rattle.definitions.specs.Syntax.{dataTypeCode, shapeCode}
-use Rattle.definitions.specs.ContractFile.{byteAt, fieldCount, dataTypeOf, shapeOf, isFinalCode, fieldOwnerOfCode, fieldOwnerCode, fieldRecords, fieldOf}
+use Rattle.definitions.specs.ContractFile.{dataTypeCode, shapeCode, byteAt, fieldCount, dataTypeOf, shapeOf, isFinalCode, fieldOwnerOfCode, fieldOwnerCode, fieldRecords, fieldOf}
 use Rattle.definitions.specs.Numbers.{fieldInTables}
-use Rattle.definitions.specs.WrittenFile.{fieldBytes}
+use Rattle.definitions.specs.Rewriting.{fieldBytes}
 use Rattle.file.proofs.Sections.{fields-are}
 use Rattle.append.specs.Append.{Appended, Appending}
 use Rattle.append.proofs.Laws.{appended-then, three-appended, appending-room, appending-next, appending-done}

@@ -7,7 +7,7 @@ use lib.Dec.{eqb}
 use Rattle.definitions.specs.Basics.{flatMap}
 use Rattle.definitions.specs.ContractFile.{FieldRecord, fieldCount, fieldRecords, fieldOf}
 use Rattle.definitions.specs.Numbers.{fieldInTables}
-use Rattle.definitions.specs.WrittenFile.{fieldBytes}
+use Rattle.definitions.specs.Rewriting.{fieldBytes}
 use Rattle.context.specs.Context.{fieldRecordAt, fieldsIn}
 
 abbrev pub fieldRead : ℕ → ℕ → ℕ → FieldRecord

@@ -8,7 +8,7 @@ use lib.ListN.{length, length-append}
 use Rattle.definitions.specs.Basics.{flatMap, twoBytes}
 use Rattle.definitions.specs.ContractFile.{fieldCount, functionCount, functionsAt, functionEnd, functionsEnd}
 use Rattle.definitions.specs.Numbers.{checkNumber}
-use Rattle.definitions.specs.WrittenFile.{sizes, functionTrees, numberedAll, nodeBytes, functionBytes, functionsBytes, writtenFile}
+use Rattle.definitions.specs.Rewriting.{sizes, functionTrees, numberedAll, nodeBytes, functionBytes, functionsBytes, writtenFile}
 use Rattle.context.specs.Functions.{functionStart}
 use Rattle.buffer.specs.Buffer.{stored}
 use Rattle.buffer.proofs.Laws.{stored-nothing, stored-then}

@@ -6,7 +6,7 @@ use lib.ListN.{length, take}
 use Rattle.definitions.specs.Basics.{flatMap}
 use Rattle.definitions.specs.ContractFile.{fieldCount, functionCount, nodesAt}
 use Rattle.definitions.specs.Numbers.{checkNumber}
-use Rattle.definitions.specs.WrittenFile.{functionTrees, numberedAll, nodeBytes, functionsBytes}
+use Rattle.definitions.specs.Rewriting.{functionTrees, numberedAll, nodeBytes, functionsBytes}
 use Rattle.context.specs.Functions.{functionStart}
 use Rattle.buffer.specs.Buffer.{stored}
 use Rattle.field_output.specs.Fields.{fieldSection}

@@ -1,18 +1,17 @@
 -- The tree of a body's form, by the expression's kind, as code learns it.
 use mathlib.Core.Path.{_≡_, ap}
 use mathlib.Core.Bool.{true, false}
-use Prim.Native.Nat.{ℕ, _+_}
+use Prim.Native.Nat.{ℕ, _+_, _%_, _/_}
 use lib.ListN.{length}
-use Rattle.definitions.specs.Syntax.{DataType, Owner, Operator, Expression, Scope, operatorCode}
+use Rattle.definitions.specs.ContractFile.{DataType, Owner, Operator, Expression, Scope, operatorCode, dataTypeCode}
 use Rattle.definitions.specs.Owners.{isPublic}
-use Rattle.definitions.specs.Rewriting.{kept, onePart, twoParts, supplying, inBody}
-use Rattle.definitions.specs.WrittenFile.{leaf, oneChild, twoChildren, constantTree, bodyTree}
+use Rattle.definitions.specs.Rewriting.{kept, onePart, twoParts, supplying, inBody, leaf, oneChild, twoChildren, bodyTree}
 use Rattle.variable_counts.specs.Counts.{bodyCount}
 use Rattle.variable_counts.proofs.Counts.{body-makes}
 use Rattle.forms.specs.Forms.{bodyForm}
 
 module _ (scope : Scope) (e : Expression) (i : ℕ) where
-  pub body-of-constant : (t : DataType) (v : ℕ) → e ≡ Expression.constant t v → bodyForm scope e i ≡ constantTree t v
+  pub body-of-constant : (t : DataType) (v : ℕ) → e ≡ Expression.constant t v → bodyForm scope e i ≡ leaf 1 (dataTypeCode t) (v % 65536) (v / 65536)
   unfolding inBody kept bodyTree
   body-of-constant t v h = rw h
 

@@ -5,7 +5,7 @@ use mathlib.Core.List.{List}
 use Prim.Native.Nat.{ℕ, _+_, _*_, _<_, _≤_}
 use Rattle.definitions.specs.ContractFile.{NodeRecord, nodeCount, nodeRecord}
 use Rattle.definitions.specs.Owners.{isPublic}
-use Rattle.definitions.specs.WrittenFile.{Tree, leaf, oneChild, twoChildren}
+use Rattle.definitions.specs.Rewriting.{Tree, leaf, oneChild, twoChildren}
 use Rattle.trees.specs.Trees.{expressionIn}
 use Rattle.context.specs.Context.{Context, nodesIn, scopeIn}
 use Rattle.context.proofs.Nodes.{constant-is, field-is, entry-is, parameter-is, operator-is, negation-is, reveal-is, other-is, Unlisted}

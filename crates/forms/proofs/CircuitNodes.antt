@@ -3,9 +3,8 @@ use mathlib.Core.Path.{_≡_, ap, sym, _∙_}
 use mathlib.Core.Bool.{Bool, true, false, _&&_}
 use mathlib.Core.List.{List}
 use Prim.Native.Nat.{ℕ, _+_, _*_, _<_, _≤_}
-use Rattle.definitions.specs.Syntax.{isDivision}
-use Rattle.definitions.specs.ContractFile.{NodeRecord, nodeCount, nodeRecord, operatorOf}
-use Rattle.definitions.specs.WrittenFile.{Tree, leaf, oneChild, twoChildren}
+use Rattle.definitions.specs.ContractFile.{isDivision, NodeRecord, nodeCount, nodeRecord, operatorOf}
+use Rattle.definitions.specs.Rewriting.{Tree, leaf, oneChild, twoChildren}
 use Rattle.trees.specs.Trees.{expressionIn}
 use Rattle.context.specs.Context.{Context, nodesIn, scopeIn}
 use Rattle.context.proofs.Nodes.{constant-is, field-is, entry-is, parameter-is, operator-is, negation-is, reveal-is, other-is, Unlisted}

@@ -2,14 +2,13 @@
 use mathlib.Core.Path.{_≡_, refl, ap}
 use mathlib.Core.Bool.{true, false, _&&_}
 use mathlib.Core.List.{_++_}
-use Prim.Native.Nat.{ℕ, _+_}
+use Prim.Native.Nat.{ℕ, _+_, _%_, _/_}
 use native.Mathlib.Nat.{add-zero}
 use native.Mathlib.Omega.{arith}
 use lib.ListN.{length, length-append}
-use Rattle.definitions.specs.Syntax.{DataType, Owner, everyone, ownedBy, Operator, Expression, Scope, operatorCode, isDivision, isEveryone}
+use Rattle.definitions.specs.ContractFile.{DataType, Owner, everyone, ownedBy, Operator, Expression, Scope, operatorCode, isDivision, isEveryone, dataTypeCode}
 use Rattle.definitions.specs.Owners.{ownerOf, isPublic}
-use Rattle.definitions.specs.Rewriting.{kept, onePart, twoParts, readForm, reading, inBody, inCircuit}
-use Rattle.definitions.specs.WrittenFile.{leaf, oneChild, twoChildren, constantTree, circuitTree}
+use Rattle.definitions.specs.Rewriting.{kept, onePart, twoParts, readForm, reading, inBody, inCircuit, leaf, oneChild, twoChildren, circuitTree}
 use Rattle.variable_counts.specs.Counts.{bodyCount, circuitCount}
 use Rattle.variable_counts.proofs.Counts.{body-makes, circuit-makes}
 use Rattle.forms.specs.Forms.{circuitForm, readKind}
@@ -20,7 +19,7 @@ read-tree everyone j = refl
 read-tree (ownedBy n) j = refl
 
 module _ (scope : Scope) (e : Expression) (i : ℕ) where
-  pub circuit-of-constant : (t : DataType) (v : ℕ) → e ≡ Expression.constant t v → circuitForm scope e i ≡ constantTree t v
+  pub circuit-of-constant : (t : DataType) (v : ℕ) → e ≡ Expression.constant t v → circuitForm scope e i ≡ leaf 1 (dataTypeCode t) (v % 65536) (v / 65536)
   unfolding inCircuit kept circuitTree
   circuit-of-constant t v h = rw h
 

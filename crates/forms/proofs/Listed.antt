@@ -7,12 +7,9 @@ use native.Mathlib.Omega.{arith}
 use borrow.Author.Tests.{leb-true}
 use lib.Dec.{leb}
 use Rattle.definitions.specs.Basics.{isZero}
-use Rattle.definitions.specs.Syntax.{dataTypeCode, operatorCode}
-use Rattle.definitions.specs.ContractFile.{NodeRecord, nodeCount, nodeRecord, dataTypeOf, operatorOf}
-use Rattle.definitions.specs.Nodes.{constantKind, operatorKind, kindOf, constantValue}
-use Rattle.definitions.specs.DataTypes.{isOfType}
+use Rattle.definitions.specs.ContractFile.{dataTypeCode, operatorCode, NodeRecord, nodeCount, nodeRecord, dataTypeOf, operatorOf, constantKind, operatorKind, kindOf, constantValue, isOfType}
 use Rattle.definitions.specs.Numbers.{kindInTables}
-use Rattle.definitions.specs.WrittenFile.{leaf, constantTree}
+use Rattle.definitions.specs.Rewriting.{leaf}
 use Rattle.context.specs.Context.{Context}
 use Rattle.context.proofs.Nodes.{listed-is, both-left}
 
@@ -48,7 +45,7 @@ module _ (file : List ℕ) (functionStart nodesStart : ℕ) (context : Context f
       operator-code (r .arg) (leb-true (r .arg) 10 (both-left (leb (r .arg) 10) (isZero (r .third)) h))
 
   -- "constants keep kind 1, arg type, first and second"
-  pub constant-kept : r .kind ≡ 1 → r .first ≤ 65535 → constantTree (dataTypeOf (r .arg)) (r .first + 65536 * r .second) ≡ leaf 1 (r .arg) (r .first) (r .second)
+  pub constant-kept : r .kind ≡ 1 → r .first ≤ 65535 → leaf 1 (dataTypeCode (dataTypeOf (r .arg))) ((r .first + 65536 * r .second) % 65536) ((r .first + 65536 * r .second) / 65536) ≡ leaf 1 (r .arg) (r .first) (r .second)
   unfolding kindInTables kindOf
   constant-kept e small =
       let h = listed-is file functionStart nodesStart context n inside r same constantKind (rw e) in

@@ -2,10 +2,8 @@
 use mathlib.Core.Bool.{Bool, cond}
 use mathlib.Core.List.{List}
 use Prim.Native.Nat.{ℕ, _+_, _*_}
-use Rattle.definitions.specs.Syntax.{Expression, Scope}
-use Rattle.definitions.specs.ContractFile.{nodeRecord}
-use Rattle.definitions.specs.Rewriting.{inBody, inCircuit}
-use Rattle.definitions.specs.WrittenFile.{Tree, bodyTree, circuitTree}
+use Rattle.definitions.specs.ContractFile.{Expression, Scope, nodeRecord}
+use Rattle.definitions.specs.Rewriting.{inBody, inCircuit, Tree, bodyTree, circuitTree}
 
 abbrev pub bodyForm : Scope → Expression → ℕ → Tree
 bodyForm scope e i = bodyTree ((inBody scope e i) .form)

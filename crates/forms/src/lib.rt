@@ -11,7 +11,7 @@ ghost use mathlib.Core.Path.{_≡_};
 ghost use Prim.Native.Nat.{_+_, _<_, _≤_};
 ghost use lib.ListN.{length};
 ghost use Rattle.definitions.specs.ContractFile.{nodeCount, node};
-ghost use Rattle.definitions.specs.WrittenFile.{nodeBytes};
+ghost use Rattle.definitions.specs.Rewriting.{nodeBytes};
 ghost use Rattle.trees.specs.Trees.{expressionIn};
 ghost use Rattle.context.specs.Context.{Context, nodesIn, scopeIn};
 ghost use Rattle.buffer.specs.Buffer.{stored};

@@ -9,8 +9,7 @@ use borrow.Author.Tests.{lt-ltb, ltb-false, ltb-true, leb-true, leb-false}
 use lib.Dec.{ltb, leb}
 use lib.ListN.{length, drop, drop-of-length-le}
 use lib.Seq.{drop-cons}
-use Rattle.definitions.specs.Ledger.{Content, plain, contentAt}
-use Rattle.definitions.specs.Calls.{Form, fits, isPlainZero, allFit}
+use Rattle.definitions.specs.Ledger.{Content, plain, contentAt, Form, fits, isPlainZero, allFit}
 use Rattle.contents.specs.Contents.{contentsOf}
 use Rattle.contents.proofs.Laws.{length-contentsOf}
 use Rattle.forms_test.specs.Forms.{fitsOrZero, fitsAt, frontFits}

@@ -4,8 +4,7 @@ use mathlib.Core.List.{List, [], _∷_}
 use Prim.Native.Nat.{ℕ}
 use lib.Dec.{ltb}
 use lib.ListN.{length}
-use Rattle.definitions.specs.Ledger.{Content, contentAt}
-use Rattle.definitions.specs.Calls.{Form, fits, isPlainZero}
+use Rattle.definitions.specs.Ledger.{Content, contentAt, Form, fits, isPlainZero}
 
 -- "a variable may be plain 0"
 abbrev pub fitsOrZero : Form → Content → Bool

@@ -2,7 +2,7 @@
 use contents::Content;
 use readers::Reader;
 ghost use mathlib.Core.Path.{_≡_};
-ghost use Rattle.definitions.specs.Calls.{fits, isPlainZero};
+ghost use Rattle.definitions.specs.Ledger.{fits, isPlainZero};
 ghost use Rattle.contents.specs.Contents.{contentOfCode, contentsOf};
 ghost use Rattle.readers.specs.Readers.{formOf};
 ghost use Rattle.forms_test.specs.Forms.{fitsOrZero, fitsAt};

@@ -6,9 +6,7 @@ use native.Mathlib.Nat.{add-zero, zero-add}
 use native.Mathlib.Omega.{arith}
 use lib.ListN.{length}
 use Rattle.definitions.specs.Basics.{flatMap}
-use Rattle.definitions.specs.Written.{always, Constraint}
-use Rattle.definitions.specs.Rewriting.{openings, heldUnder}
-use Rattle.definitions.specs.WrittenFile.{sizes, claimTrees}
+use Rattle.definitions.specs.Rewriting.{always, Constraint, openings, heldUnder, sizes, claimTrees}
 use Rattle.buffer.specs.Buffer.{stored}
 use Rattle.buffer.proofs.Laws.{stored-nothing}
 use Rattle.node_output.proofs.Laws.{run-then}

@@ -6,12 +6,8 @@ use Prim.Native.Nat.{ℕ, suc, _+_, _*_, _≤_}
 use native.Mathlib.Omega.{arith}
 use lib.ListN.{length, length-map}
 use Rattle.definitions.specs.Basics.{flatMap}
-use Rattle.definitions.specs.Syntax.{Parameter, Scope}
-use Rattle.definitions.specs.ContractFile.{byteAt, nodesAt, nodeCount, parameterRecords, parameterOf, sectionsOf}
-use Rattle.definitions.specs.Nodes.{nodeOf}
-use Rattle.definitions.specs.Written.{always, Constraint, WrittenFunction}
-use Rattle.definitions.specs.Rewriting.{privateParameters, openings, heldUnder}
-use Rattle.definitions.specs.WrittenFile.{Tree, size, sizes, numberedAll, nodeBytes, commandTree, claimTrees, functionTrees}
+use Rattle.definitions.specs.ContractFile.{Parameter, Scope, byteAt, nodesAt, nodeCount, parameterRecords, parameterOf, sectionsOf, nodeOf}
+use Rattle.definitions.specs.Rewriting.{always, Constraint, WrittenFunction, privateParameters, openings, heldUnder, Tree, size, sizes, numberedAll, nodeBytes, commandTree, claimTrees, functionTrees}
 use Rattle.trees.specs.Trees.{statementIn}
 use Rattle.file.proofs.Sections.{count-of-nodes}
 use Rattle.buffer.specs.Buffer.{stored}

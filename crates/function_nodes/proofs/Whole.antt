@@ -8,8 +8,7 @@ use native.Mathlib.Omega.{arith}
 use lib.Dec.{ltb}
 use lib.ListN.{length}
 use Rattle.definitions.specs.Basics.{flatMap}
-use Rattle.definitions.specs.Written.{WrittenFunction}
-use Rattle.definitions.specs.WrittenFile.{Tree, sizes, numbered, numberedAll, nodeBytes, commandTree, functionTrees}
+use Rattle.definitions.specs.Rewriting.{WrittenFunction, Tree, sizes, numbered, numberedAll, nodeBytes, commandTree, functionTrees}
 use Rattle.buffer.specs.Buffer.{stored}
 use Rattle.buffer.proofs.Laws.{stored-length}
 use Rattle.node_output.specs.Numbering.{treeBytes, Numbered}

@@ -5,8 +5,7 @@ use Prim.Native.Nat.{ℕ, zero, suc, _+_, _*_, _≤_}
 use lib.ListN.{length}
 use Rattle.definitions.specs.Basics.{flatMap}
 use Rattle.definitions.specs.ContractFile.{nodesAt}
-use Rattle.definitions.specs.Written.{WrittenFunction}
-use Rattle.definitions.specs.WrittenFile.{Tree, sizes, numberedAll, nodeBytes, claimTrees, functionTrees}
+use Rattle.definitions.specs.Rewriting.{WrittenFunction, Tree, sizes, numberedAll, nodeBytes, claimTrees, functionTrees}
 use Rattle.buffer.specs.Buffer.{stored}
 use Rattle.context.specs.Context.{nodesIn}
 use Rattle.entries.specs.Entries.{Entries}

@@ -7,7 +7,7 @@ use native.Mathlib.Omega.{arith}
 use lib.Dec.{ltb}
 use lib.ListN.{length}
 use Rattle.definitions.specs.Basics.{flatMap}
-use Rattle.definitions.specs.WrittenFile.{Tree, size, sizes, numbered, numberedAll, nodeBytes, commandTree, functionTrees, functionBytes}
+use Rattle.definitions.specs.Rewriting.{Tree, size, sizes, numbered, numberedAll, nodeBytes, commandTree, functionTrees, functionBytes}
 use Rattle.buffer.specs.Buffer.{stored}
 use Rattle.buffer.proofs.Laws.{stored-length}
 use Rattle.append.specs.Append.{Appended}

@@ -5,7 +5,7 @@ use Prim.Native.Nat.{ℕ, _+_, _*_, _-_, _≤_}
 use native.Mathlib.Omega.{arith}
 use lib.ListN.{length, take}
 use Rattle.definitions.specs.ContractFile.{byteAt}
-use Rattle.definitions.specs.WrittenFile.{sizes, commandTree, functionTrees, constraintBytes, functionBytes}
+use Rattle.definitions.specs.Rewriting.{sizes, commandTree, functionTrees, constraintBytes, functionBytes}
 use Rattle.trees.specs.Trees.{statementIn}
 use Rattle.append.specs.Append.{Appended}
 use Rattle.context.specs.Context.{nodesIn, fieldsIn, parametersIn, scopeIn}

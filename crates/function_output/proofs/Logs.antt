@@ -7,8 +7,7 @@ use lib.ListN.{length, take, drop}
 use lib.Seq.{take-append-seam}
 use Rattle.definitions.specs.Basics.{flatMap}
 use Rattle.definitions.specs.ContractFile.{nodesAt}
-use Rattle.definitions.specs.Written.{always}
-use Rattle.definitions.specs.WrittenFile.{Tree, sizes, numberedAll, nodeBytes, constraintBytes}
+use Rattle.definitions.specs.Rewriting.{always, Tree, sizes, numberedAll, nodeBytes, constraintBytes}
 use Rattle.trees.specs.Trees.{statementIn}
 use Rattle.buffer.specs.Buffer.{stored}
 use Rattle.buffer.proofs.Laws.{stored-length}

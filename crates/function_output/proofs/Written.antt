@@ -5,12 +5,8 @@ use Prim.Native.Nat.{ℕ, suc, _+_, _≤_}
 use native.Mathlib.Omega.{arith}
 use lib.ListN.{length, length-append, length-map}
 use Rattle.definitions.specs.Basics.{flatMap}
-use Rattle.definitions.specs.Syntax.{Scope}
-use Rattle.definitions.specs.ContractFile.{nodeCount, sectionsOf}
-use Rattle.definitions.specs.Nodes.{nodeOf}
-use Rattle.definitions.specs.Written.{always, Constraint}
-use Rattle.definitions.specs.Rewriting.{heldUnder, privateParameters, openings}
-use Rattle.definitions.specs.WrittenFile.{Tree, size, sizes, commandTree, claimTrees, functionTrees}
+use Rattle.definitions.specs.ContractFile.{Scope, nodeCount, sectionsOf, nodeOf}
+use Rattle.definitions.specs.Rewriting.{always, Constraint, heldUnder, privateParameters, openings, Tree, size, sizes, commandTree, claimTrees, functionTrees}
 use Rattle.file.proofs.Sections.{count-of-nodes}
 use Rattle.trees.specs.Trees.{statementIn}
 use Rattle.context.specs.Context.{nodesIn, fieldsIn, parametersIn, scopeIn}

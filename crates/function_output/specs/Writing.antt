@@ -5,8 +5,7 @@ use Prim.Native.Nat.{ℕ, _+_, _*_, _≤_}
 use lib.ListN.{length, take}
 use Rattle.definitions.specs.Basics.{flatMap}
 use Rattle.definitions.specs.ContractFile.{nodesAt}
-use Rattle.definitions.specs.Written.{Constraint}
-use Rattle.definitions.specs.WrittenFile.{Tree, claimTrees, functionTrees, sizes, numberedAll, nodeBytes, constraintBytes, functionBytes}
+use Rattle.definitions.specs.Rewriting.{Constraint, Tree, claimTrees, functionTrees, sizes, numberedAll, nodeBytes, constraintBytes, functionBytes}
 use Rattle.buffer.specs.Buffer.{stored}
 use Rattle.context.specs.Context.{nodesIn, scopeIn}
 use Rattle.events.specs.Events.{variableCount, constraintsOf}

@@ -6,7 +6,7 @@ use file::byte_at;
 use heading_output::append_heading;
 use parameter_output::count_private;
 use statement_log::function_log;
-ghost use Rattle.definitions.specs.WrittenFile.{functionBytes};
+ghost use Rattle.definitions.specs.Rewriting.{functionBytes};
 ghost use Rattle.append.specs.Append.{Appended};
 ghost use Rattle.function_room.specs.Functions.{writtenIn};
 ghost use Rattle.function_output.specs.Writing.{CircuitsReady, CircuitsWritten, HeadingReady, FunctionReady, FunctionWritten};

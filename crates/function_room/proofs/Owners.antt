@@ -2,8 +2,7 @@
 use mathlib.Core.List.{List, [], _∷_}
 use Prim.Native.Nat.{_<_}
 use native.Mathlib.Omega.{arith}
-use Rattle.definitions.specs.Syntax.{meName, finalName, parameterName, Owner, everyone, ownedBy}
-use Rattle.definitions.specs.ContractFile.{ownerCode}
+use Rattle.definitions.specs.ContractFile.{meName, finalName, parameterName, Owner, everyone, ownedBy, ownerCode}
 use Rattle.events.specs.Events.{Event, suppliedEvent, claimedEvent, readEvent, guardEvent}
 use Rattle.event_owners.specs.Listed.{Listed, ownersListed}
 use Rattle.logged_variables.specs.Variables.{ownersFit}

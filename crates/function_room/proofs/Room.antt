@@ -5,12 +5,9 @@ use mathlib.Core.List.{List, [], _∷_}
 use Prim.Native.Nat.{ℕ, zero, suc, _+_, _*_, _-_, _<_, _≤_}
 use native.Mathlib.Omega.{arith}
 use lib.ListN.{length, length-map}
-use Rattle.definitions.specs.Syntax.{Statement, Parameter, Function, functionAt}
-use Rattle.definitions.specs.ContractFile.{byteAt, functionCount, nodesAt, nodeCount, parameterRecords, parameterOf, sectionsOf}
-use Rattle.definitions.specs.Nodes.{contractOf}
+use Rattle.definitions.specs.ContractFile.{Statement, Parameter, Function, functionAt, byteAt, functionCount, nodesAt, nodeCount, parameterRecords, parameterOf, sectionsOf, contractOf}
 use Rattle.definitions.specs.Numbers.{checkNumber}
-use Rattle.definitions.specs.Written.{always}
-use Rattle.definitions.specs.Rewriting.{privateParameters}
+use Rattle.definitions.specs.Rewriting.{always, privateParameters}
 use Rattle.file.proofs.Sections.{count-of-nodes}
 use Rattle.numbers.specs.Settled.{Settled}
 use Rattle.numbers.proofs.Sentences.{accepted-settled}

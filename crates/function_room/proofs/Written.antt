@@ -6,12 +6,8 @@ use native.Mathlib.Omega.{arith}
 use lib.ListN.{length, take, getD, length-append, length-map, List·getD-map}
 use lib.Seq.{take-all, take-suc}
 use Rattle.definitions.specs.Basics.{flatMap, twoBytes}
-use Rattle.definitions.specs.Syntax.{Field, Function, functionAt}
-use Rattle.definitions.specs.ContractFile.{NodeRecord, fieldCount, functionCount, functionsAt, functionEnd, functionsEnd, sectionsOf, fieldOf}
-use Rattle.definitions.specs.Nodes.{contractOf}
-use Rattle.definitions.specs.Written.{WrittenFunction}
-use Rattle.definitions.specs.Rewriting.{rewriteFunction, rewrite}
-use Rattle.definitions.specs.WrittenFile.{Tree, leaf, oneChild, twoChildren, threeChildren, setting, size, numbered, functionTrees, sizes, numberedAll, nodeBytes, fieldBytes, functionBytes, functionsBytes, contractBytes, writtenFile}
+use Rattle.definitions.specs.ContractFile.{Field, Function, functionAt, NodeRecord, fieldCount, functionCount, functionsAt, functionEnd, functionsEnd, sectionsOf, fieldOf, contractOf}
+use Rattle.definitions.specs.Rewriting.{WrittenFunction, rewriteFunction, rewrite, Tree, leaf, oneChild, twoChildren, threeChildren, setting, size, numbered, functionTrees, sizes, numberedAll, nodeBytes, fieldBytes, functionBytes, functionsBytes, contractBytes, writtenFile}
 use Rattle.file.proofs.Laws.{force-is}
 use Rattle.file.proofs.Sections.{fields-are}
 use Rattle.context.specs.Context.{fieldsIn}

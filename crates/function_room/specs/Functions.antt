@@ -3,12 +3,8 @@ use mathlib.Core.List.{List}
 use Prim.Native.Nat.{ℕ, _+_, _*_, _<_, _≤_}
 use lib.ListN.{length, take}
 use Rattle.definitions.specs.Basics.{flatMap}
-use Rattle.definitions.specs.Syntax.{Function}
-use Rattle.definitions.specs.ContractFile.{byteAt, fieldCount, nodesAt, nodeCount, sectionsOf}
-use Rattle.definitions.specs.Nodes.{contractOf}
-use Rattle.definitions.specs.Written.{always, WrittenFunction}
-use Rattle.definitions.specs.Rewriting.{rewriteFunction, rewrite}
-use Rattle.definitions.specs.WrittenFile.{sizes, functionTrees, functionBytes, functionsBytes}
+use Rattle.definitions.specs.ContractFile.{Function, byteAt, fieldCount, nodesAt, nodeCount, sectionsOf, contractOf}
+use Rattle.definitions.specs.Rewriting.{always, WrittenFunction, rewriteFunction, rewrite, sizes, functionTrees, functionBytes, functionsBytes}
 use Rattle.trees.specs.Trees.{statementIn}
 use Rattle.context.specs.Context.{Context, nodesIn, fieldsIn, parametersIn, scopeIn}
 use Rattle.context.specs.Functions.{rootAt}

@@ -5,8 +5,7 @@ use Prim.Native.Nat.{ℕ, _+_, _*_, _-_, _<_, _≤_}
 use native.Mathlib.Omega.{arith}
 use lib.ListN.{length, take, drop, length-append}
 use lib.Seq.{take-at, length-take-le}
-use Rattle.definitions.specs.Written.{Claim, equals, opensForCaller, Constraint}
-use Rattle.definitions.specs.WrittenFile.{sizes, claimTrees, guardNumber}
+use Rattle.definitions.specs.Rewriting.{Claim, equals, opensForCaller, Constraint, sizes, claimTrees, guardNumber}
 use Rattle.buffer.specs.Buffer.{stored}
 use Rattle.written_trees.specs.Table.{countOf}
 use Rattle.written_trees.specs.Numbers.{claimNumbers, constraintNumbers}

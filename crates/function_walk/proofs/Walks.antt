@@ -6,8 +6,7 @@ use Prim.Native.Nat.{ℕ, _+_, _*_, _-_, _/_}
 use native.Mathlib.Omega.{arith}
 use lib.ListN.{length, take}
 use Rattle.definitions.specs.ContractFile.{byteAt}
-use Rattle.definitions.specs.Written.{WrittenFunction}
-use Rattle.definitions.specs.WrittenFile.{sizes, numberedAll, commandTree, functionTrees}
+use Rattle.definitions.specs.Rewriting.{WrittenFunction, sizes, numberedAll, commandTree, functionTrees}
 use Rattle.definitions.specs.Ledger as ledger
 use Rattle.buffer.proofs.Laws.{stored-length}
 use Rattle.context.specs.Context.{Context, nodesIn, fieldsIn}

@@ -7,12 +7,8 @@ use native.Mathlib.Omega.{arith}
 use lib.Dec.{leb}
 use lib.ListN.{length, length-append, length-map}
 use Rattle.definitions.specs.Basics.{countIf, flatMap}
-use Rattle.definitions.specs.Syntax.{Statement, Field, Parameter, Scope}
-use Rattle.definitions.specs.ContractFile.{parameterRecords, parameterOf}
-use Rattle.definitions.specs.Nodes.{Node}
-use Rattle.definitions.specs.Written.{Variable, origin, always, Constraint, WrittenFunction}
-use Rattle.definitions.specs.Rewriting.{heldUnder, privateParameters, openings, rewriteStatement, rewriteFunction}
-use Rattle.definitions.specs.WrittenFile.{sizes, functionTrees, variableBytes, keyOf, eachOnce, keysOf, constraintBytes, functionBytes}
+use Rattle.definitions.specs.ContractFile.{Statement, Field, Parameter, Scope, parameterRecords, parameterOf, Node}
+use Rattle.definitions.specs.Rewriting.{Variable, origin, always, Constraint, WrittenFunction, heldUnder, privateParameters, openings, rewriteStatement, rewriteFunction, sizes, functionTrees, variableBytes, keyOf, eachOnce, constraintBytes, functionBytes}
 use Rattle.definitions.specs.Report.{crossings}
 use Rattle.events.specs.Events.{Event, variablesOf, constraintsOf, variableCount, statementEvents}
 use Rattle.events.proofs.Statements.{statement-made}
@@ -98,7 +94,7 @@ module _ (fields : List Field) (nodes : List Node) (file : List ℕ) (start coun
         ap (flatMap variableBytes) variables-are ∙ flat-append variableBytes ((openings ks 0) .variables) (variablesOf bodyLog)
         ∙ ap₂ (λ (a b : List ℕ). a ++ b) (opening-variables ks 0) (sym (variables-told nodes entries fit))
 
-    key-bytes : keysOf (written .variables) ≡ eachOnce [] (perEntry keyCode numbers)
+    key-bytes : eachOnce [] (flatMap keyOf (written .variables)) ≡ eachOnce [] (perEntry keyCode numbers)
     key-bytes =
         ap (eachOnce [])
         (ap (flatMap keyOf) variables-are ∙ flat-append keyOf ((openings ks 0) .variables) (variablesOf bodyLog)

@@ -6,12 +6,10 @@ use Prim.Native.Nat.{ℕ, zero, suc, _+_}
 use native.Mathlib.Omega.{arith}
 use lib.ListN.{length, replicate, length-append, length-map}
 use Rattle.definitions.specs.Basics.{isTrue}
-use Rattle.definitions.specs.Syntax.{Name, meName, Expression, Statement}
-use Rattle.definitions.specs.Written.{Variable, supplied, readFrom, guard, Guard, always, under}
-use Rattle.definitions.specs.Rewriting.{inBody, single, kept, inSequence, inBranch, inBranches, rewriteStatement, openings}
-use Rattle.definitions.specs.Places.{readerOf}
-use Rattle.definitions.specs.Ledger.{Content, plain, contentFor}
-use Rattle.definitions.specs.Calls.{honestContents, honestVariables}
+use Rattle.definitions.specs.ContractFile.{Name, meName, Expression, Statement}
+use Rattle.definitions.specs.Rewriting.{Variable, supplied, readFrom, guard, Guard, always, under, inBody, single, kept, inSequence, inBranch, inBranches, rewriteStatement, openings}
+use Rattle.definitions.specs.Original.{readerOf}
+use Rattle.definitions.specs.Ledger.{Content, plain, contentFor, honestContents, honestVariables}
 use Rattle.context.specs.Context.{scopeIn}
 use Rattle.events.specs.Events.{Events, variablesOf, bodyEvents, statementEvents}
 use Rattle.events.proofs.Pieces.{body-made}

@@ -6,12 +6,10 @@ use mathlib.Core.Option.{none}
 use Prim.Native.Nat.{ℕ, suc, _+_}
 use lib.ListN.{length, set}
 use Rattle.definitions.specs.Basics.{isTrue}
-use Rattle.definitions.specs.Syntax.{Name, Expression, Statement, fieldAt}
-use Rattle.definitions.specs.ContractFile.{NodeRecord}
+use Rattle.definitions.specs.ContractFile.{Name, Expression, Statement, fieldAt, NodeRecord}
 use Rattle.definitions.specs.Owners.{nameOf, placeOwner}
-use Rattle.definitions.specs.Places.{position}
-use Rattle.definitions.specs.Original.{value, placesAfter}
-use Rattle.definitions.specs.Written.{Variable, supplied, readFrom, guard, always}
+use Rattle.definitions.specs.Original.{position, value, placesAfter}
+use Rattle.definitions.specs.Rewriting.{Variable, supplied, readFrom, guard, always}
 use Rattle.buffer.specs.Buffer.{stored}
 use Rattle.context.specs.Context.{fieldsIn, scopeIn}
 use Rattle.events.specs.Events.{Events, variablesOf, inTurn, placeEvents, bodyEvents, statementEvents}

@@ -5,10 +5,9 @@ use mathlib.Core.List.{List, [], _∷_, _++_, map}
 use Prim.Native.Nat.{ℕ, zero, suc, _+_, _<_, _≤_}
 use lib.ListN.{length}
 use Rattle.definitions.specs.Basics.{isTrue}
-use Rattle.definitions.specs.Syntax.{Name, Expression, Statement}
-use Rattle.definitions.specs.ContractFile.{nodeCount}
-use Rattle.definitions.specs.Written.{Variable, variableOwner, always}
-use Rattle.definitions.specs.Places.{readerOf}
+use Rattle.definitions.specs.ContractFile.{Name, Expression, Statement, nodeCount}
+use Rattle.definitions.specs.Rewriting.{Variable, variableOwner, always}
+use Rattle.definitions.specs.Original.{readerOf}
 use Rattle.definitions.specs.Ledger.{Content, plain, contentFor}
 use Rattle.trees.specs.Trees.{statementIn}
 use Rattle.buffer.specs.Buffer.{stored}

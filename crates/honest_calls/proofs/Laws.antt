@@ -4,12 +4,10 @@ use mathlib.Core.List.{List, map}
 use Prim.Native.Nat.{ℕ, suc, _*_, _<_, _≤_}
 use native.Mathlib.Omega.{arith}
 use lib.ListN.{length, take}
-use Rattle.definitions.specs.Syntax.{Function}
-use Rattle.definitions.specs.ContractFile.{byteAt, functionCount, nodesAt}
+use Rattle.definitions.specs.ContractFile.{Function, byteAt, functionCount, nodesAt}
 use Rattle.definitions.specs.Numbers.{checkNumber}
-use Rattle.definitions.specs.Places.{addressIn}
-use Rattle.definitions.specs.Ledger.{Content, Ledger, openedNumber}
-use Rattle.definitions.specs.Calls.{callWith, honestParameters, honestParametersOf, honestVariablesOf}
+use Rattle.definitions.specs.Original.{addressIn}
+use Rattle.definitions.specs.Ledger.{Content, Ledger, openedNumber, callWith, honestParameters, honestParametersOf, honestVariablesOf}
 use Rattle.typing.proofs.WellFormed.{ledger-accepted}
 use Rattle.typing.proofs.CallEnvironment.{calls-left, call-well-formed, function-exists, argument-count}
 use Rattle.context.specs.Context.{nodesIn, parametersIn, scopeIn}

@@ -4,9 +4,8 @@ use mathlib.Core.List.{List, map}
 use Prim.Native.Nat.{ℕ, _*_, _≤_}
 use lib.ListN.{length, take}
 use Rattle.definitions.specs.ContractFile.{nodesAt}
-use Rattle.definitions.specs.Places.{addressIn}
-use Rattle.definitions.specs.Ledger.{Ledger, openedNumber}
-use Rattle.definitions.specs.Calls.{callNumber}
+use Rattle.definitions.specs.Original.{addressIn}
+use Rattle.definitions.specs.Ledger.{Ledger, openedNumber, callNumber}
 use Rattle.context.specs.Context.{nodesIn, scopeIn}
 use Rattle.context.specs.Functions.{functionStart}
 use Rattle.entries.specs.Entries.{Entries}

@@ -18,8 +18,7 @@ ghost use mathlib.Core.Path.{_≡_};
 ghost use mathlib.Core.List.{map};
 ghost use Prim.Native.Nat.{_*_, min};
 ghost use lib.ListN.{length};
-ghost use Rattle.definitions.specs.Ledger.{openedNumber};
-ghost use Rattle.definitions.specs.Calls.{callNumber, callWith, honestParametersOf, honestVariablesOf};
+ghost use Rattle.definitions.specs.Ledger.{openedNumber, callNumber, callWith, honestParametersOf, honestVariablesOf};
 ghost use Rattle.ledgers.specs.Ledgers.{ledgerOf};
 ghost use Rattle.honest_calls.specs.Honest.{Opened, LogRoom, LogPut, Told, WorkedOut, ContentsRoom};
 

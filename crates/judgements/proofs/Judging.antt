@@ -7,9 +7,7 @@ use Prim.Native.Nat.{ℕ, _+_}
 use borrow.Author.Tests.{eqb-true}
 use lib.Dec.{eqb, leb}
 use lib.ListN.{length}
-use Rattle.definitions.specs.Syntax.{finalName, parameterName, Expression, constant, me, field, entry, parameter, Scope, fieldAt, parameterAt}
-use Rattle.definitions.specs.ContractFile.{ownerOfCode, dataTypeOf}
-use Rattle.definitions.specs.DataTypes.{typeOf}
+use Rattle.definitions.specs.ContractFile.{finalName, parameterName, Expression, constant, me, field, entry, parameter, Scope, fieldAt, parameterAt, ownerOfCode, dataTypeOf, typeOf}
 use Rattle.definitions.specs.Owners.{Links, ownerOf, nameOf, placeOwner}
 use Rattle.definitions.specs.Numbers.{targetInTables, expressionFaults, entryFaults, fault, readFault}
 use Rattle.faults.specs.Faults.{leastFault}

@@ -3,9 +3,7 @@ use mathlib.Core.Path.{_≡_}
 use mathlib.Core.Bool.{true, not, cond, _&&_, _||_}
 use Prim.Native.Nat.{ℕ, _+_, _<_, min}
 use lib.Dec.{eqb, leb}
-use Rattle.definitions.specs.Syntax.{Expression, Field, Parameter, Scope, dataTypeCode, shapeCode}
-use Rattle.definitions.specs.ContractFile.{ownerOfCode, fieldOwnerOfCode, dataTypeOf}
-use Rattle.definitions.specs.DataTypes.{typeOf}
+use Rattle.definitions.specs.ContractFile.{Expression, Field, Parameter, Scope, dataTypeCode, shapeCode, ownerOfCode, fieldOwnerOfCode, dataTypeOf, typeOf}
 use Rattle.definitions.specs.Owners.{Links, ownerOf, nameOf, isReader}
 use Rattle.definitions.specs.Numbers.{targetInTables, expressionFaults, fault}
 use Rattle.faults.specs.Faults.{leastFault}

@@ -7,15 +7,12 @@ use native.Mathlib.Omega.{arith}
 use borrow.Author.Tests.{eq-eqb, ne-eqb}
 use lib.Dec.{eqb, leb, ltb}
 use lib.ListN.{length}
-use Rattle.definitions.specs.Syntax.{Field, Function}
-use Rattle.definitions.specs.ContractFile.{functionCount}
-use Rattle.definitions.specs.Nodes.{contractOf}
+use Rattle.definitions.specs.ContractFile.{Field, Function, functionCount, contractOf}
 use Rattle.definitions.specs.Numbers.{checkNumber}
 use Rattle.definitions.specs.Rewriting.{rewriteFunction}
-use Rattle.definitions.specs.Places.{addressIn}
+use Rattle.definitions.specs.Original.{addressIn}
 use Rattle.definitions.specs.Ledger as ledger
-use Rattle.definitions.specs.Ledger.{plainNumber}
-use Rattle.definitions.specs.Calls.{fits, allFit, publicOf, parameterForm, lastFunction, plainPlaces, isBeforeCalls, isAfterDone, isAfterFailed, isAfterCall, isWellFormed}
+use Rattle.definitions.specs.Ledger.{plainNumber, fits, allFit, publicOf, parameterForm, functionOfLedger, isBeforeCalls, isAfterDone, isAfterFailed, isAfterCall, isWellFormed}
 use Rattle.context.specs.Context.{fieldsIn, parametersIn, scopeIn}
 use Rattle.context.specs.Functions.{functionStart}
 use Rattle.context.proofs.Functions.{functions-count, function-in}
@@ -61,7 +58,7 @@ module _ (l : ledger.Ledger) where
     known : l .function < functionCount (l .file)
     known = rw (opened .accepted .is) at inside
 
-    function-is : lastFunction l ≡ functionIn file (start file)
+    function-is : functionOfLedger l (l .function) ≡ functionIn file (start file)
     function-is = function-in (l .file) (l .function) known ∙ ap (λ (f : List ℕ). functionIn f (start f)) (sym (opened .accepted .is))
 
     fields-are : fieldsIn (l .file) ≡ fieldsIn file
@@ -105,7 +102,7 @@ module _ (l : ledger.Ledger) where
               go false c e f = refl
 
     pub failed-shows : allFit fits [] (l .variables) ≡ false → false ≡ isAfterFailed l
-    failed-shows none = sym (go (eqb (l .outcome) 1 && allFit fits (publicOf ((lastFunction l) .parameters) (map (parameterForm (l .caller)) ((lastFunction l) .parameters))) (l .parameters)) (allFit fits [] (l .variables)) none)
+    failed-shows none = sym (go (eqb (l .outcome) 1 && allFit fits (publicOf ((functionOfLedger l (l .function)) .parameters) (map (parameterForm (l .caller)) ((functionOfLedger l (l .function)) .parameters))) (l .parameters)) (allFit fits [] (l .variables)) none)
       where
         go : (a b : Bool) → b ≡ false → (a && b) ≡ false
         go true b e = e
@@ -124,7 +121,7 @@ module _ (l : ledger.Ledger) where
       ap (λ (n : ℕ). ltb 0 (l .call) && leb (l .call) 65535 && ltb (l .function) n && leb (l .caller) 15 && (isAfterDone l || isAfterFailed l))
       (functions-count (l .file) ∙ ap functionCount (sym e))
 
-  module _ (file : List ℕ) (accepted : Accepted l file) (numbers : List ℕ) (plain : numbers ≡ plainPlaces l) where
+  module _ (file : List ℕ) (accepted : Accepted l file) (numbers : List ℕ) (plain : numbers ≡ map plainNumber (l .places)) where
     well-is : isWellFormed l ≡ ((isBeforeCalls l || isAfterCall l) && allFit fits (formsOfPlaces (fieldsIn file) numbers) (l .places))
     unfolding isWellFormed contractOf fieldsIn
     well-is =

@@ -1,11 +1,11 @@
 -- What the parts of the test hand on.
 use mathlib.Core.Path.{_≡_}
-use mathlib.Core.List.{List}
+use mathlib.Core.List.{List, map}
 use Prim.Native.Nat.{ℕ, _*_, _≤_}
 use lib.ListN.{length, take}
 use Rattle.definitions.specs.Numbers.{checkNumber}
 use Rattle.definitions.specs.Ledger as ledger
-use Rattle.definitions.specs.Calls.{plainPlaces}
+use Rattle.definitions.specs.Ledger.{plainNumber}
 use Rattle.contents.specs.Contents.{contentsOf}
 
 -- Contents at the front of flat numbers, with room for so many.
@@ -22,4 +22,4 @@ pub record Accepted (l : ledger.Ledger) (file : List ℕ) : Type 0 where
 -- The plain numbers of its places beside it.
 pub record Opened (l : ledger.Ledger) (file numbers : List ℕ) : Type 0 where
   pub accepted : Accepted l file
-  pub plain : numbers ≡ plainPlaces l
+  pub plain : numbers ≡ map plainNumber (l .places)

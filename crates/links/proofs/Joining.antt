@@ -8,7 +8,7 @@ use borrow.Author.Tests.{ltb-true, eqb-true, eqb-false, eq-eqb, ne-eqb}
 use lib.Dec.{eqb, ltb}
 use lib.ListN.{length, getD, set, length-set}
 use lib.Seq.{getD-set-same, getD-set-other}
-use Rattle.definitions.specs.Syntax.{Name, meName, finalName, parameterName, sameName}
+use Rattle.definitions.specs.ContractFile.{Name, meName, finalName, parameterName, sameName}
 use Rattle.definitions.specs.Owners.{Links, noLinks, withLink, withLinkOf}
 use Rattle.definitions.specs.Numbers.{targetInTables}
 use Rattle.links.specs.Names.{nameOfCode, nameWith, codeOfName, known, linkedBy, exchanged, Exchanged}

@@ -5,8 +5,7 @@ use Prim.Native.Nat.{ℕ, zero, suc, _+_, _-_, _≤_, _<_}
 use native.Mathlib.Omega.{arith}
 use borrow.Author.Tests.{ltb-true, leb-true, lt-ltb, le-ltb, le-leb, ne-eqb}
 use lib.Dec.{eqb, leb, ltb}
-use Rattle.definitions.specs.Syntax.{Name, meName, finalName, parameterName, everyone, ownedBy}
-use Rattle.definitions.specs.ContractFile.{isFinalCode, isParameterCode, ownerOfCode}
+use Rattle.definitions.specs.ContractFile.{Name, meName, finalName, parameterName, everyone, ownedBy, isFinalCode, isParameterCode, ownerOfCode}
 use Rattle.definitions.specs.Numbers.{targetInTables}
 use Rattle.links.specs.Names.{nameOfCode, codeOfName, known}
 

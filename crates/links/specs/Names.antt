@@ -6,8 +6,7 @@ use mathlib.Core.Option.{Option, none, some}
 use Prim.Native.Nat.{ℕ, _+_, _-_, _<_}
 use lib.Dec.{eqb, ltb}
 use lib.ListN.{getD}
-use Rattle.definitions.specs.Syntax.{Name, meName, finalName, parameterName, sameName}
-use Rattle.definitions.specs.ContractFile.{isFinalCode}
+use Rattle.definitions.specs.ContractFile.{Name, meName, finalName, parameterName, sameName, isFinalCode}
 use Rattle.definitions.specs.Owners.{Links}
 
 -- The name that an owner code other than 0 gives.

@@ -6,7 +6,7 @@ use Prim.Native.Nat.{ℕ, _<_, _≤_}
 use native.Mathlib.Omega.{arith}
 use borrow.Author.Tests.{eqb-true, eqb-false}
 use lib.Dec.{eqb}
-use Rattle.definitions.specs.Syntax.{Expression}
+use Rattle.definitions.specs.ContractFile.{Expression}
 use Rattle.context.specs.Context.{nodesIn}
 use Rattle.events.specs.Events.{Events, noEvents, inTurn}
 use Rattle.events.specs.Parts.{eachPart}

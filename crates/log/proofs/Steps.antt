@@ -6,9 +6,7 @@ use Prim.Native.Nat.{ℕ, _-_, _<_}
 use native.Mathlib.Omega.{arith}
 use borrow.Author.Tests.{eq-eqb, ne-eqb}
 use lib.ListN.{length, length-map}
-use Rattle.definitions.specs.Syntax.{Owner}
-use Rattle.definitions.specs.ContractFile.{nodeCount, ownerCode, sectionsOf}
-use Rattle.definitions.specs.Nodes.{nodeOf}
+use Rattle.definitions.specs.ContractFile.{Owner, nodeCount, ownerCode, sectionsOf, nodeOf}
 use Rattle.file.proofs.Sections.{count-of-nodes}
 use Rattle.definitions.specs.Owners.{ownerOf}
 use Rattle.context.specs.Context.{nodesIn, scopeIn}

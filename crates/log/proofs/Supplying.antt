@@ -4,8 +4,8 @@ use mathlib.Core.List.{List, [], _∷_}
 use Prim.Native.Nat.{ℕ, suc, _+_, _<_}
 use native.Mathlib.Omega.{arith}
 use lib.ListN.{length, length-append}
-use Rattle.definitions.specs.Syntax.{Owner, Expression}
-use Rattle.definitions.specs.Written.{Guard}
+use Rattle.definitions.specs.ContractFile.{Owner, Expression}
+use Rattle.definitions.specs.Rewriting.{Guard}
 use Rattle.context.specs.Context.{nodesIn}
 use Rattle.events.specs.Events.{claimedEvent, variablesOf, variableCount, Events, supplyEvents}
 use Rattle.events.proofs.Appended.{variables-append}

@@ -2,8 +2,7 @@
 use mathlib.Core.Path.{_≡_}
 use mathlib.Core.List.{List}
 use Prim.Native.Nat.{ℕ, _<_}
-use Rattle.definitions.specs.Syntax.{Owner}
-use Rattle.definitions.specs.ContractFile.{nodeCount, ownerCode}
+use Rattle.definitions.specs.ContractFile.{Owner, nodeCount, ownerCode}
 use Rattle.trees.specs.Trees.{statementIn}
 use Rattle.context.specs.Context.{Context, nodesIn, scopeIn}
 use Rattle.events.specs.Events.{Events, supplyEvents, bodyEvents, circuitEvents, statementEvents}

@@ -5,8 +5,7 @@ use mathlib.Core.List.{List, _∷_}
 use Prim.Native.Nat.{ℕ, suc, _+_}
 use lib.Dec.{eqb}
 use lib.ListN.{length, getD}
-use Rattle.definitions.specs.Syntax.{Scope}
-use Rattle.definitions.specs.Nodes.{Node}
+use Rattle.definitions.specs.ContractFile.{Scope, Node}
 use Rattle.definitions.specs.Rewriting.{Step, inBody}
 use Rattle.trees.specs.Trees.{expressionIn}
 use Rattle.events.specs.Events.{Event, stepsOf}

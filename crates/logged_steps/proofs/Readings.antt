@@ -4,8 +4,7 @@ use mathlib.Core.List.{List, _++_}
 use Prim.Native.Nat.{ℕ, zero, suc, _+_, _*_, _<_, _≤_}
 use native.Mathlib.Omega.{arith}
 use lib.ListN.{length, getD, length-append}
-use Rattle.definitions.specs.ContractFile.{nodeCount}
-use Rattle.definitions.specs.Nodes.{Node}
+use Rattle.definitions.specs.ContractFile.{nodeCount, Node}
 use Rattle.trees.specs.Trees.{expressionIn}
 use Rattle.context.specs.Context.{nodesIn, scopeIn}
 use Rattle.variable_counts.specs.Counts.{bodyCount}

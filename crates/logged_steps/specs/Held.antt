@@ -3,7 +3,7 @@ use mathlib.Core.Path.{_≡_}
 use mathlib.Core.List.{List, [], _∷_, _++_}
 use Prim.Native.Nat.{ℕ, _+_, _≤_}
 use lib.ListN.{length}
-use Rattle.definitions.specs.Syntax.{Scope}
+use Rattle.definitions.specs.ContractFile.{Scope}
 use Rattle.events.specs.Events.{Event, suppliedEvent, claimedEvent, readEvent, guardEvent}
 use Rattle.variable_counts.specs.Counts.{bodyCount}
 

@@ -9,7 +9,7 @@ use lib.Dec.{eqb}
 use lib.ListN.{length, getD, set, drop, replicate}
 use lib.Seq.{getD-set-same, getD-set-other}
 use Rattle.definitions.specs.Basics.{any}
-use Rattle.definitions.specs.WrittenFile.{eachOnce}
+use Rattle.definitions.specs.Rewriting.{eachOnce}
 use Rattle.append.specs.Append.{Appended, Appending}
 use Rattle.append.proofs.Laws.{appended-nothing, appending-start, appending-same, appending-room, appending-next, appending-done}
 use Rattle.logged_variables.specs.PerEntry.{perEntry}

@@ -9,11 +9,8 @@ use borrow.Author.Tests.{ne-eqb}
 use lib.Dec.{eqb, leb}
 use lib.ListN.{length}
 use Rattle.definitions.specs.Basics.{countIf, flatMap}
-use Rattle.definitions.specs.Syntax.{Name, meName, finalName, parameterName, Owner, everyone, ownedBy, Expression, Scope}
-use Rattle.definitions.specs.ContractFile.{ownerCode}
-use Rattle.definitions.specs.Nodes.{Node}
-use Rattle.definitions.specs.Written.{supplied, readFrom, origin}
-use Rattle.definitions.specs.WrittenFile.{variableBytes, keyOf}
+use Rattle.definitions.specs.ContractFile.{Name, meName, finalName, parameterName, Owner, everyone, ownedBy, Expression, Scope, ownerCode, Node}
+use Rattle.definitions.specs.Rewriting.{supplied, readFrom, origin, variableBytes, keyOf}
 use Rattle.trees.specs.Trees.{expressionIn}
 use Rattle.events.specs.Events.{Event, variablesOf, constraintsOf}
 use Rattle.entries.specs.Entries.{suppliedEntry, claimedEntry, readEntry, guardEntry, Entries, noEntry, entryThen}

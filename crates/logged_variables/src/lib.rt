@@ -7,7 +7,7 @@ ghost use lib.ListN.{length};
 ghost use Rattle.append.specs.Append.{Appended};
 ghost use Rattle.logged_variables.specs.PerEntry.{perEntry, ofTag, countTag};
 ghost use Rattle.logged_variables.specs.Variables.{originOf, variableOf, keyCode, onceUnseen, seenIn, KeysTaken};
-ghost use Rattle.definitions.specs.WrittenFile.{eachOnce};
+ghost use Rattle.definitions.specs.Rewriting.{eachOnce};
 
 // 1 where two numbers are the same.
 fn one_if_same(a: u16, b: u16) -> usize

@@ -6,8 +6,7 @@ use Prim.Native.Nat.{ℕ, _+_, _-_, _<_, _≤_}
 use lib.Dec.{leb}
 use borrow.Author.Tests.{le-leb, lt-leb}
 use Rattle.definitions.specs.Basics.{any, anyNumbered}
-use Rattle.definitions.specs.ContractFile.{byteAt, twoBytesAt, functionEnd, fieldOf, fieldOwnerOfCode, fieldRecords, functionRecord, functionRecords, nodeRecord, nodeRecords, sectionsOf}
-use Rattle.definitions.specs.Nodes.{nodeOf, fieldsNamed, children}
+use Rattle.definitions.specs.ContractFile.{byteAt, twoBytesAt, functionEnd, fieldOf, fieldOwnerOfCode, fieldRecords, functionRecord, functionRecords, nodeRecord, nodeRecords, sectionsOf, nodeOf, fieldsNamed, children}
 use Rattle.definitions.specs.Numbers.{fieldOfDeclaredOwner, namesNothing}
 use Rattle.file.specs.declared.Layout.{Layout}
 use Rattle.file.specs.declared.Node.{Node}

@@ -8,8 +8,7 @@ use lib.Dec.{eqb, leb, ltb}
 use lib.ListN.{getD}
 use borrow.Author.Tests.{eqb-true, eq-eqb, ne-eqb, leb-true}
 use Rattle.definitions.specs.Basics.{any}
-use Rattle.definitions.specs.ContractFile.{NodeRecord, isFinalCode, ownerOfCode, fieldOwnerOfCode}
-use Rattle.definitions.specs.Nodes.{Kind, constantKind, meKind, fieldKind, entryKind, parameterKind, operatorKind, negationKind, revealKind, skipKind, sequenceKind, assignFieldKind, assignEntryKind, requireKind, conditionalKind, noKind, kindOf, nodeOf, nodeOfKind, fieldsNamed, fieldOfOwner}
+use Rattle.definitions.specs.ContractFile.{NodeRecord, isFinalCode, ownerOfCode, fieldOwnerOfCode, Kind, constantKind, meKind, fieldKind, entryKind, parameterKind, operatorKind, negationKind, revealKind, skipKind, sequenceKind, assignFieldKind, assignEntryKind, requireKind, conditionalKind, noKind, kindOf, nodeOf, nodeOfKind, fieldsNamed, fieldOfOwner}
 use Rattle.definitions.specs.Numbers.{fieldOfDeclaredOwner}
 use Rattle.nodes.proofs.Truth.{or-false, both-true}
 use Rattle.nodes.proofs.Loops.{allBelow, allBelow-at}

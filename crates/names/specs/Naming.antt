@@ -3,8 +3,7 @@ use mathlib.Core.Bool.{Bool, _||_}
 use Prim.Native.Nat.{ℕ}
 use lib.Dec.{leb}
 use Rattle.definitions.specs.Basics.{any}
-use Rattle.definitions.specs.ContractFile.{FieldRecord, FunctionRecord, NodeRecord, fieldOf}
-use Rattle.definitions.specs.Nodes.{Kind, constantKind, meKind, fieldKind, entryKind, parameterKind, operatorKind, negationKind, revealKind, skipKind, sequenceKind, assignFieldKind, assignEntryKind, requireKind, conditionalKind, noKind, kindOf, nodeOf, fieldsNamed, children}
+use Rattle.definitions.specs.ContractFile.{FieldRecord, FunctionRecord, NodeRecord, fieldOf, Kind, constantKind, meKind, fieldKind, entryKind, parameterKind, operatorKind, negationKind, revealKind, skipKind, sequenceKind, assignFieldKind, assignEntryKind, requireKind, conditionalKind, noKind, kindOf, nodeOf, fieldsNamed, children}
 use Rattle.definitions.specs.Numbers.{fieldOfDeclaredOwner}
 
 abbrev pub ownerNamesNothing : ℕ → FieldRecord → Bool

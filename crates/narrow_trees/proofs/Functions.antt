@@ -6,11 +6,8 @@ use Prim.Native.Nat.{ℕ, suc, _+_, _*_, _-_, _<_, _≤_}
 use native.Mathlib.Omega.{arith}
 use lib.ListN.{length, length-append, length-map}
 use Rattle.definitions.specs.Basics.{flatMap}
-use Rattle.definitions.specs.Syntax.{Field, Parameter, Function, Scope}
-use Rattle.definitions.specs.ContractFile.{NodeRecord, byteAt, nodesAt, parameterRecords, parameterOf}
-use Rattle.definitions.specs.Written.{BodyExpression, Command, Claim, equals, opensForCaller, always, Constraint, WrittenFunction}
-use Rattle.definitions.specs.Rewriting.{privateParameters, openings, heldUnder, withVerify, rewriteStatement, rewriteFunction}
-use Rattle.definitions.specs.WrittenFile.{Tree, sizes, numberedAll, nodeBytes, commandTree, claimTrees, functionTrees}
+use Rattle.definitions.specs.ContractFile.{Field, Parameter, Function, Scope, NodeRecord, byteAt, nodesAt, parameterRecords, parameterOf}
+use Rattle.definitions.specs.Rewriting.{BodyExpression, Command, Claim, equals, opensForCaller, always, Constraint, WrittenFunction, privateParameters, openings, heldUnder, withVerify, rewriteStatement, rewriteFunction, Tree, sizes, numberedAll, nodeBytes, commandTree, claimTrees, functionTrees}
 use Rattle.trees.specs.Trees.{statementIn}
 use Rattle.context.specs.Context.{Context, nodesIn, fieldsIn, parametersIn, scopeIn}
 use Rattle.context.specs.Functions.{rootAt}

@@ -8,11 +8,8 @@ use native.Mathlib.Omega.{arith}
 use borrow.Author.Tests.{ltb-true}
 use lib.Dec.{leb}
 use Rattle.definitions.specs.Basics.{isZero}
-use Rattle.definitions.specs.Syntax.{DataType, boolean, uint, address, Owner, everyone, ownedBy, Name, meName, finalName, parameterName, Scope, fieldAt}
-use Rattle.definitions.specs.ContractFile.{NodeRecord, nodesAt, nodeRecord, dataTypeOf, ownerOfCode}
-use Rattle.definitions.specs.DataTypes.{isOfType}
+use Rattle.definitions.specs.ContractFile.{DataType, boolean, uint, address, Owner, everyone, ownedBy, Name, meName, finalName, parameterName, Scope, fieldAt, NodeRecord, nodesAt, nodeRecord, dataTypeOf, ownerOfCode, isOfType, Kind, constantKind, meKind, fieldKind, entryKind, parameterKind, operatorKind, negationKind, revealKind, skipKind, sequenceKind, assignFieldKind, assignEntryKind, requireKind, conditionalKind, noKind, kindOf, constantValue, nodeOfKind, expressionOf, statementOf, statementAt}
 use Rattle.definitions.specs.Owners.{nameOf, placeOwner}
-use Rattle.definitions.specs.Nodes.{Kind, constantKind, meKind, fieldKind, entryKind, parameterKind, operatorKind, negationKind, revealKind, skipKind, sequenceKind, assignFieldKind, assignEntryKind, requireKind, conditionalKind, noKind, kindOf, constantValue, nodeOfKind, expressionOf, statementOf, statementAt}
 use Rattle.definitions.specs.Numbers.{targetInTables, kindInTables}
 use Rattle.trees.specs.Trees.{Keeps}
 use Rattle.trees.proofs.Kept.{statement-kept}

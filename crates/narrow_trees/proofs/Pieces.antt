@@ -5,10 +5,8 @@ use mathlib.Core.List.{List, [], _∷_, _++_}
 use Prim.Native.Nat.{ℕ, suc, _+_, _/_, _%_, _<_, _≤_}
 use native.Mathlib.Omega.{arith}
 use lib.ListN.{length, length-append}
-use Rattle.definitions.specs.Syntax.{DataType, boolean, uint, address, dataTypeCode, Operator, plus, minus, times, divide, remainder, less, lessOrEqual, equal, unequal, conjunction, disjunction, operatorCode, Owner, everyone, ownedBy, Expression}
-use Rattle.definitions.specs.Written.{BodyExpression, Circuit, Command, Variable, Claim, equals, opensForCaller}
-use Rattle.definitions.specs.Rewriting.{Step, Piece, Generator, kept, onePart, twoParts, supplying, reading, readForm}
-use Rattle.definitions.specs.WrittenFile.{bodyTree, circuitTree, commandTree, constantTree}
+use Rattle.definitions.specs.ContractFile.{DataType, boolean, uint, address, dataTypeCode, Operator, plus, minus, times, divide, remainder, less, lessOrEqual, equal, unequal, conjunction, disjunction, operatorCode, Owner, everyone, ownedBy, Expression}
+use Rattle.definitions.specs.Rewriting.{BodyExpression, Circuit, Command, Variable, Claim, equals, opensForCaller, Step, Piece, Generator, kept, onePart, twoParts, supplying, reading, readForm, bodyTree, circuitTree, commandTree, leaf}
 use Rattle.written_trees.proofs.Narrowness.{NarrowTree, narrowLeaf}
 use Rattle.constraints.specs.Numbers.{HasCode}
 
@@ -63,7 +61,7 @@ operator-small unequal = omega arith
 operator-small conjunction = omega arith
 operator-small disjunction = omega arith
 
-pub constant-narrow : (t : DataType) (v : ℕ) → v < 4294967296 → NarrowTree (constantTree t v)
+pub constant-narrow : (t : DataType) (v : ℕ) → v < 4294967296 → NarrowTree (leaf 1 (dataTypeCode t) (v % 65536) (v / 65536))
 constant-narrow t v h = narrowLeaf 1 (dataTypeCode t) (v % 65536) (v / 65536) (omega arith) (type-small t) (omega arith) (omega arith)
 
 pub variable-narrow : (i : ℕ) → i < 65536 → NarrowBody (BodyExpression.variable i)

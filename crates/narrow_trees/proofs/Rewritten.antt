@@ -5,11 +5,9 @@ use mathlib.Core.Option.{none}
 use Prim.Native.Nat.{ℕ, suc, _+_, _<_, _≤_}
 use native.Mathlib.Omega.{arith}
 use lib.ListN.{length, length-append}
-use Rattle.definitions.specs.Syntax.{DataType, boolean, meName, Owner, everyone, ownedBy, Operator, operatorCode, Expression, Statement, Scope, fieldAt, isDivision}
+use Rattle.definitions.specs.ContractFile.{DataType, boolean, meName, Owner, everyone, ownedBy, Operator, operatorCode, Expression, Statement, Scope, fieldAt, isDivision}
 use Rattle.definitions.specs.Owners.{nameOf, placeOwner, isPublic}
-use Rattle.definitions.specs.Written.{BodyExpression, Circuit, Command, Claim, Guard, under, Constraint}
-use Rattle.definitions.specs.Rewriting.{Step, Generator, kept, onePart, twoParts, operatorInCircuit, inBody, inCircuit, inPlace, stepsBefore, heldUnder, Passage, StatementGenerator, single, inSequence, inBranch, inBranches, rewriteStatement}
-use Rattle.definitions.specs.WrittenFile.{bodyTree, circuitTree, commandTree}
+use Rattle.definitions.specs.Rewriting.{BodyExpression, Circuit, Command, Claim, Guard, under, Constraint, Step, Generator, kept, onePart, twoParts, operatorInCircuit, inBody, inCircuit, inPlace, stepsBefore, heldUnder, Passage, StatementGenerator, single, inSequence, inBranch, inBranches, rewriteStatement, bodyTree, circuitTree, commandTree}
 use Rattle.written_trees.proofs.Narrowness.{narrowLeaf, narrowOne, narrowTwo, narrowThree, narrowSetting}
 use Rattle.constraints.specs.Numbers.{HasCode}
 use Rattle.narrow_trees.specs.Narrow.{NarrowExpression, NarrowStatement, CodedScope}

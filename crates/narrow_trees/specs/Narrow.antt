@@ -3,11 +3,9 @@ use mathlib.Core.List.{List}
 use mathlib.Core.Option.{none}
 use mathlib.Core.Path.{_≡_}
 use Prim.Native.Nat.{ℕ, _-_, _<_}
-use Rattle.definitions.specs.Syntax.{Expression, Statement, Scope, fieldAt}
-use Rattle.definitions.specs.ContractFile.{byteAt}
+use Rattle.definitions.specs.ContractFile.{Expression, Statement, Scope, fieldAt, byteAt}
 use Rattle.definitions.specs.Basics.{flatMap}
-use Rattle.definitions.specs.Written.{WrittenFunction}
-use Rattle.definitions.specs.WrittenFile.{sizes, numberedAll, nodeBytes, functionTrees}
+use Rattle.definitions.specs.Rewriting.{WrittenFunction, sizes, numberedAll, nodeBytes, functionTrees}
 use Rattle.definitions.specs.Owners.{nameOf, placeOwner}
 use Rattle.written_trees.specs.Trees.{commandIn}
 use Rattle.written_trees.specs.Table.{countOf, tableOf, Readable}

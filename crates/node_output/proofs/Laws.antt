@@ -6,7 +6,7 @@ use native.Mathlib.Omega.{arith}
 use lib.ListN.{length, length-append}
 use Rattle.definitions.specs.Basics.{flatMap}
 use Rattle.definitions.specs.ContractFile.{NodeRecord, node}
-use Rattle.definitions.specs.WrittenFile.{Tree, leaf, oneChild, twoChildren, threeChildren, setting, size, numbered, nodeBytes}
+use Rattle.definitions.specs.Rewriting.{Tree, leaf, oneChild, twoChildren, threeChildren, setting, size, numbered, nodeBytes}
 use Rattle.buffer.specs.Buffer.{stored}
 use Rattle.buffer.proofs.Laws.{stored-length, stored-then}
 use Rattle.node_output.specs.Numbering.{treeBytes, Room, Numbered}

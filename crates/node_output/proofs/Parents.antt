@@ -5,7 +5,7 @@ use Prim.Native.Nat.{ℕ, _+_, _*_, _-_, _≤_}
 use native.Mathlib.Omega.{arith}
 use lib.ListN.{length, length-append}
 use Rattle.definitions.specs.ContractFile.{node}
-use Rattle.definitions.specs.WrittenFile.{Tree, threeChildren, setting, size, nodeBytes}
+use Rattle.definitions.specs.Rewriting.{Tree, threeChildren, setting, size, nodeBytes}
 use Rattle.buffer.specs.Buffer.{stored}
 use Rattle.node_output.specs.Numbering.{treeBytes, Room, Numbered}
 use Rattle.node_output.proofs.Laws.{bytes-length, size-positive, setting-bytes, three-bytes, run-then, numbered-keeps}

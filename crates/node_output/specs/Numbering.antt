@@ -4,7 +4,7 @@ use mathlib.Core.List.{List}
 use Prim.Native.Nat.{ℕ, _+_, _*_, _≤_}
 use lib.ListN.{length}
 use Rattle.definitions.specs.Basics.{flatMap}
-use Rattle.definitions.specs.WrittenFile.{Tree, size, numbered, nodeBytes}
+use Rattle.definitions.specs.Rewriting.{Tree, size, numbered, nodeBytes}
 use Rattle.buffer.specs.Buffer.{stored}
 
 unfoldable pub treeBytes : ℕ → Tree → List ℕ

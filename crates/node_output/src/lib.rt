@@ -5,7 +5,7 @@ ghost use mathlib.Core.Path.{_≡_};
 ghost use Prim.Native.Nat.{_+_, _*_, _-_, _≤_};
 ghost use lib.ListN.{length};
 ghost use Rattle.definitions.specs.ContractFile.{node};
-ghost use Rattle.definitions.specs.WrittenFile.{nodeBytes};
+ghost use Rattle.definitions.specs.Rewriting.{nodeBytes};
 ghost use Rattle.buffer.specs.Buffer.{stored};
 
 // "each is kind, arg, then first, second and third of two bytes"

@@ -3,8 +3,7 @@ use mathlib.Core.Path.{_≡_, ap, sym, _∙_}
 use mathlib.Core.List.{List, [], _∷_}
 use Prim.Native.Nat.{ℕ, _<_, _≤_}
 use lib.ListN.{take}
-use Rattle.definitions.specs.ContractFile.{NodeRecord}
-use Rattle.definitions.specs.Nodes.{nodeOf, children}
+use Rattle.definitions.specs.ContractFile.{NodeRecord, nodeOf, children}
 use Rattle.nodes.specs.Children.{childCount, parts}
 use Rattle.nodes.proofs.Children.{children-are}
 use Rattle.nodes.proofs.Parts.{no-parts, one-part, two-parts, three-parts}

@@ -7,8 +7,7 @@ use native.Mathlib.Omega.{arith}
 use lib.Dec.{eqb, leb, ltb}
 use lib.ListN.{getD, take}
 use borrow.Author.Tests.{eqb-true, ne-eqb, lt-leb, le-leb, ltb-true, ltb-false}
-use Rattle.definitions.specs.ContractFile.{NodeRecord}
-use Rattle.definitions.specs.Nodes.{Kind, constantKind, meKind, fieldKind, entryKind, parameterKind, operatorKind, negationKind, revealKind, skipKind, sequenceKind, assignFieldKind, assignEntryKind, requireKind, conditionalKind, noKind, kindOf, nodeOfKind, nodeOf, expressionParts, statementParts, children, isExpression, isStatement}
+use Rattle.definitions.specs.ContractFile.{NodeRecord, Kind, constantKind, meKind, fieldKind, entryKind, parameterKind, operatorKind, negationKind, revealKind, skipKind, sequenceKind, assignFieldKind, assignEntryKind, requireKind, conditionalKind, noKind, kindOf, nodeOfKind, nodeOf, expressionParts, statementParts, children, isExpression, isStatement}
 use Rattle.nodes.specs.Children.{childrenOfKind, expressionsOfKind, childCount, expressionCount, parts, isExpressionKind, isStatementKind}
 use Rattle.nodes.proofs.Truth.{both-true}
 use Rattle.nodes.proofs.Loops.{allBelow, allBelow-at}

@@ -5,8 +5,7 @@ use mathlib.Core.List.{List, [], _∷_, map}
 use Prim.Native.Nat.{ℕ, zero, suc, _+_, _*_, _<_, _≤_}
 use native.Mathlib.Omega.{arith}
 use Rattle.definitions.specs.Basics.{any}
-use Rattle.definitions.specs.ContractFile.{nodeRecord, nodeRecords}
-use Rattle.definitions.specs.Nodes.{unknownNode, nodeOf, nodeAt}
+use Rattle.definitions.specs.ContractFile.{nodeRecord, nodeRecords, unknownNode, nodeOf, nodeAt}
 
 pub node-within : (count : ℕ) (file : List ℕ) (at n : ℕ) → n < count → nodeAt (map nodeOf (nodeRecords count file at)) n ≡ nodeOf
     (nodeRecord file (at + 8 * n))

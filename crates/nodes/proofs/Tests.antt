@@ -5,8 +5,7 @@ use mathlib.Core.List.{List, [], _∷_}
 use Prim.Native.Nat.{ℕ, _-_, _<_, _≤_}
 use lib.ListN.{take}
 use Rattle.definitions.specs.Basics.{any}
-use Rattle.definitions.specs.ContractFile.{NodeRecord}
-use Rattle.definitions.specs.Nodes.{nodeOf, children}
+use Rattle.definitions.specs.ContractFile.{NodeRecord, nodeOf, children}
 use Rattle.nodes.specs.Children.{childCount, parts}
 use Rattle.nodes.proofs.Truth.{or-false}
 use Rattle.nodes.proofs.ByCount.{children-by}

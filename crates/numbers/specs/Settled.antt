@@ -3,8 +3,7 @@ use mathlib.Core.Path.{_≡_}
 use mathlib.Core.Bool.{Bool, false}
 use mathlib.Core.List.{List, _∷_}
 use Prim.Native.Nat.{ℕ}
-use Rattle.definitions.specs.ContractFile.{sectionsOf}
-use Rattle.definitions.specs.Nodes.{contractOf}
+use Rattle.definitions.specs.ContractFile.{sectionsOf, contractOf}
 use Rattle.definitions.specs.Numbers.{endsWrongly, countOffLimits, outsideTables, namesNothing, usedOtherThanOnce, tooDeep, wrongSort, contractSentences}
 
 -- Number n stands at n - 1.

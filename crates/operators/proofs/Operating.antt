@@ -3,9 +3,7 @@ use mathlib.Core.Path.{_≡_, refl}
 use mathlib.Core.Bool.{Bool, true, not, _&&_, _||_}
 use Prim.Native.Nat.{ℕ}
 use lib.Dec.{eqb}
-use Rattle.definitions.specs.Syntax.{Expression, operator, negation, reveal, Scope, isDivision}
-use Rattle.definitions.specs.ContractFile.{ownerOfCode, operatorOf}
-use Rattle.definitions.specs.DataTypes.{typeOf}
+use Rattle.definitions.specs.ContractFile.{Expression, operator, negation, reveal, Scope, isDivision, ownerOfCode, operatorOf, typeOf}
 use Rattle.definitions.specs.Owners.{Links, ownerOf, nameOf}
 use Rattle.definitions.specs.Numbers.{targetInTables, expressionFaults, fault, ownerFits}
 use Rattle.faults.proofs.Faults.{least-append, least-one, counted-8, counted-9, counted-12, counted-13}

@@ -2,9 +2,7 @@
 use mathlib.Core.Bool.{Bool, not, cond, _&&_, _||_}
 use Prim.Native.Nat.{ℕ, min}
 use lib.Dec.{eqb}
-use Rattle.definitions.specs.Syntax.{dataTypeCode, isDivision}
-use Rattle.definitions.specs.ContractFile.{operatorOf}
-use Rattle.definitions.specs.DataTypes.{resultType}
+use Rattle.definitions.specs.ContractFile.{dataTypeCode, isDivision, operatorOf, resultType}
 use Rattle.definitions.specs.Owners.{Links}
 use Rattle.codes.specs.Codes.{fitCodes, partsCode}
 use Rattle.judgements.specs.Judging.{unreadFault}

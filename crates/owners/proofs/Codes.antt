@@ -7,8 +7,7 @@ use native.Mathlib.Omega.{arith}
 use borrow.Author.Tests.{eqb-true, eqb-false, leb-true, ne-eqb}
 use lib.Dec.{eqb, leb}
 use Rattle.definitions.specs.Basics.{isZero}
-use Rattle.definitions.specs.Syntax.{Name, meName, finalName, parameterName, Owner, everyone, ownedBy, FieldOwner, toEveryone, toKey, toFinal, isEveryone}
-use Rattle.definitions.specs.ContractFile.{FieldRecord, isFinalCode, isParameterCode, ownerOfCode, fieldOwnerOfCode, ownerCode, fieldOwnerCode}
+use Rattle.definitions.specs.ContractFile.{Name, meName, finalName, parameterName, Owner, everyone, ownedBy, FieldOwner, toEveryone, toKey, toFinal, isEveryone, FieldRecord, isFinalCode, isParameterCode, ownerOfCode, fieldOwnerOfCode, ownerCode, fieldOwnerCode}
 use Rattle.definitions.specs.Owners.{ownerOfParts, placeOwner}
 use Rattle.definitions.specs.Numbers.{fieldInTables, targetInTables}
 use Rattle.context.proofs.Nodes.{both-left, both-right}

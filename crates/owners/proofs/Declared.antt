@@ -7,8 +7,7 @@ use Prim.Native.Nat.{ℕ, _+_, _*_, _<_, _≤_}
 use native.Mathlib.Omega.{arith}
 use borrow.Author.Tests.{ne-eqb, eq-eqb}
 use lib.Dec.{eqb}
-use Rattle.definitions.specs.Syntax.{boolean, uint, address, plainField, mapping, finalName, parameterName, fieldAt, parameterAt, isFinal, sameType}
-use Rattle.definitions.specs.ContractFile.{byteAt, fieldCount, dataTypeOf, shapeOf, fieldOf, parameterOf, ownerCode, fieldOwnerCode}
+use Rattle.definitions.specs.ContractFile.{boolean, uint, address, plainField, mapping, finalName, parameterName, fieldAt, parameterAt, isFinal, sameType, byteAt, fieldCount, dataTypeOf, shapeOf, fieldOf, parameterOf, ownerCode, fieldOwnerCode}
 use Rattle.definitions.specs.Owners.{isPublicAddress, parameterOwner}
 use Rattle.context.specs.Context.{fieldsIn, parametersIn, fieldRecordAt}
 use Rattle.context.proofs.Declarations.{field-declared, field-missing, parameter-declared, parameter-missing}

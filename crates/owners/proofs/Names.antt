@@ -3,8 +3,7 @@ use mathlib.Core.Path.{_≡_, ap, sym, _∙_}
 use mathlib.Core.Bool.{true, cond}
 use mathlib.Core.Option.{none, some}
 use Prim.Native.Nat.{ℕ}
-use Rattle.definitions.specs.Syntax.{DataType, Owner, everyone, Operator, Expression, Scope, fieldAt, parameterAt, isFinal, finalName, parameterName}
-use Rattle.definitions.specs.ContractFile.{ownerOfCode, ownerCode, fieldOwnerCode}
+use Rattle.definitions.specs.ContractFile.{DataType, Owner, everyone, Operator, Expression, Scope, fieldAt, parameterAt, isFinal, finalName, parameterName, ownerOfCode, ownerCode, fieldOwnerCode}
 use Rattle.definitions.specs.Owners.{nameOf, ownerOf, isPublicAddress, parameterOwner, isPublic}
 use Rattle.definitions.specs.Numbers.{targetInTables}
 use Rattle.owners.specs.Codes.{nameCode, partsCode, placeCode}

@@ -4,8 +4,7 @@ use mathlib.Core.Bool.{true, _&&_}
 use mathlib.Core.List.{List}
 use Prim.Native.Nat.{ℕ, _+_, _*_, _<_}
 use Rattle.definitions.specs.Basics.{isZero}
-use Rattle.definitions.specs.ContractFile.{NodeRecord, nodeCount, nodeRecord}
-use Rattle.definitions.specs.Nodes.{revealKind, kindOf}
+use Rattle.definitions.specs.ContractFile.{NodeRecord, nodeCount, nodeRecord, revealKind, kindOf}
 use Rattle.definitions.specs.Numbers.{kindInTables, targetInTables}
 use Rattle.context.specs.Context.{Context}
 use Rattle.context.proofs.Nodes.{listed-is, both-left}

@@ -5,8 +5,7 @@ use mathlib.Core.List.{List}
 use mathlib.Core.Option.{Option, none, some}
 use Prim.Native.Nat.{ℕ, _<_}
 use lib.Dec.{eqb}
-use Rattle.definitions.specs.Syntax.{Name, ownedBy}
-use Rattle.definitions.specs.ContractFile.{fieldCount, ownerCode}
+use Rattle.definitions.specs.ContractFile.{Name, ownedBy, fieldCount, ownerCode}
 use Rattle.definitions.specs.Numbers.{fieldInTables}
 use Rattle.context.specs.Context.{fieldRecordAt}
 

@@ -6,9 +6,7 @@ use native.Mathlib.Numerals.{add-one}
 use native.Mathlib.Omega.{arith}
 use lib.ListN.{length}
 use Rattle.definitions.specs.Basics.{flatMap, twoBytes}
-use Rattle.definitions.specs.Written.{always, Constraint}
-use Rattle.definitions.specs.Rewriting.{openings, heldUnder}
-use Rattle.definitions.specs.WrittenFile.{sizes, variableBytes, keyOf, constraintBytes}
+use Rattle.definitions.specs.Rewriting.{always, Constraint, openings, heldUnder, sizes, variableBytes, keyOf, constraintBytes}
 use Rattle.append.specs.Append.{Appended, Appending}
 use Rattle.append.proofs.Laws.{appended-then, appending-start, appending-same, appending-room, appending-next, appending-done}
 use Rattle.parameter_output.specs.Parameters.{openingVariables, openingClaims}

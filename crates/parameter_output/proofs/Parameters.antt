@@ -8,10 +8,8 @@ use borrow.Author.Tests.{eq-eqb, ne-eqb}
 use lib.Dec.{eqb}
 use lib.ListN.{length}
 use Rattle.definitions.specs.Basics.{flatMap}
-use Rattle.definitions.specs.Syntax.{Parameter, dataTypeCode}
-use Rattle.definitions.specs.ContractFile.{byteAt, dataTypeOf, ParameterRecord, parameterRecords, parameterOf}
-use Rattle.definitions.specs.Rewriting.{privateParameters}
-use Rattle.definitions.specs.WrittenFile.{parameterBytes}
+use Rattle.definitions.specs.ContractFile.{Parameter, dataTypeCode, byteAt, dataTypeOf, ParameterRecord, parameterRecords, parameterOf}
+use Rattle.definitions.specs.Rewriting.{privateParameters, parameterBytes}
 use Rattle.append.specs.Append.{Appended, Appending}
 use Rattle.append.proofs.Laws.{appended-then, appending-room, appending-next, appending-done}
 use Rattle.parameter_output.specs.Parameters.{parameterRead, parametersFrom, privateCount, oneIfPrivate}

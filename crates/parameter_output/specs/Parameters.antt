@@ -6,8 +6,7 @@ use lib.Dec.{eqb}
 use lib.ListN.{length}
 use Rattle.definitions.specs.Basics.{flatMap, twoBytes}
 use Rattle.definitions.specs.ContractFile.{ParameterRecord, parameterRecords, parameterOf}
-use Rattle.definitions.specs.Rewriting.{privateParameters}
-use Rattle.definitions.specs.WrittenFile.{parameterBytes}
+use Rattle.definitions.specs.Rewriting.{privateParameters, parameterBytes}
 
 abbrev pub parameterRead : ℕ → ℕ → ParameterRecord
 parameterRead type owner = record { type = type; owner = owner }

@@ -7,9 +7,8 @@ ghost use mathlib.Core.List.{_++_};
 ghost use Prim.Native.Nat.{_+_, _*_, _≤_};
 ghost use lib.ListN.{length};
 ghost use Rattle.definitions.specs.Basics.{twoBytes};
-ghost use Rattle.definitions.specs.Syntax.{dataTypeCode};
-ghost use Rattle.definitions.specs.ContractFile.{dataTypeOf, parameterOf};
-ghost use Rattle.definitions.specs.WrittenFile.{parameterBytes};
+ghost use Rattle.definitions.specs.ContractFile.{dataTypeCode, dataTypeOf, parameterOf};
+ghost use Rattle.definitions.specs.Rewriting.{parameterBytes};
 ghost use Rattle.append.specs.Append.{Appended};
 ghost use Rattle.parameter_output.specs.Parameters.{parameterRead, parametersFrom, privateCount, oneIfPrivate, openingVariables, openingClaims};
 

@@ -8,11 +8,9 @@ use borrow.Author.Tests.{eq-eqb, ne-eqb}
 use lib.Dec.{eqb, leb}
 use lib.ListN.{length, drop, length-map, drop-of-length-le}
 use lib.Seq.{drop-cons}
-use Rattle.definitions.specs.Syntax.{Parameter, parameterAt}
-use Rattle.definitions.specs.ContractFile.{byteAt, parameterRecords, parameterOf, dataTypeOf}
-use Rattle.definitions.specs.Places.{anyone, only}
-use Rattle.definitions.specs.Ledger.{Content}
-use Rattle.definitions.specs.Calls.{Form, fits, allFit, publicOf, parameterForm}
+use Rattle.definitions.specs.ContractFile.{Parameter, parameterAt, byteAt, parameterRecords, parameterOf, dataTypeOf}
+use Rattle.definitions.specs.Original.{anyone, only}
+use Rattle.definitions.specs.Ledger.{Content, Form, fits, allFit, publicOf, parameterForm}
 use Rattle.context.specs.Context.{parametersIn}
 use Rattle.context.proofs.Declarations.{parameters-length, parameter-declared}
 use Rattle.contents.specs.Contents.{contentsOf}

@@ -2,8 +2,8 @@
 use mathlib.Core.Bool.{Bool, _&&_, not, cond}
 use mathlib.Core.List.{List, [], _∷_, map}
 use Prim.Native.Nat.{ℕ}
-use Rattle.definitions.specs.Syntax.{Parameter}
-use Rattle.definitions.specs.Calls.{Form, publicOf, parameterForm}
+use Rattle.definitions.specs.ContractFile.{Parameter}
+use Rattle.definitions.specs.Ledger.{Form, publicOf, parameterForm}
 
 -- A done call shows all parameters, a failed one the public ones.
 abbrev pub formsOfParameters : Bool → ℕ → List Parameter → List Form

@@ -8,12 +8,10 @@ use native.Mathlib.Omega.{arith}
 use lib.Dec.{leb}
 use lib.ListN.{length, drop, length-map, drop-of-length-le}
 use lib.Seq.{drop-cons, drop-drop}
-use Rattle.definitions.specs.Syntax.{DataType, Field, fieldAt}
-use Rattle.definitions.specs.ContractFile.{dataTypeOf}
-use Rattle.definitions.specs.Places as places
-use Rattle.definitions.specs.Places.{numbersFrom, placeCount, perPlace, placeReader, finalAddress}
-use Rattle.definitions.specs.Ledger.{Content}
-use Rattle.definitions.specs.Calls.{Form, fits, allFit}
+use Rattle.definitions.specs.ContractFile.{DataType, Field, fieldAt, dataTypeOf}
+use Rattle.definitions.specs.Original as original
+use Rattle.definitions.specs.Original.{numbersFrom, placeCount, perPlace, placeReader, finalAddress}
+use Rattle.definitions.specs.Ledger.{Content, Form, fits, allFit}
 use Rattle.contents.specs.Contents.{contentsOf}
 use Rattle.contents.proofs.Laws.{length-contentsOf}
 use Rattle.readers.specs.declared.Reader.{Reader}
@@ -47,7 +45,7 @@ module _ {A B C : Type 0} (f : A → B → C) where
 
 pub forms-listed : (fields : List Field) (numbers : List ℕ) → formsOfPlaces fields numbers ≡ perPlace (placeForm fields numbers) fields
 forms-listed fields numbers =
-    zip-places (λ (t : DataType) (r : places.Reader). record { type = t; reader = r }) (λ d _. d .type) (λ d key. placeReader (finalAddress fields numbers) (d .owner) key) fields
+    zip-places (λ (t : DataType) (r : original.Reader). record { type = t; reader = r }) (λ d _. d .type) (λ d key. placeReader (finalAddress fields numbers) (d .owner) key) fields
 
 module _ (fields : List Field) (numbers : List ℕ) (f : ℕ) where
   -- The form that code makes is the form of the place.

@@ -1,9 +1,9 @@
 -- The forms of a contract's places.
 use mathlib.Core.List.{List, map, zipWith}
 use Prim.Native.Nat.{ℕ}
-use Rattle.definitions.specs.Syntax.{Field, fieldAt}
-use Rattle.definitions.specs.Places.{numbersFrom, perPlace, placeReader, placeReaders, finalAddress}
-use Rattle.definitions.specs.Calls.{Form}
+use Rattle.definitions.specs.ContractFile.{Field, fieldAt}
+use Rattle.definitions.specs.Original.{numbersFrom, perPlace, placeReader, placeReaders, finalAddress}
+use Rattle.definitions.specs.Ledger.{Form}
 
 -- The form of a field's place at a key, on places that hold these plain numbers.
 abbrev pub placeForm : List Field → List ℕ → Field → ℕ → Form

@@ -3,7 +3,7 @@ ghost use mathlib.Core.Path.{_≡_};
 ghost use Prim.Native.Nat.{_+_, _<_, _≤_};
 ghost use lib.ListN.{drop};
 ghost use Rattle.definitions.specs.ContractFile.{fieldCount};
-ghost use Rattle.definitions.specs.Calls.{fits, allFit};
+ghost use Rattle.definitions.specs.Ledger.{fits, allFit};
 ghost use Rattle.context.specs.Context.{fieldsIn};
 ghost use Rattle.contents.specs.Contents.{contentsOf};
 ghost use Rattle.forms_test.specs.Forms.{frontFits};

@@ -6,8 +6,7 @@ use Prim.Native.Nat.{ℕ, suc, _+_, _*_, _<_, _≤_}
 use native.Mathlib.Omega.{arith}
 use lib.Dec.{eqb}
 use borrow.Author.Tests.{eqb-true, eq-eqb, ne-eqb}
-use Rattle.definitions.specs.Syntax.{meName, Owner, ownedBy, Operator, Expression, Scope, isEveryone, isDivision}
-use Rattle.definitions.specs.ContractFile.{NodeRecord, nodeCount, nodeRecord, ownerCode}
+use Rattle.definitions.specs.ContractFile.{meName, Owner, ownedBy, Operator, Expression, Scope, isEveryone, isDivision, NodeRecord, nodeCount, nodeRecord, ownerCode}
 use Rattle.definitions.specs.Owners.{ownerOf}
 use Rattle.context.specs.Context.{Context, scopeIn}
 use Rattle.context.proofs.Nodes.{field-is, entry-is, parameter-is, operator-is, negation-is, reveal-is, key-below, part-below, revealed-below, operands-below}

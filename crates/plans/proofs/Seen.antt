@@ -5,8 +5,7 @@ use mathlib.Core.List.{List}
 use Prim.Native.Nat.{ℕ, _+_, _*_, _<_}
 use borrow.Author.Tests.{eqb-true, eqb-false}
 use lib.Dec.{eqb}
-use Rattle.definitions.specs.Syntax.{Expression}
-use Rattle.definitions.specs.ContractFile.{NodeRecord, nodeCount, nodeRecord, dataTypeOf, ownerOfCode, operatorOf}
+use Rattle.definitions.specs.ContractFile.{Expression, NodeRecord, nodeCount, nodeRecord, dataTypeOf, ownerOfCode, operatorOf}
 use Rattle.context.specs.Context.{Context}
 use Rattle.context.proofs.Nodes.{constant-is, field-is, entry-is, parameter-is, operator-is, negation-is, reveal-is, other-is}
 use Rattle.plans.specs.Plans.{nodeExpression}

@@ -4,8 +4,7 @@ use mathlib.Core.Bool.{not}
 use mathlib.Core.List.{List}
 use Prim.Native.Nat.{ℕ, suc, _<_, _≤_}
 use lib.Dec.{eqb}
-use Rattle.definitions.specs.Syntax.{Expression, Scope}
-use Rattle.definitions.specs.ContractFile.{ownerCode}
+use Rattle.definitions.specs.ContractFile.{Expression, Scope, ownerCode}
 use Rattle.definitions.specs.Owners.{ownerOf}
 use Rattle.trees.specs.Trees.{expressionIn}
 use Rattle.context.specs.Context.{nodesIn}

@@ -6,8 +6,7 @@ ghost use mathlib.Core.Path.{_≡_};
 ghost use mathlib.Core.Bool.{cond, _&&_};
 ghost use Prim.Native.Nat.{_<_};
 ghost use lib.Dec.{eqb};
-ghost use Rattle.definitions.specs.Syntax.{isDivision};
-ghost use Rattle.definitions.specs.ContractFile.{nodeCount, operatorOf};
+ghost use Rattle.definitions.specs.ContractFile.{isDivision, nodeCount, operatorOf};
 ghost use Rattle.context.specs.Context.{Context, scopeIn};
 ghost use Rattle.plans.specs.Plans.{nodeExpression, SuppliedCode, ReadCode, PartsOf};
 

@@ -8,9 +8,8 @@ use native.Mathlib.Omega.{arith}
 use borrow.Author.Tests.{ne-eqb}
 use lib.ListN.{length, drop, length-map, drop-of-length-le}
 use lib.Seq.{drop-cons}
-use Rattle.definitions.specs.Syntax.{Field, fieldAt, isMapping}
-use Rattle.definitions.specs.ContractFile.{byteAt, fieldCount, fieldRecords, fieldOf, shapeOf}
-use Rattle.definitions.specs.Places.{placeCount, position}
+use Rattle.definitions.specs.ContractFile.{Field, fieldAt, isMapping, byteAt, fieldCount, fieldRecords, fieldOf, shapeOf}
+use Rattle.definitions.specs.Original.{placeCount, position}
 use Rattle.file.proofs.Sections.{fields-are}
 use Rattle.context.specs.Context.{fieldsIn}
 use Rattle.context.proofs.Declarations.{field-declared}

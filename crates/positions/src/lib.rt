@@ -3,9 +3,8 @@ use file::byte_at;
 ghost use mathlib.Core.Path.{_≡_};
 ghost use Prim.Native.Nat.{_+_, _*_, _≤_, _<_};
 ghost use lib.ListN.{getD, set};
-ghost use Rattle.definitions.specs.Syntax.{fieldAt};
-ghost use Rattle.definitions.specs.ContractFile.{fieldCount};
-ghost use Rattle.definitions.specs.Places.{placeCount, position};
+ghost use Rattle.definitions.specs.ContractFile.{fieldAt, fieldCount};
+ghost use Rattle.definitions.specs.Original.{placeCount, position};
 ghost use Rattle.context.specs.Context.{fieldsIn};
 
 // How many places field f has.

@@ -5,12 +5,10 @@ use mathlib.Core.List.{List}
 use Prim.Native.Nat.{ℕ, _+_, _*_, _-_, _<_}
 use borrow.Author.Tests.{eq-eqb, ne-eqb, lt-ltb}
 use lib.Dec.{ltb}
-use Rattle.definitions.specs.Syntax.{DataType, Field, fieldAt}
-use Rattle.definitions.specs.DataTypes.{isOfType}
-use Rattle.definitions.specs.ContractFile.{byteAt, fieldCount, fieldOf, dataTypeOf, fieldOwnerOfCode}
-use Rattle.definitions.specs.Places.{anyone, only, placeReader}
+use Rattle.definitions.specs.ContractFile.{DataType, Field, fieldAt, isOfType, byteAt, fieldCount, fieldOf, dataTypeOf, fieldOwnerOfCode}
+use Rattle.definitions.specs.Original.{anyone, only, placeReader}
 use Rattle.definitions.specs.Ledger as ledger
-use Rattle.definitions.specs.Calls.{Form, fits}
+use Rattle.definitions.specs.Ledger.{Form, fits}
 use Rattle.context.specs.Context.{fieldsIn}
 use Rattle.context.proofs.Declarations.{field-declared}
 use Rattle.readers.specs.Readers.{isContent}

@@ -9,8 +9,7 @@ use lib.ListN.{length, take, drop, length-drop}
 use lib.Seq.{slice, take-all}
 use borrow.Author.Tests.{eqb-true, ltb-false, not-false, ne-eqb}
 use Rattle.definitions.specs.Basics.{any, firstThatHolds}
-use Rattle.definitions.specs.ContractFile.{functionEnd, functionsAt, functionCount, functionRecords, functionsEnd, nodesAt, fileEnd, sectionsOf, sectionPart}
-use Rattle.definitions.specs.Nodes.{contractOf}
+use Rattle.definitions.specs.ContractFile.{functionEnd, functionsAt, functionCount, functionRecords, functionsEnd, nodesAt, fileEnd, sectionsOf, sectionPart, contractOf}
 use Rattle.definitions.specs.Numbers.{endsWrongly, countOffLimits, outsideTables, namesNothing, usedOtherThanOnce, tooDeep, wrongSort, contractSentences, checkNumber, orElse, sectionNumber, sectionAnswer}
 use Rattle.file.specs.declared.Layout.{Layout}
 use Rattle.file.specs.Layout.{IsLayout}

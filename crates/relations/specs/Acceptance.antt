@@ -3,9 +3,8 @@ use mathlib.Core.Path.{_≡_}
 use mathlib.Core.Bool.{Bool, true, _&&_}
 use mathlib.Core.List.{List, []}
 use Prim.Native.Nat.{ℕ}
-use Rattle.definitions.specs.Syntax.{DataType, address, toEveryone, toFinal, Expression, constant, me, field, entry, parameter, operator, negation, reveal, Statement, skip, sequence, assignField, assignEntry, require, conditional, Field, Scope, fieldAt, isFinal, isMapping}
+use Rattle.definitions.specs.ContractFile.{DataType, address, toEveryone, toFinal, Expression, constant, me, field, entry, parameter, operator, negation, reveal, Statement, skip, sequence, assignField, assignEntry, require, conditional, Field, Scope, fieldAt, isFinal, isMapping, isOfType}
 use Rattle.definitions.specs.Owners.{noLinks}
-use Rattle.definitions.specs.DataTypes.{isOfType}
 use Rattle.definitions.specs.Numbers.{statementFaults, isTagged}
 
 -- Number 3: "constant (.. bool 0 or 1, address 0 to 15)", at every constant of a tree.

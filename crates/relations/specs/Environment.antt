@@ -4,10 +4,9 @@ use mathlib.Core.Bool.{true}
 use mathlib.Core.List.{List}
 use Prim.Native.Nat.{ℕ}
 use lib.ListN.{length, getD}
-use Rattle.definitions.specs.Syntax.{DataType, boolean, address, Name, meName, finalName, parameterName, Field, Scope, fieldAt, parameterAt, isFinal}
+use Rattle.definitions.specs.ContractFile.{DataType, boolean, address, Name, meName, finalName, parameterName, Field, Scope, fieldAt, parameterAt, isFinal, isOfType}
 use Rattle.definitions.specs.Owners.{isPublicAddress}
-use Rattle.definitions.specs.DataTypes.{isOfType}
-use Rattle.definitions.specs.Places.{position, perPlace}
+use Rattle.definitions.specs.Original.{position, perPlace}
 
 -- The data type of each place, in field order.
 abbrev pub placeTypes : List Field → List DataType

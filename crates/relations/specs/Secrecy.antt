@@ -5,9 +5,9 @@ use mathlib.Core.List.{List, map}
 use Prim.Native.Nat.{ℕ}
 use lib.Dec.{eqb}
 use lib.ListN.{getD}
-use Rattle.definitions.specs.Syntax.{Name, Field, Scope, parameterAt}
+use Rattle.definitions.specs.ContractFile.{Name, Field, Scope, parameterAt}
 use Rattle.definitions.specs.Owners.{parameterOwner}
-use Rattle.definitions.specs.Places.{anyone, mayRead, readerOf}
+use Rattle.definitions.specs.Original.{anyone, mayRead, readerOf}
 use Rattle.definitions.specs.Ledger.{Content, plain, cell, State}
 use Rattle.relations.specs.Standing.{readersOf}
 

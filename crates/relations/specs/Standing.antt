@@ -3,9 +3,9 @@ use mathlib.Core.Path.{_≡_}
 use mathlib.Core.List.{List}
 use Prim.Native.Nat.{ℕ, _<_}
 use lib.ListN.{length, getD}
-use Rattle.definitions.specs.Syntax.{Name, finalName, Field, Scope, parameterAt}
+use Rattle.definitions.specs.ContractFile.{Name, finalName, Field, Scope, parameterAt}
 use Rattle.definitions.specs.Owners.{parameterOwner}
-use Rattle.definitions.specs.Places.{perPlace, Reader, anyone, readerOf, placeReader}
+use Rattle.definitions.specs.Original.{perPlace, Reader, anyone, readerOf, placeReader}
 use Rattle.definitions.specs.Ledger.{Content, contentFor, contentAt}
 
 -- A content stands for a number with its reader: plain where anyone may read it, else a cell of the reader's address.

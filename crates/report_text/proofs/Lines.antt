@@ -8,8 +8,8 @@ use native.Mathlib.Omega.{arith}
 use lib.ListN.{length, getD, take, drop, length-append, length-map, take-append-drop, List·getD-map}
 use lib.Seq.{take-suc, take-all, length-take-le, getD-take}
 use Rattle.definitions.specs.Basics.{flatMap}
-use Rattle.definitions.specs.Written.{WrittenContract}
-use Rattle.definitions.specs.Report.{Tally, crossings, comesBefore, insert, sorted, decimal, heading, tallyLine, refusedLine, contractReport}
+use Rattle.definitions.specs.Rewriting.{WrittenContract}
+use Rattle.definitions.specs.Report.{Tally, crossings, comesBefore, insert, sorted, decimal, heading, tallyLine, refusedLine, tallies}
 use Rattle.append.specs.Append.{Appended}
 use Rattle.append.proofs.Laws.{appended-nothing, appended-length, appended-then}
 use Rattle.tallies.specs.Counts.{talliesFrom, tallyOf, orderedTallies}
@@ -18,7 +18,7 @@ use Rattle.report_text.specs.Lines.{reportLines}
 use Rattle.report_text.proofs.Digits.{digits-length}
 
 -- The report of a rewritten contract, from the functions' crossings.
-pub report-is : (c : WrittenContract) → contractReport c ≡ reportLines (map crossings (c .functions))
+pub report-is : (c : WrittenContract) → heading ++ flatMap tallyLine (sorted (tallies 0 (c .functions))) ≡ reportLines (map crossings (c .functions))
 report-is c = ap (λ ts. heading ++ flatMap tallyLine (sorted ts)) (tallies-are 0 (c .functions))
 
 flat-append : {A : Type 0} (f : A → List ℕ) (a b : List A) → flatMap f (a ++ b) ≡ flatMap f a ++ flatMap f b

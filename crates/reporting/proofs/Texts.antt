@@ -8,11 +8,10 @@ use borrow.Author.Tests.{eq-eqb, ne-eqb, lt-ltb, le-ltb, eqb-true, eqb-false}
 use lib.Dec.{eqb}
 use lib.ListN.{length, take, drop, length-map}
 use lib.Seq.{length-take-le, take-at}
-use Rattle.definitions.specs.ContractFile.{sectionsOf}
-use Rattle.definitions.specs.Nodes.{contractOf}
+use Rattle.definitions.specs.ContractFile.{sectionsOf, contractOf}
 use Rattle.definitions.specs.Numbers.{checkNumber}
 use Rattle.definitions.specs.Rewriting.{rewrite}
-use Rattle.definitions.specs.Report.{crossings, contractReport, refusedLine, reportText}
+use Rattle.definitions.specs.Report.{crossings, refusedLine, reportText, heading, tallyLine, sorted, tallies}
 use Rattle.buffer.specs.Buffer.{stored}
 use Rattle.append.specs.Append.{Appended}
 use Rattle.append.proofs.Laws.{appended-length}
@@ -23,10 +22,11 @@ use Rattle.function_room.proofs.Written.{functions-counted}
 use Rattle.function_room.proofs.Room.{functions-few}
 use Rattle.reporting.specs.Counting.{CountsStand}
 use Rattle.reporting.specs.Report.{reportedLength, outputAfterReporting}
+use Rattle.definitions.specs.Basics.{flatMap}
 
 module _ (file : List ℕ) where
   abbrev text : Bool → List ℕ
-  text accepted = cond accepted (contractReport (rewrite (contractOf (sectionsOf file)))) (refusedLine (checkNumber file))
+  text accepted = cond accepted (heading ++ flatMap tallyLine (sorted (tallies 0 ((rewrite (contractOf (sectionsOf file))) .functions)))) (refusedLine (checkNumber file))
 
   accepted-text : checkNumber file ≡ 0 → reportText file ≡ reportLines (map crossings (writtenFunctions file))
   unfolding reportText

@@ -9,8 +9,7 @@ use lib.Dec.{eqb}
 use lib.ListN.{length, getD, drop, length-map, drop-of-length-le}
 use lib.Seq.{drop-cons}
 use Rattle.definitions.specs.Basics.{flatMap}
-use Rattle.definitions.specs.Syntax.{toFinal}
-use Rattle.definitions.specs.ContractFile.{sectionsOf, fieldOf, fieldCount, fieldOwnerOfCode}
+use Rattle.definitions.specs.ContractFile.{toFinal, sectionsOf, fieldOf, fieldCount, fieldOwnerOfCode}
 use Rattle.definitions.specs.Numbers.{fault, fieldOfDeclaredOwner}
 use Rattle.faults.specs.Faults.{leastFault}
 use Rattle.faults.proofs.Faults.{least-append, least-none, least-bounded, counted-8}

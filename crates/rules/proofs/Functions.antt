@@ -7,12 +7,10 @@ use native.Mathlib.Omega.{arith}
 use borrow.Author.Tests.{ltb-false, leb-false, ne-eqb}
 use lib.Dec.{leb, ltb}
 use lib.ListN.{length}
-use Rattle.definitions.specs.Basics.{any, flatMap, isZero}
-use Rattle.definitions.specs.ContractFile.{byteAt, twoBytesAt, sectionsOf, functionEnd, functionRecord, functionRecords, functionCount, fieldCount, nodeCount, nodesAt, fieldOf}
-use Rattle.definitions.specs.Nodes.{functionOf, contractOf}
+use Rattle.definitions.specs.Basics.{any, flatMap, isZero, firstThatHolds}
+use Rattle.definitions.specs.ContractFile.{byteAt, twoBytesAt, sectionsOf, functionEnd, functionRecord, functionRecords, functionCount, fieldCount, nodeCount, nodesAt, fieldOf, functionOf, contractOf}
 use Rattle.definitions.specs.Owners.{noLinks}
 use Rattle.definitions.specs.Numbers.{functionFaults, fieldFaults, statementFaults, countOffLimits, namesNothing, contractFaults, contractSentences, fieldOfDeclaredOwner}
-use Rattle.definitions.specs.Basics.{firstThatHolds}
 use Rattle.file.specs.Layout.{IsLayout}
 use Rattle.file.specs.declared.Layout.{Layout}
 use Rattle.file.proofs.Laws.{force-is}

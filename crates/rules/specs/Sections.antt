@@ -4,9 +4,7 @@ use mathlib.Core.List.{List, map}
 use Prim.Native.Nat.{ℕ, _<_, _≤_}
 use lib.ListN.{length}
 use Rattle.definitions.specs.Basics.{flatMap}
-use Rattle.definitions.specs.Syntax.{Field, fieldAt}
-use Rattle.definitions.specs.ContractFile.{sectionsOf, fieldOf, functionRecord, nodesAt, nodeCount}
-use Rattle.definitions.specs.Nodes.{functionOf}
+use Rattle.definitions.specs.ContractFile.{Field, fieldAt, sectionsOf, fieldOf, functionRecord, nodesAt, nodeCount, functionOf}
 use Rattle.definitions.specs.Numbers.{fieldFaults, functionFaults}
 use Rattle.faults.specs.Faults.{leastFault}
 use Rattle.numbers.specs.Settled.{Settled}

@@ -7,9 +7,7 @@ use borrow.Author.Tests.{ne-eqb}
 use lib.Dec.{eqb, leb}
 use lib.ListN.{length, getD}
 use Rattle.definitions.specs.Basics.{any}
-use Rattle.definitions.specs.Syntax.{Expression, Statement, Scope}
-use Rattle.definitions.specs.ContractFile.{NodeRecord, nodeRecord, sectionsOf, nodesAt, nodeCount, dataTypeOf, operatorOf, ownerOfCode}
-use Rattle.definitions.specs.Nodes.{constantKind, meKind, fieldKind, entryKind, parameterKind, operatorKind, negationKind, revealKind, skipKind, sequenceKind, assignFieldKind, assignEntryKind, requireKind, conditionalKind, noKind, kindOf, unknownNode, nodeOf, nodeOfKind, nodeAt, constantValue, children, expressionParts, statementParts, expressionOf, statementOf}
+use Rattle.definitions.specs.ContractFile.{Expression, Statement, Scope, NodeRecord, nodeRecord, sectionsOf, nodesAt, nodeCount, dataTypeOf, operatorOf, ownerOfCode, constantKind, meKind, fieldKind, entryKind, parameterKind, operatorKind, negationKind, revealKind, skipKind, sequenceKind, assignFieldKind, assignEntryKind, requireKind, conditionalKind, noKind, kindOf, unknownNode, nodeOf, nodeOfKind, nodeAt, constantValue, children, expressionParts, statementParts, expressionOf, statementOf}
 use Rattle.definitions.specs.Owners.{Links, linksOfCondition}
 use Rattle.file.proofs.Sections.{node-of, count-of-nodes}
 use Rattle.numbers.specs.Settled.{Settled}

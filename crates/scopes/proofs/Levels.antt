@@ -2,8 +2,7 @@
 use mathlib.Core.Path.{_≡_}
 use mathlib.Core.List.{List}
 use Prim.Native.Nat.{ℕ}
-use Rattle.definitions.specs.ContractFile.{sectionsOf}
-use Rattle.definitions.specs.Nodes.{nodeAt, expressionOf, statementOf}
+use Rattle.definitions.specs.ContractFile.{sectionsOf, nodeAt, expressionOf, statementOf}
 use Rattle.trees.specs.Trees.{Falling}
 use Rattle.trees.proofs.Falls.{nodes-fall}
 use Rattle.trees.proofs.Unfolding as trees

@@ -8,9 +8,7 @@ use borrow.Author.Tests.{leb-true, ltb-false, ltb-true}
 use lib.Dec.{eqb, leb, ltb}
 use lib.ListN.{length, getD, length-map, List·getD-eq-default}
 use Rattle.definitions.specs.Basics.{any, anyNumbered, isZero}
-use Rattle.definitions.specs.Syntax.{boolean, plainField, toEveryone, fieldAt, parameterAt, shapeCode, dataTypeCode}
-use Rattle.definitions.specs.ContractFile.{FieldRecord, ParameterRecord, NodeRecord, byteAt, parameterRecords, fieldCount, nodeCount, sectionsOf, shapeOf, dataTypeOf, fieldOf, parameterOf, isFinalCode, ownerOfCode}
-use Rattle.definitions.specs.Nodes.{Node, unknownNode, nodeOf, nodeAt, children, fieldsNamed, kindOf, expressionParts, statementParts}
+use Rattle.definitions.specs.ContractFile.{boolean, plainField, toEveryone, fieldAt, parameterAt, shapeCode, dataTypeCode, FieldRecord, ParameterRecord, NodeRecord, byteAt, parameterRecords, fieldCount, nodeCount, sectionsOf, shapeOf, dataTypeOf, fieldOf, parameterOf, isFinalCode, ownerOfCode, Node, unknownNode, nodeOf, nodeAt, children, fieldsNamed, kindOf, expressionParts, statementParts}
 use Rattle.definitions.specs.Numbers.{countOffLimits, outsideTables, parameterInTables, namesNothing, fieldOfDeclaredOwner, fieldInTables, nodeInTables, kindInTables, targetInTables, ownerFits}
 use Rattle.file.proofs.Sections.{fields-are, count-of-nodes}
 use Rattle.links.proofs.Names.{Listed, nobody, caller, final, argument, listed}

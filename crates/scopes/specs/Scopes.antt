@@ -2,8 +2,7 @@
 use mathlib.Core.Path.{_≡_}
 use mathlib.Core.List.{List, map}
 use Prim.Native.Nat.{ℕ, _≤_}
-use Rattle.definitions.specs.Syntax.{Scope, fieldAt, parameterAt}
-use Rattle.definitions.specs.ContractFile.{sectionsOf, fieldOf, parameterOf, parameterRecords, nodesAt, nodeCount}
+use Rattle.definitions.specs.ContractFile.{Scope, fieldAt, parameterAt, sectionsOf, fieldOf, parameterOf, parameterRecords, nodesAt, nodeCount}
 use Rattle.judgements.specs.Judging.{IsField, IsParameter, Present, Final}
 use Rattle.judgements.specs.declared.Declared.{Declared}
 use Rattle.judgements.specs.declared.Given.{Given}

@@ -1,9 +1,7 @@
 -- The nodes of a file, and the tree of a node: n + 1 levels hold the whole of node n's.
 use mathlib.Core.List.{List, map}
 use Prim.Native.Nat.{ℕ, suc}
-use Rattle.definitions.specs.Syntax.{Expression, Statement}
-use Rattle.definitions.specs.ContractFile.{sectionsOf}
-use Rattle.definitions.specs.Nodes.{Node, nodeOf, expressionAt, statementAt}
+use Rattle.definitions.specs.ContractFile.{Expression, Statement, sectionsOf, Node, nodeOf, expressionAt, statementAt}
 
 abbrev pub nodesOf : List ℕ → List Node
 nodesOf file = map nodeOf ((sectionsOf file) .nodes)

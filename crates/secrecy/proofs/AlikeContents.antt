@@ -4,7 +4,7 @@ use mathlib.Core.Bool.{Bool, true, false, cond}
 use mathlib.Core.List.{List, _∷_, _++_, map-append}
 use Prim.Native.Nat.{ℕ}
 use lib.Dec.{eqb}
-use Rattle.definitions.specs.Places.{Reader, anyone, only, mayRead}
+use Rattle.definitions.specs.Original.{Reader, anyone, only, mayRead}
 use Rattle.definitions.specs.Ledger.{Content, plain, cell, openedNumber, contentFor}
 use Rattle.relations.specs.Secrecy.{hidden, allHidden}
 

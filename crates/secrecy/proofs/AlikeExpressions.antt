@@ -2,13 +2,11 @@
 use mathlib.Core.Path.{_≡_, refl}
 use mathlib.Core.List.{List, []}
 use Prim.Native.Nat.{ℕ, suc, _+_}
-use Rattle.definitions.specs.Syntax.{Name, Owner, everyone, ownedBy, Expression, Scope}
+use Rattle.definitions.specs.ContractFile.{Name, Owner, everyone, ownedBy, Expression, Scope}
 use Rattle.definitions.specs.Owners.{ownerOf, isPublic}
-use Rattle.definitions.specs.Places.{readerOf}
-use Rattle.definitions.specs.Original.{value}
-use Rattle.definitions.specs.Written.{Variable}
-use Rattle.definitions.specs.Rewriting.{inBody, inCircuit, inPlace}
-use Rattle.definitions.specs.Calls.{honestContents}
+use Rattle.definitions.specs.Original.{readerOf, value}
+use Rattle.definitions.specs.Rewriting.{Variable, inBody, inCircuit, inPlace}
+use Rattle.definitions.specs.Ledger.{honestContents}
 use Rattle.secrecy.proofs.AlikeContents.{AlikeContents, alike-itself, alike-cons, alike-made}
 use Rattle.secrecy.proofs.Reading.{Reads}
 use Rattle.secrecy.proofs.Supplied.{AllSupplied, noVariable, suppliedHolds, readPassed, Supplies, supplies-supplying, supplies-cond}

@@ -4,9 +4,9 @@ use mathlib.Core.Bool.{Bool, true, false, cond}
 use mathlib.Core.List.{List, [], _∷_, map}
 use Prim.Native.Nat.{ℕ, zero, suc}
 use lib.ListN.{set, List·getD-map}
-use Rattle.definitions.specs.Syntax.{Name, Field}
-use Rattle.definitions.specs.Places.{position}
-use Rattle.definitions.specs.Written.{BodyExpression, Command}
+use Rattle.definitions.specs.ContractFile.{Name, Field}
+use Rattle.definitions.specs.Original.{position}
+use Rattle.definitions.specs.Rewriting.{BodyExpression, Command}
 use Rattle.definitions.specs.Ledger.{Content, plain, cell, State, plainNumber, contentAt, contentOf, stateAfter}
 use Rattle.relations.specs.Secrecy.{hidden, allHidden, stateHidden}
 

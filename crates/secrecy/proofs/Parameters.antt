@@ -6,11 +6,10 @@ use Prim.Native.Nat.{ℕ, suc}
 use native.Mathlib.Omega.{arith}
 use lib.Dec.{eqb}
 use lib.ListN.{length, getD}
-use Rattle.definitions.specs.Syntax.{Name, meName, Parameter, Scope, parameterAt}
+use Rattle.definitions.specs.ContractFile.{Name, meName, Parameter, Scope, parameterAt}
 use Rattle.definitions.specs.Owners.{parameterOwner}
-use Rattle.definitions.specs.Places.{anyone, only, mayRead, readerOf}
-use Rattle.definitions.specs.Ledger.{Content, plain, contentFor}
-use Rattle.definitions.specs.Calls.{honestParameters, publicOf}
+use Rattle.definitions.specs.Original.{anyone, only, mayRead, readerOf}
+use Rattle.definitions.specs.Ledger.{Content, plain, contentFor, honestParameters, publicOf}
 use Rattle.relations.specs.Secrecy.{ArgumentsAgree}
 use Rattle.secrecy.proofs.AlikeContents.{AlikeContents, alike-itself, alike-cons, alike-made}
 

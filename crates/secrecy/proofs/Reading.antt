@@ -2,10 +2,10 @@
 use mathlib.Core.Path.{_≡_, refl}
 use mathlib.Core.Bool.{true, false≢true}
 use Prim.Native.Nat.{ℕ}
-use Rattle.definitions.specs.Syntax.{Name, meName, Owner, everyone, ownedBy, isEveryone}
+use Rattle.definitions.specs.ContractFile.{Name, meName, Owner, everyone, ownedBy, isEveryone}
 use Rattle.definitions.specs.Owners.{Links, isReader, ownerOfParts}
 use Rattle.definitions.specs.Numbers.{mayBePut}
-use Rattle.definitions.specs.Places.{mayRead, readerOf}
+use Rattle.definitions.specs.Original.{mayRead, readerOf}
 use Rattle.typing.proofs.Links.{LinksSound}
 
 module _ (addressOf : Name → ℕ) (party : ℕ) where

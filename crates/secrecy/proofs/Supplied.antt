@@ -2,9 +2,8 @@
 use mathlib.Core.Bool.{Bool, true, false, cond}
 use mathlib.Core.List.{List, [], _∷_, _++_}
 use Prim.Native.Nat.{ℕ, suc}
-use Rattle.definitions.specs.Syntax.{Owner, Expression}
-use Rattle.definitions.specs.Written.{BodyExpression, Circuit, Variable, supplied, readFrom}
-use Rattle.definitions.specs.Rewriting.{Generator, kept, onePart, twoParts, supplying, reading}
+use Rattle.definitions.specs.ContractFile.{Owner, Expression}
+use Rattle.definitions.specs.Rewriting.{BodyExpression, Circuit, Variable, supplied, readFrom, Generator, kept, onePart, twoParts, supplying, reading}
 
 pub data AllSupplied (Holds : Owner → Expression → Type 0) : List Variable → Type 0 where
   noVariable : AllSupplied Holds []

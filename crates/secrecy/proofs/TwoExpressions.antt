@@ -5,13 +5,11 @@ use mathlib.Core.List.{List, []}
 use Prim.Native.Nat.{ℕ}
 use lib.ListN.{getD}
 use Rattle.definitions.specs.Basics.{isZero}
-use Rattle.definitions.specs.Syntax.{Name, meName, everyone, ownedBy, Operator, Expression, constant, me, field, entry, parameter, operator, negation, reveal, Scope, isDivision}
+use Rattle.definitions.specs.ContractFile.{Name, meName, everyone, ownedBy, Operator, Expression, constant, me, field, entry, parameter, operator, negation, reveal, Scope, isDivision}
 use Rattle.definitions.specs.Owners.{Links, isReader, ownerOf, isPublic}
 use Rattle.definitions.specs.Numbers.{expressionFaults}
-use Rattle.definitions.specs.Places.{position, mayRead, readerOf}
-use Rattle.definitions.specs.Original.{operate, operates, negate, value, isWorkedOut, disclosed}
-use Rattle.definitions.specs.Written.{BodyExpression, Circuit}
-use Rattle.definitions.specs.Rewriting.{inBody}
+use Rattle.definitions.specs.Original.{position, mayRead, readerOf, operate, operates, negate, value, isWorkedOut, disclosed}
+use Rattle.definitions.specs.Rewriting.{BodyExpression, Circuit, inBody}
 use Rattle.relations.specs.Acceptance.{FieldsFit, constantsFit}
 use Rattle.relations.specs.Environment.{Environment}
 use Rattle.relations.specs.Secrecy.{Agree, ArgumentsAgree}

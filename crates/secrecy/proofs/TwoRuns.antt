@@ -4,12 +4,11 @@ use mathlib.Core.Bool.{true}
 use mathlib.Core.List.{List, [], _∷_, _++_}
 use Prim.Native.Nat.{ℕ, suc}
 use lib.ListN.{length}
-use Rattle.definitions.specs.Syntax.{Name, Owner, Expression, Statement, Scope}
+use Rattle.definitions.specs.ContractFile.{Name, Owner, Expression, Statement, Scope}
 use Rattle.definitions.specs.Owners.{noLinks}
 use Rattle.definitions.specs.Original.{completes, disclosedBy}
-use Rattle.definitions.specs.Written.{Guard, always}
-use Rattle.definitions.specs.Rewriting.{openings, privateParameters}
-use Rattle.definitions.specs.Calls.{honestContents, honestVariables}
+use Rattle.definitions.specs.Rewriting.{Guard, always, openings, privateParameters}
+use Rattle.definitions.specs.Ledger.{honestContents, honestVariables}
 use Rattle.relations.specs.Acceptance.{AcceptedBody}
 use Rattle.relations.specs.Environment.{Environment}
 use Rattle.relations.specs.Secrecy.{Agree, ArgumentsAgree}

@@ -7,15 +7,12 @@ use Prim.Native.Nat.{ℕ, zero, suc, _+_}
 use native.Mathlib.Omega.{arith}
 use lib.ListN.{length, getD, set, replicate}
 use Rattle.definitions.specs.Basics.{isTrue}
-use Rattle.definitions.specs.Syntax.{Name, Owner, Expression, Statement, skip, sequence, assignField, assignEntry, require, conditional, Field, Scope, fieldAt}
+use Rattle.definitions.specs.ContractFile.{Name, Owner, Expression, Statement, skip, sequence, assignField, assignEntry, require, conditional, Field, Scope, fieldAt}
 use Rattle.definitions.specs.Owners.{Links, placeOwner, nameOf, ownerOf, linksAfter}
 use Rattle.definitions.specs.Numbers.{mayBePut, statementFaults}
-use Rattle.definitions.specs.Places.{position, anyone, mayRead, readerOf}
-use Rattle.definitions.specs.Original.{value, placesAfter, completes, disclosedBy}
-use Rattle.definitions.specs.Ledger.{plain}
-use Rattle.definitions.specs.Written.{Command, Guard, under}
-use Rattle.definitions.specs.Rewriting.{inBody, inPlace, inBranch, rewriteStatement}
-use Rattle.definitions.specs.Calls.{honestVariables}
+use Rattle.definitions.specs.Original.{position, anyone, mayRead, readerOf, value, placesAfter, completes, disclosedBy}
+use Rattle.definitions.specs.Ledger.{plain, honestVariables}
+use Rattle.definitions.specs.Rewriting.{Command, Guard, under, inBody, inPlace, inBranch, rewriteStatement, single}
 use Rattle.relations.specs.Acceptance.{FieldsFit, constantsFit, constantsFitIn}
 use Rattle.relations.specs.Environment.{Environment}
 use Rattle.relations.specs.Standing.{readersOf}
@@ -115,7 +112,7 @@ module _ (scope : Scope) (addressOf : Name → ℕ) (party : ℕ) (arguments arg
         → SideBySide (completes (scope .fields) addressOf arguments places s) (completes (scope .fields) addressOf arguments′ places′ s)
         (disclosedBy (scope .fields) addressOf arguments party places s) (disclosedBy (scope .fields) addressOf arguments′ party places′ s)
         (AlikeStatement linked s places places′)
-    unfolding completes disclosedBy placesAfter linksAfter honestVariables constantsFitIn
+    unfolding completes disclosedBy placesAfter linksAfter honestVariables constantsFitIn rewriteStatement single
     two-statements linked skip places places′ env env′ agree sound h c =
         both-complete (record { sound = sound; agree = agree; variables = λ call g i. alike-itself party [] })
     two-statements linked (sequence first second) places places′ env env′ agree sound h c =

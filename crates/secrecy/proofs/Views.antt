@@ -6,8 +6,8 @@ use Prim.Native.Nat.{ℕ}
 use lib.Dec.{eqb}
 use lib.ListN.{getD}
 use Rattle.definitions.specs.Basics.{flatMap}
-use Rattle.definitions.specs.Syntax.{Name, Field}
-use Rattle.definitions.specs.Places.{anyone}
+use Rattle.definitions.specs.ContractFile.{Name, Field}
+use Rattle.definitions.specs.Original.{anyone}
 use Rattle.definitions.specs.Ledger.{Content, plain, cell, Ledger, contentAt}
 use Rattle.definitions.specs.View.{itemFor, itemsFor, itemBytes, viewBytes}
 use Rattle.relations.specs.Standing.{AllStand, readersOf}

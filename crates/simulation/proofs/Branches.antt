@@ -5,9 +5,8 @@ use mathlib.Core.List.{List, _++_, append-assoc}
 use Prim.Native.Nat.{ℕ, _+_}
 use lib.ListN.{length, replicate, length-append, length-replicate}
 use Rattle.definitions.specs.Basics.{isTrue}
-use Rattle.definitions.specs.Syntax.{everyone}
-use Rattle.definitions.specs.Written.{BodyExpression, Guard}
-use Rattle.definitions.specs.Rewriting.{Generator, heldUnder, StatementGenerator, inBranch, inBranches}
+use Rattle.definitions.specs.ContractFile.{everyone}
+use Rattle.definitions.specs.Rewriting.{BodyExpression, Guard, Generator, heldUnder, StatementGenerator, inBranch, inBranches}
 use Rattle.definitions.specs.Ledger.{Content, plain}
 use Rattle.typing.proofs.Basics.{and-right}
 use Rattle.simulation.proofs.Truth.{cut-first-of-three, cut-second-of-three, cut-third-of-three, length-with}

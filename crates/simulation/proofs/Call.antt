@@ -5,13 +5,11 @@ use mathlib.Core.List.{List, [], _∷_, _++_, append-nil}
 use Prim.Native.Nat.{ℕ}
 use lib.ListN.{length}
 use Rattle.definitions.specs.Basics.{all}
-use Rattle.definitions.specs.Syntax.{Name, Statement, Scope}
+use Rattle.definitions.specs.ContractFile.{Name, Statement, Scope}
 use Rattle.definitions.specs.Owners.{noLinks}
-use Rattle.definitions.specs.Written.{Command, always, Constraint, WrittenFunction}
-use Rattle.definitions.specs.Rewriting.{Piece, Passage, rewriteStatement, privateParameters, openings, withVerify, rewriteFunction}
+use Rattle.definitions.specs.Rewriting.{Command, always, Constraint, WrittenFunction, Piece, Passage, rewriteStatement, privateParameters, openings, withVerify, rewriteFunction}
 use Rattle.definitions.specs.Original.{placesAfter, completes}
-use Rattle.definitions.specs.Ledger.{Content, State, constraintHolds, stateAfter, walkCompletes}
-use Rattle.definitions.specs.Calls.{honestContents, honestVariables}
+use Rattle.definitions.specs.Ledger.{Content, State, constraintHolds, stateAfter, walkCompletes, honestContents, honestVariables}
 use Rattle.relations.specs.Acceptance.{AcceptedBody}
 use Rattle.relations.specs.Environment.{Environment}
 use Rattle.relations.specs.Standing.{AllStand, readersOf}

@@ -7,9 +7,8 @@ use native.Mathlib.Omega.{arith}
 use lib.ListN.{length, replicate, length-append, length-replicate, List·getD-append, getD-replicate}
 use lib.Seq.{getD-append-add}
 use Rattle.definitions.specs.Basics.{all}
-use Rattle.definitions.specs.Syntax.{Scope, Statement, skip, sequence, assignField, assignEntry, require, conditional}
-use Rattle.definitions.specs.Written.{BodyExpression, Command, Claim, Guard, under, Constraint}
-use Rattle.definitions.specs.Rewriting.{Generator, kept, inBody, assignedField, assignedEntry, required, heldUnder, StatementGenerator, single, inSequence, inBranch, inBranches, rewriteStatement}
+use Rattle.definitions.specs.ContractFile.{Scope, Statement, skip, sequence, assignField, assignEntry, require, conditional}
+use Rattle.definitions.specs.Rewriting.{BodyExpression, Command, Claim, Guard, under, Constraint, Generator, kept, inBody, heldUnder, StatementGenerator, single, inSequence, inBranch, inBranches, rewriteStatement}
 use Rattle.definitions.specs.Ledger.{Content, plain, contentAt, isSet, claimHolds, constraintHolds}
 use Rattle.typing.proofs.Basics.{and-left, and-right}
 use Rattle.simulation.proofs.Truth.{or-of-right, all-append}
@@ -108,8 +107,8 @@ module _ (c : Call) where
   unfolding rewriteStatement
   untaken-holds scope skip = single-untaken (kept Command.skip)
   untaken-holds scope (sequence first second) = sequence-untaken (untaken-holds scope first) (untaken-holds scope second)
-  untaken-holds scope (assignField f e) = single-untaken (assignedField scope f e)
-  untaken-holds scope (assignEntry f key e) = single-untaken (assignedEntry scope f key e)
-  untaken-holds scope (require condition) = single-untaken (required scope condition)
+  untaken-holds scope (assignField f e) = single-untaken _
+  untaken-holds scope (assignEntry f key e) = single-untaken _
+  untaken-holds scope (require condition) = single-untaken _
   untaken-holds scope (conditional condition then else) = branches-untaken (inBody scope condition) (untaken-holds scope then)
       (untaken-holds scope else)

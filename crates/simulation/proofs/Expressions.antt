@@ -4,14 +4,11 @@ use mathlib.Core.Bool.{Bool, true, false, _&&_, _||_, cond, not, and-true}
 use mathlib.Core.List.{List, []}
 use Prim.Native.Nat.{ℕ, suc, _+_}
 use lib.ListN.{length, getD}
-use Rattle.definitions.specs.Syntax.{Name, meName, Owner, everyone, ownedBy, Operator, Expression, constant, me, field, entry, parameter, operator, negation, reveal, Field, Scope, isEveryone, isDivision}
+use Rattle.definitions.specs.ContractFile.{Name, meName, Owner, everyone, ownedBy, Operator, Expression, constant, me, field, entry, parameter, operator, negation, reveal, Field, Scope, isEveryone, isDivision, isOfType, typeOf}
 use Rattle.definitions.specs.Owners.{Links, ownerOfParts, ownerOf}
-use Rattle.definitions.specs.DataTypes.{isOfType, typeOf}
 use Rattle.definitions.specs.Numbers.{expressionFaults}
-use Rattle.definitions.specs.Written.{BodyExpression, Circuit}
-use Rattle.definitions.specs.Rewriting.{Generator, kept, onePart, twoParts, operatorInCircuit, inBody, inCircuit}
-use Rattle.definitions.specs.Places.{position, readerOf}
-use Rattle.definitions.specs.Original.{operate, operates, negate, value, isWorkedOut}
+use Rattle.definitions.specs.Rewriting.{BodyExpression, Circuit, Generator, kept, onePart, twoParts, operatorInCircuit, inBody, inCircuit}
+use Rattle.definitions.specs.Original.{position, readerOf, operate, operates, negate, value, isWorkedOut}
 use Rattle.definitions.specs.Ledger.{Content, plain, plainNumber, contentAt, contentOf, isWalked, circuitValue}
 use Rattle.relations.specs.Acceptance.{FieldsFit, constantsFit}
 use Rattle.relations.specs.Environment.{Environment}

@@ -4,12 +4,10 @@ use mathlib.Core.Bool.{true, _||_}
 use mathlib.Core.List.{List, [], _∷_, _++_, map}
 use Prim.Native.Nat.{ℕ, suc}
 use lib.ListN.{length, replicate}
-use Rattle.definitions.specs.Syntax.{Name, Scope}
-use Rattle.definitions.specs.DataTypes.{isOfType}
-use Rattle.definitions.specs.Written.{Variable, variableOwner}
-use Rattle.definitions.specs.Places.{readerOf}
-use Rattle.definitions.specs.Ledger.{Content, plain}
-use Rattle.definitions.specs.Calls.{Form, fits, isPlainZero, allFit, variableType}
+use Rattle.definitions.specs.ContractFile.{Name, Scope, isOfType}
+use Rattle.definitions.specs.Rewriting.{Variable, variableOwner}
+use Rattle.definitions.specs.Original.{readerOf}
+use Rattle.definitions.specs.Ledger.{Content, plain, Form, fits, isPlainZero, allFit, variableType}
 use Rattle.relations.specs.Standing.{Stands}
 use Rattle.typing.proofs.Forms.{stands-fits}
 use Rattle.simulation.proofs.Truth.{or-of-right}

@@ -4,14 +4,11 @@ use mathlib.Core.Bool.{true, false≢true}
 use mathlib.Core.List.{List, [], _∷_, zipWith}
 use Prim.Native.Nat.{ℕ, zero, suc}
 use lib.ListN.{getD}
-use Rattle.definitions.specs.Syntax.{DataType, boolean, uint, plainField, finalField, Name, meName, finalName, parameterName, toEveryone, toFinal, equal, me, field, parameter, operator, Statement, sequence, assignField, require, Field, Scope, fieldAt, parameterAt, isFinal, isMapping, sameName}
+use Rattle.definitions.specs.ContractFile.{DataType, boolean, uint, plainField, finalField, Name, meName, finalName, parameterName, toEveryone, toFinal, equal, me, field, parameter, operator, Statement, sequence, assignField, require, Field, Scope, fieldAt, parameterAt, isFinal, isMapping, sameName, isOfType, typeOf}
 use Rattle.definitions.specs.Owners.{isPublicAddress, nameOf, ownerOf, linksAfter, linksOfCondition, withLink}
-use Rattle.definitions.specs.DataTypes.{isOfType, typeOf}
 use Rattle.definitions.specs.Numbers.{isTagged, expressionFaults, statementFaults}
-use Rattle.definitions.specs.Places.{perPlace, numbersFrom, position, only}
-use Rattle.definitions.specs.Original.{value, isWorkedOut, completes}
-use Rattle.definitions.specs.Ledger.{Content, plain, contentFor}
-use Rattle.definitions.specs.Calls.{honestParameters}
+use Rattle.definitions.specs.Original.{perPlace, numbersFrom, position, only, value, isWorkedOut, completes}
+use Rattle.definitions.specs.Ledger.{Content, plain, contentFor, honestParameters}
 use Rattle.relations.specs.Acceptance.{FieldsFit, AcceptedBody, constantsFit, constantsFitIn}
 use Rattle.relations.specs.Environment.{Environment, placeTypes}
 use Rattle.relations.specs.Standing.{readersOf}

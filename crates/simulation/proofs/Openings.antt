@@ -8,12 +8,10 @@ use native.Mathlib.Nat.{add-zero, zero-add}
 use lib.ListN.{length, getD, set}
 use lib.Seq.{getD-at, set-at, append-snoc}
 use Rattle.definitions.specs.Basics.{all}
-use Rattle.definitions.specs.Syntax.{meName, Parameter, parameterAt}
-use Rattle.definitions.specs.DataTypes.{typeOf}
+use Rattle.definitions.specs.ContractFile.{meName, Parameter, parameterAt, typeOf}
 use Rattle.definitions.specs.Rewriting.{privateParameters, openings}
-use Rattle.definitions.specs.Places.{only}
-use Rattle.definitions.specs.Ledger.{Content, plain, contentAt, contentOf, isWalked}
-use Rattle.definitions.specs.Calls.{honestContents}
+use Rattle.definitions.specs.Original.{only}
+use Rattle.definitions.specs.Ledger.{Content, plain, contentAt, contentOf, isWalked, honestContents}
 use Rattle.relations.specs.Standing.{Stands}
 use Rattle.simulation.proofs.Truth.{length-with-one}
 use Rattle.simulation.proofs.Standing.{stands-opens}

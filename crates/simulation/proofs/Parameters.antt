@@ -5,11 +5,10 @@ use mathlib.Core.List.{List, [], _∷_}
 use Prim.Native.Nat.{ℕ, zero, suc, _<_}
 use native.Mathlib.Omega.{arith}
 use lib.ListN.{length, getD}
-use Rattle.definitions.specs.Syntax.{Name, meName, everyone, ownedBy, Parameter, Scope, parameterAt}
+use Rattle.definitions.specs.ContractFile.{Name, meName, everyone, ownedBy, Parameter, Scope, parameterAt}
 use Rattle.definitions.specs.Owners.{parameterOwner}
-use Rattle.definitions.specs.Places.{anyone, only, readerOf}
-use Rattle.definitions.specs.Ledger.{contentFor, contentAt}
-use Rattle.definitions.specs.Calls.{honestParameters}
+use Rattle.definitions.specs.Original.{anyone, only, readerOf}
+use Rattle.definitions.specs.Ledger.{contentFor, contentAt, honestParameters}
 use Rattle.relations.specs.Standing.{Stands}
 use Rattle.relations.specs.Standing.{ParametersStand}
 

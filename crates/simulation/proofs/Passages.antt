@@ -6,9 +6,8 @@ use Prim.Native.Nat.{ℕ, suc, _+_}
 use lib.ListN.{length, set, length-append}
 use lib.Seq.{set-at, append-snoc}
 use Rattle.definitions.specs.Basics.{isTrue}
-use Rattle.definitions.specs.Syntax.{boolean}
-use Rattle.definitions.specs.Written.{BodyExpression, Command, Guard, under}
-use Rattle.definitions.specs.Rewriting.{Step, Generator, stepsBefore, Passage, StatementGenerator, single, inSequence, inBranch}
+use Rattle.definitions.specs.ContractFile.{boolean}
+use Rattle.definitions.specs.Rewriting.{BodyExpression, Command, Guard, under, Step, Generator, stepsBefore, Passage, StatementGenerator, single, inSequence, inBranch}
 use Rattle.definitions.specs.Ledger.{Content, plain, plainNumber, State, contentOf, isWalked, stateAfter, walkCompletes}
 use Rattle.simulation.proofs.Truth.{cut-first, cut-second, length-with-one}
 use Rattle.simulation.proofs.Standing.{plain-stands}

@@ -6,11 +6,9 @@ use Prim.Native.Nat.{ℕ, suc, _+_}
 use native.Mathlib.Nat.{add-zero, add-suc, suc-add}
 use lib.ListN.{length, set}
 use Rattle.definitions.specs.Basics.{all}
-use Rattle.definitions.specs.Syntax.{Name, Scope}
-use Rattle.definitions.specs.Written.{BodyExpression, Variable, Claim, Constraint}
-use Rattle.definitions.specs.Rewriting.{Step, Generator, kept, onePart, twoParts}
-use Rattle.definitions.specs.Ledger.{Content, State, contentOf, isWalked, claimHolds}
-use Rattle.definitions.specs.Calls.{honestContents}
+use Rattle.definitions.specs.ContractFile.{Name, Scope}
+use Rattle.definitions.specs.Rewriting.{BodyExpression, Variable, Claim, Constraint, Step, Generator, kept, onePart, twoParts}
+use Rattle.definitions.specs.Ledger.{Content, State, contentOf, isWalked, claimHolds, honestContents}
 use Rattle.simulation.proofs.Held.{AllHeld, none, held-append, held-length}
 use Rattle.simulation.proofs.Truth.{and-exchange, all-append, cut-first, cut-second, length-with}
 

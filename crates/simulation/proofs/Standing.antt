@@ -6,9 +6,9 @@ use Prim.Native.Nat.{ℕ, zero, suc}
 use native.Mathlib.Omega.{arith}
 use borrow.Author.Tests.{eq-eqb}
 use lib.ListN.{length, getD, set, length-set}
-use Rattle.definitions.specs.Syntax.{Name, meName, Owner, everyone, ownedBy, isEveryone}
+use Rattle.definitions.specs.ContractFile.{Name, meName, Owner, everyone, ownedBy, isEveryone}
 use Rattle.definitions.specs.Owners.{ownerOfParts}
-use Rattle.definitions.specs.Places.{Reader, anyone, only, readerOf}
+use Rattle.definitions.specs.Original.{Reader, anyone, only, readerOf}
 use Rattle.definitions.specs.Ledger.{Content, plain, contentFor, contentAt, isContentOf, opensFor}
 use Rattle.relations.specs.Standing.{Stands, AllStand}
 

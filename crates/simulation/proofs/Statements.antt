@@ -6,15 +6,12 @@ use mathlib.Core.Option.{none}
 use Prim.Native.Nat.{ℕ, suc, _+_}
 use lib.ListN.{length, set}
 use Rattle.definitions.specs.Basics.{isTrue}
-use Rattle.definitions.specs.Syntax.{Name, Owner, everyone, ownedBy, Expression, Statement, skip, sequence, assignField, assignEntry, require, conditional, fieldAt, isEveryone}
+use Rattle.definitions.specs.ContractFile.{Name, Owner, everyone, ownedBy, Expression, Statement, skip, sequence, assignField, assignEntry, require, conditional, fieldAt, isEveryone}
 use Rattle.definitions.specs.Owners.{Links, placeOwner, nameOf, ownerOf, isPublic, linksAfter}
 use Rattle.definitions.specs.Numbers.{mayBePut, expressionFaults, statementFaults}
-use Rattle.definitions.specs.Written.{Command, Guard, under}
-use Rattle.definitions.specs.Rewriting.{kept, onePart, twoParts, supplying, inBody, inCircuit, inPlace, rewriteStatement}
-use Rattle.definitions.specs.Places.{position, only, readerOf}
-use Rattle.definitions.specs.Original.{isWorkedOut, placesAfter, completes}
-use Rattle.definitions.specs.Ledger.{Content, plainNumber, stateAfter, walkCompletes}
-use Rattle.definitions.specs.Calls.{honestContents, honestVariables}
+use Rattle.definitions.specs.Rewriting.{Command, Guard, under, kept, onePart, twoParts, supplying, inBody, inCircuit, inPlace, rewriteStatement, single}
+use Rattle.definitions.specs.Original.{position, only, readerOf, isWorkedOut, placesAfter, completes}
+use Rattle.definitions.specs.Ledger.{Content, plainNumber, stateAfter, walkCompletes, honestContents, honestVariables}
 use Rattle.relations.specs.Acceptance.{constantsFit, constantsFitIn}
 use Rattle.relations.specs.Standing.{Stands, AllStand, readersOf}
 use Rattle.typing.proofs.Basics.{and-left, and-right}
@@ -104,7 +101,7 @@ module _ (c : Call) where
         → (u : BodyFaithful c places numbers (placeOwner ((fieldAt (c .scope .fields) f) .owner) none) (originalValue c numbers e)
         (inPlace (c .scope) (placeOwner ((fieldAt (c .scope .fields) f) .owner) none) e) (workedOut numbers e) i)
         → StatementRuns linked (assignField f e) g i places numbers
-    unfolding rewriteStatement honestVariables completes placesAfter linksAfter stateAfter walkCompletes onePart
+    unfolding rewriteStatement honestVariables completes placesAfter linksAfter stateAfter walkCompletes onePart single
     assign-field-runs linked f e g i stand sound h u =
         let p = position (c .scope .fields) f 0 in
         single-runs c g i (λ variables. refl)
@@ -127,7 +124,7 @@ module _ (c : Call) where
         (inPlace (c .scope) (placeOwner ((fieldAt (c .scope .fields) f) .owner) (nameOf (c .scope) key)) e) (workedOut numbers e)
         (i + length ((inBody (c .scope) key i) .variables)))
         → StatementRuns linked (assignEntry f key e) g i places numbers
-    unfolding rewriteStatement honestVariables completes placesAfter linksAfter stateAfter walkCompletes twoParts
+    unfolding rewriteStatement honestVariables completes placesAfter linksAfter stateAfter walkCompletes twoParts single
     assign-entry-runs linked f key e g i stand sound h k w u =
         let p = position (c .scope .fields) f (originalValue c numbers key) in
         single-runs c g i (λ variables. refl)
@@ -149,7 +146,7 @@ module _ (c : Call) where
         → (u : BodyFaithful c places numbers everyone (originalValue c numbers condition) (inBody (c .scope) condition)
         (workedOut numbers condition) i)
         → StatementRuns linked (require condition) g i places numbers
-    unfolding rewriteStatement honestVariables completes placesAfter linksAfter stateAfter walkCompletes onePart
+    unfolding rewriteStatement honestVariables completes placesAfter linksAfter stateAfter walkCompletes onePart single
     require-runs linked condition g i stand sound u =
         single-runs c g i (λ variables. refl)
         (faithful-when c places numbers (ap (λ x. workedOut numbers condition && isTrue (plainNumber x)) (u .good .is))

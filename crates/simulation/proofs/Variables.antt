@@ -6,14 +6,10 @@ use Prim.Native.Nat.{ℕ, suc, _+_}
 use lib.ListN.{length}
 use lib.Seq.{getD-at, set-at, append-snoc}
 use Rattle.definitions.specs.Basics.{all}
-use Rattle.definitions.specs.Syntax.{Name, Owner, everyone, ownedBy, Expression}
-use Rattle.definitions.specs.DataTypes.{isOfType, typeOf}
-use Rattle.definitions.specs.Written.{BodyExpression, Circuit, readFrom}
-use Rattle.definitions.specs.Rewriting.{Generator, supplying, reading, readForm}
-use Rattle.definitions.specs.Places.{readerOf}
-use Rattle.definitions.specs.Original.{value}
-use Rattle.definitions.specs.Ledger.{Content, plain, contentFor, contentAt, contentOf, isWalked, circuitValue}
-use Rattle.definitions.specs.Calls.{honestContents}
+use Rattle.definitions.specs.ContractFile.{Name, Owner, everyone, ownedBy, Expression, isOfType, typeOf}
+use Rattle.definitions.specs.Rewriting.{BodyExpression, Circuit, readFrom, Generator, supplying, reading, readForm}
+use Rattle.definitions.specs.Original.{readerOf, value}
+use Rattle.definitions.specs.Ledger.{Content, plain, contentFor, contentAt, contentOf, isWalked, circuitValue, honestContents}
 use Rattle.relations.specs.Standing.{Stands}
 use Rattle.simulation.proofs.Truth.{cut-first, cut-second, length-with, length-with-one}
 use Rattle.simulation.proofs.Standing.{content-is-of}

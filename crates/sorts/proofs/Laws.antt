@@ -7,8 +7,7 @@ use native.Mathlib.Omega.{arith}
 use lib.Dec.{ltb}
 use borrow.Author.Tests.{lt-ltb, le-ltb}
 use Rattle.definitions.specs.Basics.{any}
-use Rattle.definitions.specs.ContractFile.{NodeRecord, byteAt, twoBytesAt, functionEnd, functionRecord, functionRecords, nodeRecord, nodeRecords, sectionsOf}
-use Rattle.definitions.specs.Nodes.{Kind, constantKind, meKind, fieldKind, entryKind, parameterKind, operatorKind, negationKind, revealKind, skipKind, sequenceKind, assignFieldKind, assignEntryKind, requireKind, conditionalKind, noKind, kindOf, Node, nodeOf, nodeOfKind, nodeAt, isExpression, isStatement, expressionParts, statementParts}
+use Rattle.definitions.specs.ContractFile.{NodeRecord, byteAt, twoBytesAt, functionEnd, functionRecord, functionRecords, nodeRecord, nodeRecords, sectionsOf, Kind, constantKind, meKind, fieldKind, entryKind, parameterKind, operatorKind, negationKind, revealKind, skipKind, sequenceKind, assignFieldKind, assignEntryKind, requireKind, conditionalKind, noKind, kindOf, Node, nodeOf, nodeOfKind, nodeAt, isExpression, isStatement, expressionParts, statementParts}
 use Rattle.definitions.specs.Numbers.{wrongSort}
 use Rattle.file.specs.declared.Layout.{Layout}
 use Rattle.file.specs.declared.Node as file-node

@@ -5,7 +5,7 @@ use mathlib.Core.List.{List}
 use mathlib.Core.Option.{none}
 use Prim.Native.Nat.{ℕ, _+_, _*_, _<_}
 use Rattle.definitions.specs.ContractFile.{NodeRecord, nodeCount, nodeRecord}
-use Rattle.definitions.specs.WrittenFile.{Tree, oneChild, twoChildren}
+use Rattle.definitions.specs.Rewriting.{Tree, oneChild, twoChildren}
 use Rattle.trees.specs.Trees.{expressionIn, statementIn}
 use Rattle.context.specs.Context.{Context, nodesIn, scopeIn}
 use Rattle.context.proofs.Statements.{assign-field-is, assign-entry-is, require-is}

@@ -9,11 +9,9 @@ use borrow.Author.Tests.{ne-eqb}
 use native.Mathlib.Omega.{arith}
 use lib.Dec.{eqb}
 use lib.ListN.{length}
-use Rattle.definitions.specs.Syntax.{Name, Owner, everyone, ownedBy, FieldOwner, toEveryone, toKey, toFinal, Expression, Scope, fieldAt, isEveryone}
-use Rattle.definitions.specs.ContractFile.{fieldOwnerCode}
+use Rattle.definitions.specs.ContractFile.{Name, Owner, everyone, ownedBy, FieldOwner, toEveryone, toKey, toFinal, Expression, Scope, fieldAt, isEveryone, fieldOwnerCode}
 use Rattle.definitions.specs.Owners.{isPublic, placeOwner}
-use Rattle.definitions.specs.Rewriting.{supplying, inBody, inCircuit, inPlace}
-use Rattle.definitions.specs.WrittenFile.{leaf, bodyTree}
+use Rattle.definitions.specs.Rewriting.{supplying, inBody, inCircuit, inPlace, leaf, bodyTree}
 use Rattle.context.specs.Context.{fieldsIn}
 use Rattle.variable_counts.specs.Counts.{bodyCount, circuitCount}
 use Rattle.variable_counts.proofs.Counts.{body-makes, circuit-makes}

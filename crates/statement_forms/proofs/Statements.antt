@@ -4,10 +4,9 @@ use mathlib.Core.Bool.{Bool, not}
 use mathlib.Core.Option.{none}
 use Prim.Native.Nat.{ℕ, _+_}
 use lib.ListN.{length, length-append}
-use Rattle.definitions.specs.Syntax.{Expression, Statement, Scope, fieldAt, isEveryone}
+use Rattle.definitions.specs.ContractFile.{Expression, Statement, Scope, fieldAt, isEveryone}
 use Rattle.definitions.specs.Owners.{nameOf, placeOwner}
-use Rattle.definitions.specs.Rewriting.{kept, onePart, twoParts, inBody, inPlace}
-use Rattle.definitions.specs.WrittenFile.{leaf, oneChild, twoChildren, bodyTree, commandTree}
+use Rattle.definitions.specs.Rewriting.{kept, onePart, twoParts, inBody, inPlace, leaf, oneChild, twoChildren, bodyTree, commandTree}
 use Rattle.variable_counts.specs.Counts.{bodyCount}
 use Rattle.variable_counts.proofs.Counts.{body-makes}
 use Rattle.forms.specs.Forms.{bodyForm}

@@ -4,9 +4,9 @@ use mathlib.Core.Bool.{Bool, _&&_, cond, not}
 use mathlib.Core.List.{List}
 use mathlib.Core.Option.{Option}
 use Prim.Native.Nat.{ℕ, _+_}
-use Rattle.definitions.specs.Syntax.{Name, Expression, Scope, fieldAt, isEveryone}
+use Rattle.definitions.specs.ContractFile.{Name, Expression, Scope, fieldAt, isEveryone}
 use Rattle.definitions.specs.Owners.{isPublic, placeOwner}
-use Rattle.definitions.specs.WrittenFile.{Tree, leaf}
+use Rattle.definitions.specs.Rewriting.{Tree, leaf}
 use Rattle.context.specs.Context.{fieldsIn}
 use Rattle.variable_counts.specs.Counts.{bodyCount, circuitCount}
 use Rattle.forms.specs.Forms.{bodyForm}

@@ -2,11 +2,9 @@
 use mathlib.Core.Bool.{not}
 use mathlib.Core.Option.{none}
 use Prim.Native.Nat.{ℕ, _+_}
-use Rattle.definitions.specs.Syntax.{Statement, Scope, fieldAt, isEveryone}
+use Rattle.definitions.specs.ContractFile.{Statement, Scope, fieldAt, isEveryone}
 use Rattle.definitions.specs.Owners.{nameOf, placeOwner}
-use Rattle.definitions.specs.Written.{Command}
-use Rattle.definitions.specs.Rewriting.{Generator, kept, assignedField, assignedEntry, required}
-use Rattle.definitions.specs.WrittenFile.{Tree, commandTree}
+use Rattle.definitions.specs.Rewriting.{Command, Generator, kept, onePart, twoParts, inBody, inPlace, Tree, commandTree}
 use Rattle.variable_counts.specs.Counts.{bodyCount}
 use Rattle.statement_forms.specs.Places.{placedCount}
 
@@ -14,9 +12,10 @@ use Rattle.statement_forms.specs.Places.{placedCount}
 unfoldable pub simple : Scope → Statement → Generator Command
 simple scope Statement.skip = kept Command.skip
 simple scope (Statement.sequence first second) = kept Command.skip
-simple scope (Statement.assignField f value) = assignedField scope f value
-simple scope (Statement.assignEntry f key value) = assignedEntry scope f key value
-simple scope (Statement.require condition) = required scope condition
+simple scope (Statement.assignField f value) = onePart (Command.assignField f) (inPlace scope (placeOwner ((fieldAt (scope .fields) f) .owner) none) value)
+simple scope (Statement.assignEntry f key value) =
+    twoParts (Command.assignEntry f) (inBody scope key) (inPlace scope (placeOwner ((fieldAt (scope .fields) f) .owner) (nameOf scope key)) value)
+simple scope (Statement.require condition) = onePart Command.require (inBody scope condition)
 simple scope (Statement.conditional condition then else) = kept Command.skip
 
 abbrev pub simpleForm : Scope → Statement → ℕ → Tree

@@ -4,8 +4,7 @@ use mathlib.Core.Bool.{Bool, true, false, _&&_, not}
 use mathlib.Core.List.{List}
 use mathlib.Core.Option.{none}
 use Prim.Native.Nat.{ℕ, _<_}
-use Rattle.definitions.specs.Syntax.{Owner, isEveryone, fieldAt}
-use Rattle.definitions.specs.ContractFile.{nodeCount, ownerCode, fieldOwnerCode}
+use Rattle.definitions.specs.ContractFile.{Owner, isEveryone, fieldAt, nodeCount, ownerCode, fieldOwnerCode}
 use Rattle.definitions.specs.Owners.{isPublic, nameOf, placeOwner}
 use Rattle.owners.specs.Codes.{nameCode, placeCode}
 use Rattle.owners.proofs.Codes.{code-public, code-private, place-code}

@@ -3,8 +3,7 @@ use mathlib.Core.Path.{_≡_, ap, sym, subst}
 use mathlib.Core.List.{List}
 use Prim.Native.Nat.{ℕ, _+_, _*_, _<_}
 use native.Mathlib.Omega.{arith}
-use Rattle.definitions.specs.Syntax.{Statement}
-use Rattle.definitions.specs.ContractFile.{NodeRecord, nodeCount, nodeRecord}
+use Rattle.definitions.specs.ContractFile.{Statement, NodeRecord, nodeCount, nodeRecord}
 use Rattle.trees.specs.Trees.{statementIn}
 use Rattle.context.specs.Context.{nodesIn, scopeIn}
 use Rattle.context.proofs.Statements.{Still, still-is, sequence-is, assign-field-is, assign-entry-is, require-is, conditional-is, steps-below, value-below, key-and-value-below, required-below, branches-below}

@@ -3,8 +3,7 @@ use mathlib.Core.Path.{_≡_}
 use mathlib.Core.List.{List}
 use mathlib.Core.Option.{none}
 use Prim.Native.Nat.{ℕ, _<_}
-use Rattle.definitions.specs.Syntax.{Owner, fieldAt}
-use Rattle.definitions.specs.ContractFile.{ownerCode}
+use Rattle.definitions.specs.ContractFile.{Owner, fieldAt, ownerCode}
 use Rattle.definitions.specs.Owners.{nameOf, placeOwner}
 use Rattle.trees.specs.Trees.{statementIn}
 use Rattle.context.specs.Context.{nodesIn, fieldsIn, scopeIn}

@@ -5,11 +5,9 @@ use mathlib.Core.List.{List}
 use mathlib.Core.Option.{none}
 use Prim.Native.Nat.{ℕ}
 use lib.ListN.{length}
-use Rattle.definitions.specs.Syntax.{Statement, Scope, fieldAt}
+use Rattle.definitions.specs.ContractFile.{Statement, Scope, fieldAt}
 use Rattle.definitions.specs.Owners.{nameOf, placeOwner}
-use Rattle.definitions.specs.Written.{Command, Guard}
-use Rattle.definitions.specs.Rewriting.{Step, single, stepsBefore, inBody, inPlace, rewriteStatement}
-use Rattle.definitions.specs.WrittenFile.{commandTree}
+use Rattle.definitions.specs.Rewriting.{Command, Guard, Step, single, stepsBefore, inBody, inPlace, rewriteStatement, commandTree}
 use Rattle.trees.specs.Trees.{statementIn}
 use Rattle.context.specs.Context.{nodesIn, scopeIn}
 use Rattle.events.specs.Events.{stepsOf, bodyEvents, placeEvents, statementEvents}

@@ -1,8 +1,7 @@
 -- One statement that holds no other, with the steps before it, as code reads them from a log.
 use mathlib.Core.List.{List}
 use Prim.Native.Nat.{ℕ}
-use Rattle.definitions.specs.Rewriting.{stepsBefore}
-use Rattle.definitions.specs.WrittenFile.{Tree, commandTree}
+use Rattle.definitions.specs.Rewriting.{stepsBefore, Tree, commandTree}
 use Rattle.trees.specs.Trees.{statementIn}
 use Rattle.context.specs.Context.{nodesIn, scopeIn}
 use Rattle.statement_forms.specs.Statements.{simple}

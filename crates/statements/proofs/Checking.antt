@@ -2,7 +2,7 @@
 use mathlib.Core.Path.{_≡_, refl, sym, _∙_}
 use mathlib.Core.List.{_++_}
 use Prim.Native.Nat.{ℕ, min}
-use Rattle.definitions.specs.Syntax.{Expression, Statement, Scope}
+use Rattle.definitions.specs.ContractFile.{Expression, Statement, Scope}
 use Rattle.definitions.specs.Owners.{linksAfter, linksOfCondition}
 use Rattle.definitions.specs.Numbers.{statementFaults, conditionFaults}
 use Rattle.faults.specs.Faults.{leastFault}

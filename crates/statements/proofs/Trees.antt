@@ -5,9 +5,7 @@ use mathlib.Core.Bool.{false}
 use Prim.Native.Nat.{ℕ, _<_}
 use lib.Dec.{leb}
 use Rattle.definitions.specs.Basics.{any}
-use Rattle.definitions.specs.Syntax.{Statement}
-use Rattle.definitions.specs.ContractFile.{NodeRecord}
-use Rattle.definitions.specs.Nodes.{kindOf, nodeOf, nodeOfKind, nodeAt, children, expressionParts, statementParts, statementOf}
+use Rattle.definitions.specs.ContractFile.{Statement, NodeRecord, kindOf, nodeOf, nodeOfKind, nodeAt, children, expressionParts, statementParts, statementOf}
 use Rattle.numbers.specs.Settled.{Settled}
 use Rattle.scopes.specs.Trees.{nodesOf, expressionOn, statementOn}
 use Rattle.scopes.proofs.Lists.{first-below, rest-below}

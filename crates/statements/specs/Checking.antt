@@ -1,6 +1,6 @@
 -- What is found of a statement.
 use mathlib.Core.Path.{_≡_}
-use Rattle.definitions.specs.Syntax.{Statement, Scope}
+use Rattle.definitions.specs.ContractFile.{Statement, Scope}
 use Rattle.definitions.specs.Owners.{Links, linksAfter}
 use Rattle.definitions.specs.Numbers.{statementFaults}
 use Rattle.faults.specs.Faults.{leastFault}

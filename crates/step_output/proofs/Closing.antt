@@ -7,7 +7,7 @@ use lib.ListN.{length, getD, take}
 use lib.Seq.{take-suc}
 use Rattle.definitions.specs.Basics.{flatMap}
 use Rattle.definitions.specs.ContractFile.{NodeRecord, node}
-use Rattle.definitions.specs.WrittenFile.{nodeBytes}
+use Rattle.definitions.specs.Rewriting.{nodeBytes}
 use Rattle.buffer.specs.Buffer.{stored}
 use Rattle.buffer.proofs.Laws.{stored-nothing}
 use Rattle.node_output.proofs.Laws.{run-then}

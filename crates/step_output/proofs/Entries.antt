@@ -5,9 +5,7 @@ use Prim.Native.Nat.{ℕ, zero, suc, _+_, _*_, _-_, _<_, _≤_}
 use native.Mathlib.Omega.{arith}
 use borrow.Author.Tests.{eq-eqb, ne-eqb}
 use lib.ListN.{getD}
-use Rattle.definitions.specs.Syntax.{Scope}
-use Rattle.definitions.specs.ContractFile.{nodeCount}
-use Rattle.definitions.specs.Nodes.{Node}
+use Rattle.definitions.specs.ContractFile.{Scope, nodeCount, Node}
 use Rattle.trees.specs.Trees.{expressionIn}
 use Rattle.context.specs.Context.{nodesIn, scopeIn}
 use Rattle.variable_counts.specs.Counts.{bodyCount}

@@ -6,9 +6,7 @@ use native.Mathlib.Omega.{arith}
 use lib.ListN.{length, take, drop, length-append}
 use lib.Seq.{take-at}
 use Rattle.definitions.specs.Basics.{flatMap}
-use Rattle.definitions.specs.Written.{Command}
-use Rattle.definitions.specs.Rewriting.{Step, stepsBefore}
-use Rattle.definitions.specs.WrittenFile.{Tree, size, sizes, numbered, numberedAll, nodeBytes, commandTree}
+use Rattle.definitions.specs.Rewriting.{Command, Step, stepsBefore, Tree, size, sizes, numbered, numberedAll, nodeBytes, commandTree}
 use Rattle.buffer.specs.Buffer.{stored}
 use Rattle.buffer.proofs.Laws.{stored-length}
 use Rattle.node_output.specs.Numbering.{treeBytes, Room, Numbered}

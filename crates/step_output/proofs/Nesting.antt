@@ -6,9 +6,7 @@ use native.Mathlib.Nat.{add-zero}
 use native.Mathlib.Omega.{arith}
 use lib.ListN.{length, length-append}
 use Rattle.definitions.specs.ContractFile.{NodeRecord, node}
-use Rattle.definitions.specs.Written.{Command}
-use Rattle.definitions.specs.Rewriting.{Step, stepsBefore}
-use Rattle.definitions.specs.WrittenFile.{size, sizes, numbered, numberedAll, commandTree}
+use Rattle.definitions.specs.Rewriting.{Command, Step, stepsBefore, size, sizes, numbered, numberedAll, commandTree}
 use Rattle.node_output.proofs.Laws.{size-positive}
 use Rattle.step_output.specs.Steps.{stepTree, stepTrees, stepRoots, closers}
 

@@ -6,11 +6,8 @@ use Prim.Native.Nat.{ℕ, zero, suc, _+_, _*_, _-_, _<_, _≤_}
 use lib.Dec.{eqb}
 use lib.ListN.{length, getD}
 use Rattle.definitions.specs.Basics.{flatMap}
-use Rattle.definitions.specs.Syntax.{Scope}
-use Rattle.definitions.specs.ContractFile.{NodeRecord, nodeCount, node}
-use Rattle.definitions.specs.Nodes.{Node}
-use Rattle.definitions.specs.Rewriting.{Step, inBody}
-use Rattle.definitions.specs.WrittenFile.{Tree, setting, size, sizes, numberedAll, nodeBytes, bodyTree}
+use Rattle.definitions.specs.ContractFile.{Scope, NodeRecord, nodeCount, node, Node}
+use Rattle.definitions.specs.Rewriting.{Step, inBody, Tree, setting, size, sizes, numberedAll, nodeBytes, bodyTree}
 use Rattle.trees.specs.Trees.{expressionIn}
 use Rattle.buffer.specs.Buffer.{stored}
 use Rattle.context.specs.Context.{nodesIn, scopeIn}

@@ -8,7 +8,7 @@ ghost use Prim.Native.Nat.{_+_, _*_, _<_, _≤_};
 ghost use lib.ListN.{length, take};
 ghost use Rattle.definitions.specs.Basics.{flatMap};
 ghost use Rattle.definitions.specs.ContractFile.{nodeCount};
-ghost use Rattle.definitions.specs.WrittenFile.{setting, nodeBytes};
+ghost use Rattle.definitions.specs.Rewriting.{setting, nodeBytes};
 ghost use Rattle.trees.specs.Trees.{expressionIn};
 ghost use Rattle.buffer.specs.Buffer.{stored};
 ghost use Rattle.context.specs.Context.{Context, nodesIn, scopeIn};

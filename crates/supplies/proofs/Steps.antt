@@ -7,9 +7,9 @@ use native.Mathlib.Numerals.{add-one}
 use native.Mathlib.Omega.{arith}
 use borrow.Author.Tests.{ne-eqb}
 use lib.Dec.{eqb}
-use Rattle.definitions.specs.Syntax.{meName, Owner, everyone, ownedBy, Expression, Scope, isEveryone}
+use Rattle.definitions.specs.ContractFile.{meName, Owner, everyone, ownedBy, Expression, Scope, isEveryone}
 use Rattle.definitions.specs.Owners.{ownerOf, isPublic}
-use Rattle.definitions.specs.Written.{Variable, supplied, readFrom, always}
+use Rattle.definitions.specs.Rewriting.{Variable, supplied, readFrom, always}
 use Rattle.buffer.specs.Buffer.{stored}
 use Rattle.context.specs.Context.{scopeIn}
 use Rattle.events.specs.Events.{Events, inTurn, supplyEvents, readEvents, bodyEvents, circuitEvents, placeEvents}

@@ -5,8 +5,8 @@ use Prim.Native.Nat.{ℕ, suc, _+_, _<_, _≤_}
 use native.Mathlib.Numerals.{add-one}
 use native.Mathlib.Omega.{arith}
 use lib.ListN.{length, length-append, length-map}
-use Rattle.definitions.specs.Syntax.{Owner, Expression}
-use Rattle.definitions.specs.Written.{Variable, supplied, readFrom, Guard}
+use Rattle.definitions.specs.ContractFile.{Owner, Expression}
+use Rattle.definitions.specs.Rewriting.{Variable, supplied, readFrom, Guard}
 use Rattle.buffer.specs.Buffer.{stored}
 use Rattle.buffer.proofs.Laws.{stored-length, stored-nothing, stored-then}
 use Rattle.events.specs.Events.{Event, Events, claimedEvent, readEvent, variablesOf, variableCount, noEvents, inTurn, supplyEvents, readEvents}

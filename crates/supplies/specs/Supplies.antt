@@ -4,10 +4,9 @@ use mathlib.Core.Bool.{Bool, cond}
 use mathlib.Core.List.{List, map}
 use Prim.Native.Nat.{ℕ, suc, _+_, _<_, _≤_}
 use lib.ListN.{length}
-use Rattle.definitions.specs.Syntax.{meName, ownedBy}
-use Rattle.definitions.specs.ContractFile.{nodeCount}
+use Rattle.definitions.specs.ContractFile.{meName, ownedBy, nodeCount}
 use Rattle.definitions.specs.Owners.{isPublic}
-use Rattle.definitions.specs.Written.{Variable, supplied, readFrom, guard, always}
+use Rattle.definitions.specs.Rewriting.{Variable, supplied, readFrom, guard, always}
 use Rattle.buffer.specs.Buffer.{stored}
 use Rattle.context.specs.Context.{Context, scopeIn}
 use Rattle.events.specs.Events.{Events, variablesOf, variableCount, supplyEvents, bodyEvents, circuitEvents}

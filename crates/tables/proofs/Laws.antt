@@ -6,8 +6,7 @@ use mathlib.Core.Logic.{_⊎_, inl, inr, ⊎-elim}
 use Prim.Native.Nat.{ℕ, _+_, _-_, _<_}
 use borrow.Author.Tests.{ne-eqb}
 use Rattle.definitions.specs.Basics.{any}
-use Rattle.definitions.specs.ContractFile.{NodeRecord, fieldRecords, functionRecords, nodeRecord, nodeRecords, sectionsOf}
-use Rattle.definitions.specs.Nodes.{kindOf}
+use Rattle.definitions.specs.ContractFile.{NodeRecord, fieldRecords, functionRecords, nodeRecord, nodeRecords, sectionsOf, kindOf}
 use Rattle.definitions.specs.Numbers.{kindInTables, nodeInTables, outsideTables}
 use Rattle.file.specs.declared.Layout.{Layout}
 use Rattle.file.specs.declared.Node.{Node}

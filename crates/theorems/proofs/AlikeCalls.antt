@@ -5,12 +5,10 @@ use mathlib.Core.List.{List}
 use Prim.Native.Nat.{ℕ, suc}
 use lib.Dec.{eqb}
 use lib.ListN.{length, getD}
-use Rattle.definitions.specs.Syntax.{Name, meName, finalName, parameterName, Parameter, Scope, fieldAt, parameterAt, isFinal}
+use Rattle.definitions.specs.ContractFile.{Name, meName, finalName, parameterName, Parameter, Scope, fieldAt, parameterAt, isFinal, contractIn}
 use Rattle.definitions.specs.Owners.{parameterOwner}
-use Rattle.definitions.specs.Places.{position, finalAddress, Reader, anyone, mayRead, readerOf}
-use Rattle.definitions.specs.Original.{completes, disclosedBy}
-use Rattle.definitions.specs.Ledger.{Ledger, State, contentAt, stateAfter}
-use Rattle.definitions.specs.Calls.{contractOfLedger, calledFunction, callNumber, ledgerAfterCall}
+use Rattle.definitions.specs.Original.{position, finalAddress, Reader, anyone, mayRead, readerOf, completes, disclosedBy}
+use Rattle.definitions.specs.Ledger.{Ledger, State, contentAt, stateAfter, functionOfLedger, callNumber, ledgerAfterCall}
 use Rattle.relations.specs.Environment.{Environment}
 use Rattle.relations.specs.Standing.{Stands, AllStand, readersOf}
 use Rattle.relations.specs.Secrecy.{hidden, allHidden, stateHidden, Agree, ArgumentsAgree}
@@ -41,7 +39,7 @@ aligned l m =
 
 module _ (party : ℕ) (l m : Ledger) (f c : ℕ) (a a′ : List ℕ) (clear : callNumber l f c a ≡ 0) (clear′ : callNumber (aligned l m) f c a′ ≡ 0)
     (alike : AlikeContents party (l .places) (m .places))
-    (arguments : (k : ℕ) → not ((parameterAt ((calledFunction l f c) .parameters) k) .private) || eqb c party ≡ true → getD a k 0 ≡ getD a′ k 0) where
+    (arguments : (k : ℕ) → not ((parameterAt ((functionOfLedger l f) .parameters) k) .private) || eqb c party ≡ true → getD a k 0 ≡ getD a′ k 0) where
   abbrev l′ : Ledger
   l′ = aligned l m
 
@@ -80,8 +78,8 @@ module _ (party : ℕ) (l m : Ledger) (f c : ℕ) (a a′ : List ℕ) (clear : c
 
       each : (n : Name) → addressOfCall l f c a n ≡ addressOfCall (aligned l m) f c a′ n
       each meName = refl
-      each (finalName g) = of-final (isFinal ((fieldAt ((contractOfLedger l) .fields) g) .shape)) _ _ (final-agrees g)
-      each (parameterName k) = of-parameter ((parameterAt ((calledFunction l f c) .parameters) k) .private) _ _ (arguments k)
+      each (finalName g) = of-final (isFinal ((fieldAt ((contractIn (l .file)) .fields) g) .shape)) _ _ (final-agrees g)
+      each (parameterName k) = of-parameter ((parameterAt ((functionOfLedger l f) .parameters) k) .private) _ _ (arguments k)
 
   agree : Agree party address (scope .fields) (openedPlaces l f c a) (openedPlaces l′ f c a′)
   agree =

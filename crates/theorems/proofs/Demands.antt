@@ -4,8 +4,8 @@ use mathlib.Core.Bool.{true}
 use mathlib.Core.List.{List}
 use Prim.Native.Nat.{ℕ}
 use lib.ListN.{take}
-use Rattle.definitions.specs.Calls.{deployNumber, isWellFormed, deployed}
-use Rattle.definitions.specs.Runs.{Request, runAtDeployment, isTaken, viewsAfter, disclosures, Paired}
+use Rattle.definitions.specs.Ledger.{deployNumber, isWellFormed, deployed}
+use Rattle.definitions.specs.View.{Request, runAtDeployment, isTaken, viewsAfter, disclosures, Paired}
 use Rattle.theorems.specs.Claims.{runAfterAll, PlacesStand, CallFaithful, SerialsUpTo, MadeSerials}
 use Rattle.theorems.proofs.Faithful.{faithful-at-deployment, faithful-after-all, places-of-faithful, call-of-faithful}
 use Rattle.theorems.proofs.NewSerials.{serials-at-deployment, serials-after-all, made-serials}

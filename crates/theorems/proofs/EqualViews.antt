@@ -5,12 +5,10 @@ use mathlib.Core.List.{List, [], _∷_}
 use Prim.Native.Nat.{ℕ, zero, suc}
 use lib.Dec.{eqb}
 use lib.ListN.{getD, take}
-use Rattle.definitions.specs.Syntax.{parameterAt}
+use Rattle.definitions.specs.ContractFile.{parameterAt, contractIn}
 use Rattle.definitions.specs.Original.{disclosedBy, originalDiscloses}
-use Rattle.definitions.specs.Ledger.{Ledger}
-use Rattle.definitions.specs.Calls.{contractIn, contractOfLedger, calledFunction, callNumber, ledgerAfterCall}
-use Rattle.definitions.specs.View.{viewBytes}
-use Rattle.definitions.specs.Runs.{Request, Run, isTaken, runAfter, disclosedIn, viewsAfter, disclosures, AlikeFor, Paired, finished, bothRefused, bothTaken}
+use Rattle.definitions.specs.Ledger.{Ledger, functionOfLedger, callNumber, ledgerAfterCall}
+use Rattle.definitions.specs.View.{viewBytes, Request, Run, isTaken, runAfter, disclosedIn, viewsAfter, disclosures, AlikeFor, Paired, finished, bothRefused, bothTaken}
 use Rattle.secrecy.proofs.Views.{AlikeLedgers, alike-views}
 use Rattle.theorems.proofs.HonestCall.{addressOfCall, openedPlaces, bodyOfCall}
 use Rattle.theorems.proofs.Faithful.{FaithfulRun, taken-number, refused-run, same-file, faithful-after}
@@ -18,7 +16,7 @@ use Rattle.theorems.proofs.AlikeCalls.{aligned, alike-after}
 
 -- What a call discloses to the party, on the opened places.
 abbrev DisclosedOn : ℕ → Ledger → ℕ → ℕ → List ℕ → List ℕ
-DisclosedOn party l f c a = disclosedBy ((contractOfLedger l) .fields) (addressOfCall l f c a) a party (openedPlaces l f c a) (bodyOfCall l f c a)
+DisclosedOn party l f c a = disclosedBy ((contractIn (l .file)) .fields) (addressOfCall l f c a) a party (openedPlaces l f c a) (bodyOfCall l f c a)
 
 disclosed-taken : (party : ℕ) (run : Run) → FaithfulRun run → (r : Request) → isTaken run r ≡ true
     → disclosedIn party run r ≡ DisclosedOn party (run .ledger) (r .function) (r .caller) (r .arguments)
@@ -29,7 +27,7 @@ disclosed-taken party run h r e =
 
 -- The second call may stand on another ledger with the same file and call number, and name function and caller by equal numbers.
 module _ (party : ℕ) (l : Ledger) (f c : ℕ) (a a′ : List ℕ) (clear : callNumber l f c a ≡ 0)
-    (arguments : (k : ℕ) → not ((parameterAt ((calledFunction l f c) .parameters) k) .private) || eqb c party ≡ true → getD a k 0 ≡ getD a′ k 0) where
+    (arguments : (k : ℕ) → not ((parameterAt ((functionOfLedger l f) .parameters) k) .private) || eqb c party ≡ true → getD a k 0 ≡ getD a′ k 0) where
   abbrev SecondCall : Ledger → ℕ → ℕ → Type 0
   SecondCall m f′ c′ =
       callNumber m f′ c′ a′ ≡ 0 → DisclosedOn party l f c a ≡ DisclosedOn party m f′ c′ a′

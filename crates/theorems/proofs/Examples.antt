@@ -5,23 +5,15 @@ use mathlib.Core.List.{List, [], _∷_, zipWith}
 use Prim.Native.Nat.{ℕ, zero, suc}
 use lib.Dec.{eqb}
 use lib.ListN.{length, getD, take}
-use Rattle.definitions.specs.Syntax.{parameterAt, functionAt}
+use Rattle.definitions.specs.ContractFile.{parameterAt, functionAt, functionsEnd, nodesAt, fieldRecords, parameterRecords, functionRecords, nodeRecords, sectionsOf, sectionPart, fieldOf, parameterOf, typeOf, kindOf, nodeOfKind, expressionParts, statementParts, fieldsNamed, chainLength, expressionOf, expressionAt, statementOf, statementAt, contractOf, sameName, contractIn}
 use Rattle.definitions.specs.Basics.{all, any, anyNumbered, countIf, largest, flatMap, firstThatHolds}
-use Rattle.definitions.specs.Calls.{contractIn, deployNumber, deployed, allFit, publicOf, isWellFormed, notCallable, argumentsOff, callNumber, callWith, honestContents, honestVariables, honestParameters, ledgerAfterCall}
-use Rattle.definitions.specs.ContractFile.{functionsEnd, nodesAt, fieldRecords, parameterRecords, functionRecords, nodeRecords, sectionsOf, sectionPart, fieldOf, parameterOf}
-use Rattle.definitions.specs.DataTypes.{typeOf}
-use Rattle.definitions.specs.Ledger.{circuitValue, contentOf, isWalked, stateAfter, walkCompletes}
-use Rattle.definitions.specs.Nodes.{kindOf, nodeOfKind, expressionParts, statementParts, fieldsNamed, chainLength, expressionOf, expressionAt, statementOf, statementAt, contractOf}
+use Rattle.definitions.specs.Ledger.{deployNumber, deployed, allFit, publicOf, isWellFormed, notCallable, argumentsOff, callNumber, callWith, honestContents, honestVariables, honestParameters, ledgerAfterCall, circuitValue, contentOf, isWalked, stateAfter, walkCompletes}
 use Rattle.definitions.specs.Numbers.{endsWrongly, countOffLimits, fieldInTables, parameterInTables, kindInTables, outsideTables, namesNothing, usesOf, usedOtherThanOnce, tooDeep, wrongSort, expressionFaults, statementFaults, contractFaults, checkNumber, sectionNumber, sectionAnswer}
-use Rattle.definitions.specs.Original.{value, isWorkedOut, placesAfter, completes, disclosed, disclosedBy, originalCompletes, originalAfter, originalDiscloses}
+use Rattle.definitions.specs.Original.{value, isWorkedOut, placesAfter, completes, disclosed, disclosedBy, originalCompletes, originalAfter, originalDiscloses, numbersFrom, perPlace, position, deployedNumbers}
 use Rattle.definitions.specs.Owners.{withLink, nameOf, ownerOf, linksOfCondition, linksAfter}
-use Rattle.definitions.specs.Places.{numbersFrom, perPlace, position, deployedNumbers}
 use Rattle.definitions.specs.Report.{tallies, insert, sorted, digits, reportText}
-use Rattle.definitions.specs.Rewriting.{kept, onePart, twoParts, supplying, reading, stepsBefore, single, inSequence, inBranch, inBranches, rewriteStatement, privateParameters, openings, rewriteFunction, rewrite, inBody, inCircuit}
-use Rattle.definitions.specs.Runs.{Request, Run, Paired, finished, bothRefused, bothTaken, runAtDeployment, isTaken, runAfter, disclosedIn, viewsAfter, disclosures}
-use Rattle.definitions.specs.Syntax.{sameName}
-use Rattle.definitions.specs.View.{itemFor, itemsFor, itemBytes, viewBytes, viewNumber, viewLength, outputAfterView}
-use Rattle.definitions.specs.WrittenFile.{size, numbered, bodyTree, circuitTree, commandTree, sizes, numberedAll, eachOnce, constraintBytes, functionBytes, functionsBytes, contractBytes, writtenFile, writeNumber, writtenLength, outputAfterWriting}
+use Rattle.definitions.specs.Rewriting.{kept, onePart, twoParts, supplying, reading, stepsBefore, single, inSequence, inBranch, inBranches, rewriteStatement, privateParameters, openings, rewriteFunction, rewrite, inBody, inCircuit, size, numbered, bodyTree, circuitTree, commandTree, sizes, numberedAll, eachOnce, constraintBytes, functionBytes, functionsBytes, contractBytes, writtenFile, writeNumber, writtenLength, outputAfterWriting}
+use Rattle.definitions.specs.View.{Request, Run, Paired, finished, bothRefused, bothTaken, runAtDeployment, isTaken, runAfter, disclosedIn, viewsAfter, disclosures, itemFor, itemsFor, itemBytes, viewBytes, viewNumber, viewLength, outputAfterView}
 use Rattle.theorems.proofs.Demands.{equal-views}
 
 -- File A: final h; uint `count` owned by h; `count` takes reveal of r to h.

@@ -5,12 +5,11 @@ use mathlib.Core.List.{List, [], _∷_, map}
 use Prim.Native.Nat.{ℕ}
 use borrow.Author.Tests.{eqb-true}
 use Rattle.definitions.specs.Basics.{all, isZero}
-use Rattle.definitions.specs.Places.{placeReaders}
-use Rattle.definitions.specs.Original.{originalCompletes, originalAfter}
-use Rattle.definitions.specs.Ledger.{Ledger, openedNumber, constraintHolds}
-use Rattle.definitions.specs.Calls.{contractIn, contractOfLedger, lastAddress, lastFunction, isWellFormed, callNumber, callWith, ledgerAfterCall, deployNumber, deployed, honestParametersOf, honestVariablesOf, isDone, afterDone, afterFailed}
+use Rattle.definitions.specs.ContractFile.{contractIn}
+use Rattle.definitions.specs.Original.{placeReaders, originalCompletes, originalAfter}
+use Rattle.definitions.specs.Ledger.{Ledger, openedNumber, constraintHolds, lastAddress, functionOfLedger, isWellFormed, callNumber, callWith, ledgerAfterCall, deployNumber, deployed, honestParametersOf, honestVariablesOf}
 use Rattle.definitions.specs.Rewriting.{rewriteFunction}
-use Rattle.definitions.specs.Runs.{Request, Run, runAtDeployment, isTaken, runAfter}
+use Rattle.definitions.specs.View.{Request, Run, runAtDeployment, isTaken, runAfter}
 use Rattle.relations.specs.Standing.{AllStand}
 use Rattle.typing.proofs.Contents.{all-stand-opened}
 use Rattle.typing.proofs.Deployment.{deployed-stand, deployed-well-formed}
@@ -18,6 +17,7 @@ use Rattle.typing.proofs.WellFormed.{places-stand}
 use Rattle.theorems.specs.Claims.{runAfterAll, PlacesStand, CallFaithful}
 use Rattle.theorems.proofs.HonestCall.{completesHere, numbersAfter, endOfHonest, ledgerDone, ledgerFailed, openedPlaces, honest, ledger-after}
 use Rattle.theorems.proofs.WellFormedAfter.{stand-done, address-done, after-well-formed}
+use Rattle.theorems.proofs.CallParts.{isDone, afterDone, afterFailed}
 
 -- A run that is faithful: its ledger is well formed, and its places open to the original's numbers.
 pub record FaithfulRun (run : Run) : Type 0 where
@@ -57,7 +57,7 @@ same-file run r =
 
 -- A taken call on a ledger, with the original at the opened places.
 module _ (l : Ledger) (f c : ℕ) (a : List ℕ) (clear : callNumber l f c a ≡ 0) where
-  pub opened-after : map openedNumber ((ledgerAfterCall l f c a) .places) ≡ originalAfter (contractOfLedger l) (openedPlaces l f c a) f c a
+  pub opened-after : map openedNumber ((ledgerAfterCall l f c a) .places) ≡ originalAfter (contractIn (l .file)) (openedPlaces l f c a) f c a
   unfolding originalAfter originalCompletes
   opened-after =
       ap (λ (after : Ledger). map openedNumber (after .places)) (ledger-after l f c a clear) ∙ go (completesHere l f c a) refl
@@ -67,7 +67,7 @@ module _ (l : Ledger) (f c : ℕ) (a : List ℕ) (clear : callNumber l f c a ≡
       go true e = all-stand-opened _ _ _ (stand-done l f c a clear e)
       go false e = refl
 
-  pub outcome-after : (ledgerAfterCall l f c a) .outcome ≡ cond (originalCompletes (contractOfLedger l) (openedPlaces l f c a) f c a) 0 1
+  pub outcome-after : (ledgerAfterCall l f c a) .outcome ≡ cond (originalCompletes (contractIn (l .file)) (openedPlaces l f c a) f c a) 0 1
   unfolding originalCompletes
   outcome-after = ap (λ (after : Ledger). after .outcome) (ledger-after l f c a clear) ∙ go (completesHere l f c a)
     where
@@ -77,7 +77,7 @@ module _ (l : Ledger) (f c : ℕ) (a : List ℕ) (clear : callNumber l f c a ≡
 
   abbrev ConstraintsHold : Ledger → Type 0
   ConstraintsHold after =
-      all (constraintHolds (lastAddress after) (after .variables)) ((rewriteFunction ((contractOfLedger l) .fields) (lastFunction after)) .constraints) ≡ true
+      all (constraintHolds (lastAddress after) (after .variables)) ((rewriteFunction ((contractIn (l .file)) .fields) (functionOfLedger after (after .function))) .constraints) ≡ true
 
   pub constraints-after : (ledgerAfterCall l f c a) .outcome ≡ 0 → ConstraintsHold (ledgerAfterCall l f c a)
   constraints-after =
@@ -86,7 +86,7 @@ module _ (l : Ledger) (f c : ℕ) (a : List ℕ) (clear : callNumber l f c a ≡
       go : (b : Bool) → completesHere l f c a ≡ b → (cond b (ledgerDone l f c a) (ledgerFailed l f c a)) .outcome ≡ 0
           → ConstraintsHold (cond b (ledgerDone l f c a) (ledgerFailed l f c a))
       go true e done =
-          subst (λ address. all (constraintHolds address ((endOfHonest l f c a) .variables)) ((rewriteFunction ((contractOfLedger l) .fields) (lastFunction (ledgerDone l f c a))) .constraints) ≡ true)
+          subst (λ address. all (constraintHolds address ((endOfHonest l f c a) .variables)) ((rewriteFunction ((contractIn (l .file)) .fields) (functionOfLedger (ledgerDone l f c a) ((ledgerDone l f c a) .function))) .constraints) ≡ true)
           (sym (address-done l f c a clear e)) (honest l f c a clear .constraints e)
       go false e done = absurd (one-is-not-zero done)
         where

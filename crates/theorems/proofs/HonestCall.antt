@@ -4,21 +4,21 @@ use mathlib.Core.Bool.{Bool, cond}
 use mathlib.Core.List.{List, map}
 use Prim.Native.Nat.{ℕ, suc}
 use Rattle.definitions.specs.Basics.{isZero}
-use Rattle.definitions.specs.Syntax.{Name, Statement, Scope, scopeOf}
+use Rattle.definitions.specs.ContractFile.{Name, Statement, Scope, scopeOf, contractIn}
 use Rattle.definitions.specs.Original.{completes, placesAfter}
-use Rattle.definitions.specs.Ledger.{Content, Ledger, State, openedNumber, stateAfter, walkCompletes}
-use Rattle.definitions.specs.Calls.{contractOfLedger, calledFunction, callNumber, callWith, afterFailed, writtenFunction, startOfCall, honestParametersOf, honestVariablesOf, ledgerAfterCall}
+use Rattle.definitions.specs.Ledger.{Content, Ledger, State, openedNumber, stateAfter, walkCompletes, functionOfLedger, callNumber, callWith, honestParametersOf, honestVariablesOf, ledgerAfterCall}
 use Rattle.relations.specs.Acceptance.{FieldsFit}
 use Rattle.typing.proofs.WellFormed.{ledger-body-accepted, ledger-fields-fit}
 use Rattle.typing.proofs.CallEnvironment.{originalAddress, call-well-formed, honest-parameters-stand, same-addresses, call-places-stand, call-environment}
 use Rattle.simulation.proofs.Call.{HonestCall, honestEnd, honest-call}
+use Rattle.theorems.proofs.CallParts.{afterFailed, writtenFunction, startOfCall}
 
 module _ (l : Ledger) (function caller : ℕ) (arguments : List ℕ) where
   abbrev pub scopeOfCall : Scope
-  scopeOfCall = scopeOf (contractOfLedger l) function
+  scopeOfCall = scopeOf (contractIn (l .file)) function
 
   abbrev pub bodyOfCall : Statement
-  bodyOfCall = (calledFunction l function caller) .body
+  bodyOfCall = (functionOfLedger l function) .body
 
   abbrev pub openedPlaces : List ℕ
   openedPlaces = map openedNumber (l .places)
@@ -60,8 +60,8 @@ module _ (l : Ledger) (function caller : ℕ) (arguments : List ℕ) where
   ledgerOver addressOf =
       let g = writtenFunction l function caller parametersOfCall (honestVariablesOf l function caller arguments) in
       let start = startOfCall l function caller parametersOfCall (honestVariablesOf l function caller arguments) in
-      let end = stateAfter addressOf ((contractOfLedger l) .fields) parametersOfCall start (g .body) in
-      cond (walkCompletes addressOf ((contractOfLedger l) .fields) parametersOfCall (g .constraints) start (g .body))
+      let end = stateAfter addressOf ((contractIn (l .file)) .fields) parametersOfCall start (g .body) in
+      cond (walkCompletes addressOf ((contractIn (l .file)) .fields) parametersOfCall (g .constraints) start (g .body))
       (record {
         file = l .file;
         call = suc (l .call);
@@ -75,7 +75,7 @@ module _ (l : Ledger) (function caller : ℕ) (arguments : List ℕ) where
       ledgerFailed
 
   module _ (clear : callNumber l function caller arguments ≡ 0) where
-    pub fields-of-call : FieldsFit ((contractOfLedger l) .fields)
+    pub fields-of-call : FieldsFit ((contractIn (l .file)) .fields)
     fields-of-call = ledger-fields-fit l (call-well-formed l function caller arguments clear)
 
     pub honest : HonestCall scopeOfCall bodyOfCall addressOfCall (suc (l .call)) arguments openedPlaces parametersOfCall (l .places)

@@ -1,3 +1,4 @@
+pub mod CallParts
 pub mod Serials
 pub mod NewSerials
 pub mod ParameterForms

@@ -4,12 +4,13 @@ use mathlib.Core.List.{List, [], _∷_, zipWith}
 use Prim.Native.Nat.{ℕ, suc}
 use native.Mathlib.Omega.{arith}
 use Rattle.definitions.specs.Basics.{isZero}
-use Rattle.definitions.specs.Places.{Reader, anyone, only}
-use Rattle.definitions.specs.Ledger.{Content, plain, cell, Ledger, contentAt, contentFor}
-use Rattle.definitions.specs.Calls.{contractOfLedger, callNumber, calledFunction, writtenFunction, startOfCall, addressInCall, isDone, afterDone, afterFailed, callWith, deployed, honestParametersOf, honestVariablesOf, ledgerAfterCall}
-use Rattle.definitions.specs.Runs.{Request, Run, runAfter}
+use Rattle.definitions.specs.ContractFile.{contractIn}
+use Rattle.definitions.specs.Original.{Reader, anyone, only}
+use Rattle.definitions.specs.Ledger.{Content, plain, cell, Ledger, contentAt, contentFor, callNumber, functionOfLedger, callWith, deployed, honestParametersOf, honestVariablesOf, ledgerAfterCall}
+use Rattle.definitions.specs.View.{Request, Run, runAfter}
 use Rattle.theorems.specs.Claims.{SerialUpTo, SerialOf, EveryContent, SerialsUpTo, MadeSerials, runAfterAll}
 use Rattle.theorems.proofs.Serials.{every-none, every-cons, every-append, every-public, walked-state, made-parameters, made-contents, made-variables}
+use Rattle.theorems.proofs.CallParts.{writtenFunction, startOfCall, addressInCall, isDone, afterDone, afterFailed}
 
 plain-up-to : (n v : ℕ) → SerialUpTo n (plain v)
 plain-up-to n v = tt
@@ -32,10 +33,10 @@ of-up-to n contents h = record { at = λ i. one (contentAt contents i) (h .at i)
 pub made-serials : (l : Ledger) (r : Request) → MadeSerials l r
 made-serials l r =
     record {
-      parameters = made-parameters (r .caller) (suc (l .call)) 0 ((calledFunction l (r .function) (r .caller)) .parameters) (r .arguments);
+      parameters = made-parameters (r .caller) (suc (l .call)) 0 ((functionOfLedger l (r .function)) .parameters) (r .arguments);
       variables =
           every-append (SerialOf (suc (l .call))) (λ v. tt) _ _ (made-contents _ _ (suc (l .call)) (r .arguments) _ 0 _)
-          (made-variables _ _ (suc (l .call)) (r .arguments) ((calledFunction l (r .function) (r .caller)) .body) _ _ _);
+          (made-variables _ _ (suc (l .call)) (r .arguments) ((functionOfLedger l (r .function)) .body) _ _ _);
     }
 
 serials-of-deployed : (readers : List Reader) (numbers : List ℕ) → EveryContent (SerialUpTo 0) (zipWith (λ reader n. contentFor reader 0 0 n) readers numbers)
@@ -68,7 +69,7 @@ serials-after l h f c a =
     made = made-serials l (record { function = f; caller = c; arguments = a })
 
     given : EveryContent (SerialUpTo (suc (l .call))) (honestParametersOf l f c a)
-    given = of-up-to (suc (l .call)) (honestParametersOf l f c a) (made-parameters c (suc (l .call)) 0 ((calledFunction l f c) .parameters) a)
+    given = of-up-to (suc (l .call)) (honestParametersOf l f c a) (made-parameters c (suc (l .call)) 0 ((functionOfLedger l f) .parameters) a)
 
     supplied : EveryContent (SerialUpTo (suc (l .call))) (honestVariablesOf l f c a)
     supplied = of-up-to (suc (l .call)) (honestVariablesOf l f c a) ((made-serials l (record { function = f; caller = c; arguments = a })) .variables)
@@ -81,12 +82,12 @@ serials-after l h f c a =
         let parameters = honestParametersOf l f c a in
         let variables = honestVariablesOf l f c a in
         let end =
-        walked-state (SerialUpTo (suc (l .call))) (plain-up-to (suc (l .call))) (addressInCall l f c parameters variables) ((contractOfLedger l) .fields) parameters given
+        walked-state (SerialUpTo (suc (l .call))) (plain-up-to (suc (l .call))) (addressInCall l f c parameters variables) ((contractIn (l .file)) .fields) parameters given
         (startOfCall l f c parameters variables) (earlier-up-to (l .call) (l .places) (h .places)) supplied ((writtenFunction l f c parameters variables) .body) in
         record { parameters = given; variables = end .1; places = end .0 }
     go true false =
         record {
-          parameters = every-public (SerialUpTo (suc (l .call))) (plain-up-to (suc (l .call))) ((calledFunction l f c) .parameters) (honestParametersOf l f c a) given;
+          parameters = every-public (SerialUpTo (suc (l .call))) (plain-up-to (suc (l .call))) ((functionOfLedger l f) .parameters) (honestParametersOf l f c a) given;
           variables = every-none (SerialUpTo (suc (l .call))) (plain-up-to (suc (l .call)));
           places = earlier-up-to (l .call) (l .places) (h .places);
         }

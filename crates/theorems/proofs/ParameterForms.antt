@@ -5,11 +5,9 @@ use mathlib.Core.List.{List, [], _∷_, map}
 use Prim.Native.Nat.{ℕ, suc}
 use native.Mathlib.Omega.{arith}
 use lib.ListN.{length, getD}
-use Rattle.definitions.specs.Syntax.{Parameter, parameterAt}
-use Rattle.definitions.specs.DataTypes.{isOfType}
-use Rattle.definitions.specs.Places.{anyone, only}
-use Rattle.definitions.specs.Ledger.{Content, contentFor}
-use Rattle.definitions.specs.Calls.{Form, fits, allFit, parameterForm, publicOf, honestParameters}
+use Rattle.definitions.specs.ContractFile.{Parameter, parameterAt, isOfType}
+use Rattle.definitions.specs.Original.{anyone, only}
+use Rattle.definitions.specs.Ledger.{Content, contentFor, Form, fits, allFit, parameterForm, publicOf, honestParameters}
 use Rattle.typing.proofs.Forms.{stands-fits}
 
 module _ (caller call : ℕ) where

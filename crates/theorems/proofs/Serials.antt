@@ -5,13 +5,10 @@ use mathlib.Core.List.{List, [], _∷_, _++_}
 use Prim.Native.Nat.{ℕ, zero, suc, _+_}
 use lib.ListN.{length, set, replicate}
 use Rattle.definitions.specs.Basics.{isTrue}
-use Rattle.definitions.specs.Syntax.{Name, Statement, Field, Parameter, Scope}
-use Rattle.definitions.specs.Written.{BodyExpression, Command, Variable, supplied, readFrom, guard, Guard, under}
-use Rattle.definitions.specs.Rewriting.{Passage, inBody, inBranch, rewriteStatement}
-use Rattle.definitions.specs.Original.{value, placesAfter}
-use Rattle.definitions.specs.Places.{Reader, anyone, only, readerOf, position}
-use Rattle.definitions.specs.Ledger.{Content, plain, State, contentAt, contentFor, contentOf, stateAfter, plainNumber}
-use Rattle.definitions.specs.Calls.{honestContent, honestContents, honestVariables, honestParameters, publicOf}
+use Rattle.definitions.specs.ContractFile.{Name, Statement, Field, Parameter, Scope}
+use Rattle.definitions.specs.Rewriting.{BodyExpression, Command, Variable, supplied, readFrom, guard, Guard, under, Passage, inBody, inBranch, rewriteStatement}
+use Rattle.definitions.specs.Original.{value, placesAfter, Reader, anyone, only, readerOf, position}
+use Rattle.definitions.specs.Ledger.{Content, plain, State, contentAt, contentFor, contentOf, stateAfter, plainNumber, honestContent, honestContents, honestVariables, honestParameters, publicOf}
 use Rattle.theorems.specs.Claims.{SerialOf, EveryContent}
 
 -- Lists all of whose contents have P, where plain contents do.

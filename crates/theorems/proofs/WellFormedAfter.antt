@@ -8,11 +8,10 @@ use borrow.Author.Tests.{lt-ltb, le-leb}
 use lib.Dec.{leb, ltb}
 use lib.ListN.{length}
 use Rattle.definitions.specs.Basics.{isZero}
-use Rattle.definitions.specs.Syntax.{Name, meName, finalName, parameterName, Field, fieldAt, isFinal}
+use Rattle.definitions.specs.ContractFile.{Name, meName, finalName, parameterName, Field, fieldAt, isFinal, contractIn}
 use Rattle.definitions.specs.Numbers.{checkNumber}
-use Rattle.definitions.specs.Places.{finalAddress, placeReaders}
-use Rattle.definitions.specs.Ledger.{Ledger, plainNumber, openedNumber}
-use Rattle.definitions.specs.Calls.{contractOfLedger, calledFunction, lastAddress, isBeforeCalls, isAfterDone, isAfterFailed, isWellFormed, isPlainZero, fits, allFit, callNumber, ledgerAfterCall}
+use Rattle.definitions.specs.Original.{finalAddress, placeReaders}
+use Rattle.definitions.specs.Ledger.{Ledger, plainNumber, openedNumber, functionOfLedger, lastAddress, isBeforeCalls, isAfterDone, isAfterFailed, isWellFormed, isPlainZero, fits, allFit, callNumber, ledgerAfterCall}
 use Rattle.definitions.specs.Rewriting.{rewriteFunction}
 use Rattle.relations.specs.Environment.{Environment}
 use Rattle.relations.specs.Standing.{AllStand, readersOf}
@@ -39,11 +38,11 @@ module _ (l : Ledger) (function caller : ℕ) (arguments : List ℕ) (clear : ca
   accepted-file : isZero (checkNumber (l .file)) ≡ true
   accepted-file = ap isZero (ledger-accepted l (call-well-formed l function caller arguments clear))
 
-  in-limits : (ltb 0 (suc (l .call)) && leb (suc (l .call)) 65535 && ltb function (length ((contractOfLedger l) .functions)) && leb caller 15) ≡ true
+  in-limits : (ltb 0 (suc (l .call)) && leb (suc (l .call)) 65535 && ltb function (length ((contractIn (l .file)) .functions)) && leb caller 15) ≡ true
   in-limits =
       and-true-both
       (and-true-both (and-true-both (lt-ltb 0 (suc (l .call)) (omega arith)) (le-leb (suc (l .call)) 65535 (calls-left l function caller arguments clear)))
-      (lt-ltb function (length ((contractOfLedger l) .functions)) (function-exists l function caller arguments clear)))
+      (lt-ltb function (length ((contractIn (l .file)) .functions)) (function-exists l function caller arguments clear)))
       (le-leb caller 15 (below-sixteen (caller-below l function caller arguments clear)))
     where
       below-sixteen : caller < 16 → caller ≤ 15
@@ -53,19 +52,19 @@ module _ (l : Ledger) (function caller : ℕ) (arguments : List ℕ) (clear : ca
   pub failed-well-formed : isWellFormed (ledgerFailed l function caller arguments) ≡ true
   unfolding isWellFormed allFit
   failed-well-formed =
-      let ps = (calledFunction l function caller) .parameters in
+      let ps = (functionOfLedger l function) .parameters in
       let failed : isAfterFailed (ledgerFailed l function caller arguments) ≡ true =
       and-true-both (public-parameters-fit caller (suc (l .call)) 0 ps arguments (argument-count l function caller arguments clear) (argument-typed l function caller arguments clear)) refl in
       let well = call-well-formed l function caller arguments clear in
       and-true-both
       (and-true-both accepted-file
       (or-true-right (isBeforeCalls (ledgerFailed l function caller arguments)) (and-true-both in-limits (or-true-right (isAfterDone (ledgerFailed l function caller arguments)) failed))))
-      (standing-fit ((contractOfLedger l) .fields) (fields-of-call l function caller arguments clear) (l .places) (map openedNumber (l .places)) (places-stand l well) (ledger-numbers-length l well)
+      (standing-fit ((contractIn (l .file)) .fields) (fields-of-call l function caller arguments clear) (l .places) (map openedNumber (l .places)) (places-stand l well) (ledger-numbers-length l well)
       (ledger-numbers-typed l well))
 
   module _ (isComplete : completesHere l function caller arguments ≡ true) where
     abbrev fieldsHere : List Field
-    fieldsHere = (contractOfLedger l) .fields
+    fieldsHere = (contractIn (l .file)) .fields
 
     pub environment-done : Environment (scopeOfCall l function caller arguments) (addressOfCall l function caller arguments) arguments (numbersAfter l function caller arguments)
     environment-done =
@@ -109,11 +108,11 @@ module _ (l : Ledger) (function caller : ℕ) (arguments : List ℕ) (clear : ca
     pub done-well-formed : isWellFormed (ledgerDone l function caller arguments) ≡ true
     unfolding isWellFormed
     done-well-formed =
-        let ps = (calledFunction l function caller) .parameters in
+        let ps = (functionOfLedger l function) .parameters in
         let variables =
         subst
         (λ address. allFit (λ form c. isPlainZero c || fits form c)
-        (map (formOf (scopeOfCall l function caller arguments) address) ((rewriteFunction fieldsHere (calledFunction l function caller)) .variables))
+        (map (formOf (scopeOfCall l function caller arguments) address) ((rewriteFunction fieldsHere (functionOfLedger l function)) .variables))
         ((endOfHonest l function caller arguments) .variables)
         ≡ true)
         (sym address-done) (held-fit (honest l function caller arguments clear .variables isComplete)) in

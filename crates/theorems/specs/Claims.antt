@@ -4,12 +4,11 @@ use mathlib.Core.Bool.{true, cond}
 use mathlib.Core.List.{List, [], _∷_}
 use Prim.Native.Nat.{ℕ, suc, _≤_}
 use Rattle.definitions.specs.Basics.{all}
-use Rattle.definitions.specs.Places.{placeReaders}
-use Rattle.definitions.specs.Original.{originalCompletes}
-use Rattle.definitions.specs.Ledger.{Content, plain, cell, Ledger, contentAt, constraintHolds}
-use Rattle.definitions.specs.Calls.{contractIn, lastAddress, lastFunction, honestParametersOf, honestVariablesOf}
+use Rattle.definitions.specs.ContractFile.{contractIn}
+use Rattle.definitions.specs.Original.{placeReaders, originalCompletes}
+use Rattle.definitions.specs.Ledger.{Content, plain, cell, Ledger, contentAt, constraintHolds, lastAddress, functionOfLedger, honestParametersOf, honestVariablesOf}
 use Rattle.definitions.specs.Rewriting.{rewriteFunction}
-use Rattle.definitions.specs.Runs.{Request, Run, runAfter}
+use Rattle.definitions.specs.View.{Request, Run, runAfter}
 use Rattle.relations.specs.Standing.{AllStand}
 
 -- A whole list of calls, one after the other.
@@ -30,7 +29,7 @@ pub record CallFaithful (run : Run) (r : Request) : Type 0 where
   pub constraints :
       ((runAfter run r) .ledger) .outcome ≡ 0
       → all (constraintHolds (lastAddress ((runAfter run r) .ledger)) (((runAfter run r) .ledger) .variables))
-      ((rewriteFunction ((contractIn ((run .ledger) .file)) .fields) (lastFunction ((runAfter run r) .ledger))) .constraints)
+      ((rewriteFunction ((contractIn ((run .ledger) .file)) .fields) (functionOfLedger ((runAfter run r) .ledger) (((runAfter run r) .ledger) .function))) .constraints)
       ≡ true
 
 -- Every cell among the contents has a serial whose call is at most, or is, a number.

@@ -8,8 +8,7 @@ use borrow.Author.Tests.{leb-false, lt-ltb}
 use lib.Dec.{leb, ltb}
 use lib.ListN.{length}
 use Rattle.definitions.specs.Basics.{all, any, anyNumbered}
-use Rattle.definitions.specs.ContractFile.{NodeRecord, Sections, fieldOf}
-use Rattle.definitions.specs.Nodes.{nodeOf, nodeAt, children, fieldsNamed, expressionParts, statementParts}
+use Rattle.definitions.specs.ContractFile.{NodeRecord, Sections, fieldOf, nodeOf, nodeAt, children, fieldsNamed, expressionParts, statementParts}
 use Rattle.definitions.specs.Numbers.{namesNothing, fieldOfDeclaredOwner}
 use Rattle.trees.specs.Trees.{Falling}
 use Rattle.trees.proofs.Unfolding.{nodes-read}

@@ -1,8 +1,7 @@
 -- What every node keeps of its children's trees holds of every tree that nodes make.
 use mathlib.Core.List.{List}
 use Prim.Native.Nat.{ℕ, zero, suc}
-use Rattle.definitions.specs.Syntax.{Expression, Statement}
-use Rattle.definitions.specs.Nodes.{Node, unknownNode, nodeAt, expressionOf, expressionAt, statementOf, statementAt}
+use Rattle.definitions.specs.ContractFile.{Expression, Statement, Node, unknownNode, nodeAt, expressionOf, expressionAt, statementOf, statementAt}
 use Rattle.trees.specs.Trees.{Keeps}
 
 module _ (P : Expression → Type 0) (Q : Statement → Type 0) (leaf : P Expression.me) (nothing : Q Statement.skip) where

@@ -6,9 +6,7 @@ use Prim.Native.Nat.{ℕ, zero, suc, _<_}
 use native.Mathlib.Omega.{arith}
 use lib.Dec.{ltb, ltb→lt}
 use Rattle.definitions.specs.Basics.{all}
-use Rattle.definitions.specs.Syntax.{Expression, Statement}
-use Rattle.definitions.specs.ContractFile.{NodeRecord, node, ownerOfCode, operatorOf}
-use Rattle.definitions.specs.Nodes.{Kind, constantKind, meKind, fieldKind, entryKind, parameterKind, operatorKind, negationKind, revealKind, skipKind, sequenceKind, assignFieldKind, assignEntryKind, requireKind, conditionalKind, noKind, kindOf, Node, nodeOfKind, nodeOf, nodeAt, expressionParts, statementParts, children, expressionOf, expressionAt, statementOf, statementAt}
+use Rattle.definitions.specs.ContractFile.{Expression, Statement, NodeRecord, node, ownerOfCode, operatorOf, Kind, constantKind, meKind, fieldKind, entryKind, parameterKind, operatorKind, negationKind, revealKind, skipKind, sequenceKind, assignFieldKind, assignEntryKind, requireKind, conditionalKind, noKind, kindOf, Node, nodeOfKind, nodeOf, nodeAt, expressionParts, statementParts, children, expressionOf, expressionAt, statementOf, statementAt}
 use Rattle.trees.specs.Trees.{expressionIn, statementIn, IsRead, Falling}
 
 below-is : (m n : ℕ) → ltb m n ≡ true → m < n

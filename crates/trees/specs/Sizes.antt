@@ -1,6 +1,6 @@
 -- How many nodes a tree has.
 use Prim.Native.Nat.{ℕ, _+_}
-use Rattle.definitions.specs.Syntax.{Expression, Statement}
+use Rattle.definitions.specs.ContractFile.{Expression, Statement}
 
 unfoldable pub expressionSize : Expression → ℕ
 expressionSize (Expression.constant t v) = 1

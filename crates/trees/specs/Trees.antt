@@ -5,9 +5,7 @@ use mathlib.Core.List.{List}
 use Prim.Native.Nat.{ℕ, suc}
 use lib.Dec.{ltb}
 use Rattle.definitions.specs.Basics.{all}
-use Rattle.definitions.specs.Syntax.{Expression, Statement}
-use Rattle.definitions.specs.ContractFile.{NodeRecord}
-use Rattle.definitions.specs.Nodes.{Node, nodeOf, nodeAt, children, expressionOf, expressionAt, statementOf, statementAt}
+use Rattle.definitions.specs.ContractFile.{Expression, Statement, NodeRecord, Node, nodeOf, nodeAt, children, expressionOf, expressionAt, statementOf, statementAt}
 
 abbrev pub expressionIn : List Node → ℕ → Expression
 expressionIn nodes n = expressionAt (suc n) nodes n

@@ -1,12 +1,10 @@
 -- The type of an expression by its kind, and of fields, parameters and operators by their codes.
 use mathlib.Core.Path.{_≡_, refl, ap, sym, _∙_}
-use mathlib.Core.List.{List}
+use mathlib.Core.List.{List, [], _∷_}
 use Prim.Native.Nat.{ℕ, zero, suc, _+_, _*_, _<_, _≤_}
 use native.Mathlib.Omega.{arith}
 use lib.ListN.{List·getD-eq-default}
-use Rattle.definitions.specs.Syntax.{DataType, boolean, address, Owner, Operator, plus, Expression, Scope, Field, Parameter, fieldAt, parameterAt}
-use Rattle.definitions.specs.ContractFile.{byteAt, fieldCount, dataTypeOf, fieldOf, parameterOf, operators, operatorOf}
-use Rattle.definitions.specs.DataTypes.{resultType, typeOf}
+use Rattle.definitions.specs.ContractFile.{DataType, boolean, address, Owner, Operator, plus, minus, times, divide, remainder, less, lessOrEqual, equal, unequal, conjunction, disjunction, Expression, Scope, Field, Parameter, fieldAt, parameterAt, byteAt, fieldCount, dataTypeOf, fieldOf, parameterOf, operatorOf, resultType, typeOf}
 use Rattle.context.specs.Context.{fieldsIn, parametersIn}
 use Rattle.context.proofs.Declarations.{field-declared, field-missing, parameter-declared, parameter-missing}
 
@@ -34,7 +32,7 @@ bool-operator (suc (suc (suc (suc (suc (suc (suc (suc (suc (suc (suc n))))))))))
 
 -- A code above the table reads as plus.
 pub other-operator : (code : ℕ) → 11 ≤ code → dataTypeOf 1 ≡ resultType (operatorOf code)
-other-operator code h = ap (λ (o : Operator). resultType o) (sym (List·getD-eq-default operators plus h))
+other-operator code h = ap (λ (o : Operator). resultType o) (sym (List·getD-eq-default (plus ∷ minus ∷ times ∷ divide ∷ remainder ∷ less ∷ lessOrEqual ∷ equal ∷ unequal ∷ conjunction ∷ disjunction ∷ []) plus h))
 
 module _ (file : List ℕ) (f r : ℕ) where
   pub field-typed : f < fieldCount file → r ≡ byteAt file (1 + 3 * f + 1) → dataTypeOf r ≡ (fieldAt (fieldsIn file) f) .type

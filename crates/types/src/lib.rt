@@ -3,9 +3,7 @@ use file::byte_at;
 use file::node_at;
 ghost use mathlib.Core.Path.{_≡_};
 ghost use Prim.Native.Nat.{_<_, _≤_};
-ghost use Rattle.definitions.specs.Syntax.{fieldAt, parameterAt};
-ghost use Rattle.definitions.specs.ContractFile.{byteAt, fieldCount, nodeCount, dataTypeOf, operatorOf};
-ghost use Rattle.definitions.specs.DataTypes.{resultType, typeOf};
+ghost use Rattle.definitions.specs.ContractFile.{fieldAt, parameterAt, byteAt, fieldCount, nodeCount, dataTypeOf, operatorOf, resultType, typeOf};
 ghost use Rattle.trees.specs.Trees.{expressionIn};
 ghost use Rattle.context.specs.Context.{Context, nodesIn, fieldsIn, parametersIn, scopeIn};
 

@@ -5,11 +5,8 @@ use mathlib.Core.List.{List, [], _∷_, map}
 use Prim.Native.Nat.{ℕ, zero, suc}
 use lib.ListN.{getD}
 use Rattle.definitions.specs.Basics.{any, flatMap}
-use Rattle.definitions.specs.Syntax.{toFinal, skip, Field, Contract, fieldAt, functionAt, scopeOf, isFinal}
-use Rattle.definitions.specs.ContractFile.{FunctionRecord, sectionsOf, fieldOf}
-use Rattle.definitions.specs.Nodes.{Node, nodeOf, functionOf, contractOf}
+use Rattle.definitions.specs.ContractFile.{toFinal, skip, Field, Contract, fieldAt, functionAt, scopeOf, isFinal, FunctionRecord, sectionsOf, fieldOf, Node, nodeOf, functionOf, contractOf, contractIn}
 use Rattle.definitions.specs.Numbers.{fault, fieldInTables, parameterInTables, nodeInTables, outsideTables, statementFaults, fieldOfDeclaredOwner, fieldFaults, functionFaults, contractFaults, checkNumber}
-use Rattle.definitions.specs.Calls.{contractIn}
 use Rattle.relations.specs.Acceptance.{FieldsFit, AcceptedBody, constantsFitIn}
 use Rattle.typing.proofs.Basics.{append-left-empty, append-right-empty, or-left-false, or-right-false, fault-none-not}
 use Rattle.typing.proofs.Places.{noField}

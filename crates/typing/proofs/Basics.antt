@@ -5,8 +5,7 @@ use mathlib.Core.List.{List, [], _∷_, _++_}
 use Prim.Native.Nat.{ℕ, _<_}
 use native.Mathlib.Omega.{arith}
 use borrow.Author.Tests.{ltb-true}
-use Rattle.definitions.specs.Syntax.{address}
-use Rattle.definitions.specs.DataTypes.{isOfType}
+use Rattle.definitions.specs.ContractFile.{address, isOfType}
 use Rattle.definitions.specs.Numbers.{fault}
 
 pub and-left : (a b : Bool) → (a && b) ≡ true → a ≡ true

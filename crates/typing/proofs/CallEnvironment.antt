@@ -8,12 +8,10 @@ use borrow.Author.Tests.{ltb-false, leb-false, lt-ltb, eqb-true}
 use lib.Dec.{eqb, leb, ltb}
 use lib.ListN.{length, getD}
 use Rattle.definitions.specs.Basics.{any}
-use Rattle.definitions.specs.Syntax.{address, Name, meName, finalName, parameterName, everyone, ownedBy, Parameter, fieldAt, parameterAt, scopeOf, sameType, isFinal}
+use Rattle.definitions.specs.ContractFile.{address, Name, meName, finalName, parameterName, everyone, ownedBy, Parameter, fieldAt, parameterAt, scopeOf, sameType, isFinal, isOfType, contractIn}
 use Rattle.definitions.specs.Owners.{isPublicAddress, parameterOwner}
-use Rattle.definitions.specs.DataTypes.{isOfType}
-use Rattle.definitions.specs.Places.{addressIn, finalAddress, anyone, only, readerOf, placeReaders}
-use Rattle.definitions.specs.Ledger.{Ledger, plainNumber, openedNumber, contentFor, contentAt}
-use Rattle.definitions.specs.Calls.{contractOfLedger, plainPlaces, isWellFormed, notCallable, argumentsOff, calledFunction, callNumber, honestParameters, honestParametersOf}
+use Rattle.definitions.specs.Original.{addressIn, finalAddress, anyone, only, readerOf, placeReaders}
+use Rattle.definitions.specs.Ledger.{Ledger, plainNumber, openedNumber, contentFor, contentAt, isWellFormed, notCallable, argumentsOff, functionOfLedger, callNumber, honestParameters, honestParametersOf}
 use Rattle.relations.specs.Environment.{Environment}
 use Rattle.relations.specs.Standing.{Stands, AllStand, readersOf}
 use Rattle.typing.proofs.Basics.{and-right, or-left-false, or-right-false, not-false-true, not-true-false}
@@ -62,15 +60,15 @@ parameter-length (p ∷ ps) (suc k) h = let r : k < length ps = parameter-length
 
 -- The address of each name as the original has it, and as the walk of the honest call has it.
 abbrev pub originalAddress : Ledger → ℕ → ℕ → List ℕ → Name → ℕ
-originalAddress l function caller arguments = addressIn (scopeOf (contractOfLedger l) function) caller arguments (map openedNumber (l .places))
+originalAddress l function caller arguments = addressIn (scopeOf (contractIn (l .file)) function) caller arguments (map openedNumber (l .places))
 
 abbrev pub walkAddress : Ledger → ℕ → ℕ → List ℕ → Name → ℕ
 walkAddress l function caller arguments =
-    addressIn (scopeOf (contractOfLedger l) function) caller (map plainNumber (honestParametersOf l function caller arguments)) (plainPlaces l)
+    addressIn (scopeOf (contractIn (l .file)) function) caller (map plainNumber (honestParametersOf l function caller arguments)) (map plainNumber (l .places))
 
 module _ (l : Ledger) (function caller : ℕ) (arguments : List ℕ) (clear : callNumber l function caller arguments ≡ 0) where
   abbrev parameters : List Parameter
-  parameters = (calledFunction l function caller) .parameters
+  parameters = (functionOfLedger l function) .parameters
 
   no-sentence-of-call : (j : ℕ) → getD (notCallable l function caller ∷ argumentsOff l function caller arguments ∷ leb 65535 (l .call) ∷ []) j false ≡ false
   unfolding callNumber
@@ -79,7 +77,7 @@ module _ (l : Ledger) (function caller : ℕ) (arguments : List ℕ) (clear : ca
   pub calls-left : l .call < 65535
   calls-left = leb-false 65535 (l .call) (no-sentence-of-call 2)
 
-  callable : (not (isWellFormed l) || ltb 15 caller || leb (length ((contractOfLedger l) .functions)) function) ≡ false
+  callable : (not (isWellFormed l) || ltb 15 caller || leb (length ((contractIn (l .file)) .functions)) function) ≡ false
   unfolding notCallable
   callable = no-sentence-of-call 0
 
@@ -87,20 +85,20 @@ module _ (l : Ledger) (function caller : ℕ) (arguments : List ℕ) (clear : ca
   call-well-formed =
       not-false-true (isWellFormed l)
       (or-left-false (not (isWellFormed l)) (ltb 15 caller)
-      (or-left-false (not (isWellFormed l) || ltb 15 caller) (leb (length ((contractOfLedger l) .functions)) function) callable))
+      (or-left-false (not (isWellFormed l) || ltb 15 caller) (leb (length ((contractIn (l .file)) .functions)) function) callable))
 
   pub caller-below : caller < 16
   caller-below =
       let b : caller ≤ 15 =
       ltb-false 15 caller
       (or-right-false (not (isWellFormed l)) (ltb 15 caller)
-      (or-left-false (not (isWellFormed l) || ltb 15 caller) (leb (length ((contractOfLedger l) .functions)) function) callable)) in
+      (or-left-false (not (isWellFormed l) || ltb 15 caller) (leb (length ((contractIn (l .file)) .functions)) function) callable)) in
       omega arith
 
-  pub function-exists : function < length ((contractOfLedger l) .functions)
+  pub function-exists : function < length ((contractIn (l .file)) .functions)
   function-exists =
-      leb-false (length ((contractOfLedger l) .functions)) function
-      (or-right-false (not (isWellFormed l) || ltb 15 caller) (leb (length ((contractOfLedger l) .functions)) function) callable)
+      leb-false (length ((contractIn (l .file)) .functions)) function
+      (or-right-false (not (isWellFormed l) || ltb 15 caller) (leb (length ((contractIn (l .file)) .functions)) function) callable)
 
   abbrev countOff : Bool
   countOff = not (eqb (length arguments) (length parameters))
@@ -112,15 +110,15 @@ module _ (l : Ledger) (function caller : ℕ) (arguments : List ℕ) (clear : ca
   unfolding argumentsOff
   arguments-fit = no-sentence-of-call 1
 
-  pub argument-count : length arguments ≡ length ((calledFunction l function caller) .parameters)
+  pub argument-count : length arguments ≡ length ((functionOfLedger l function) .parameters)
   argument-count = eqb-true (length arguments) (length parameters) (not-false-true (eqb (length arguments) (length parameters)) (or-left-false countOff typesOff arguments-fit))
 
-  pub argument-typed : (k : ℕ) → isOfType ((parameterAt ((calledFunction l function caller) .parameters) k) .type) (getD arguments k 0) ≡ true
+  pub argument-typed : (k : ℕ) → isOfType ((parameterAt ((functionOfLedger l function) .parameters) k) .type) (getD arguments k 0) ≡ true
   argument-typed = arguments-typed parameters arguments argument-count (or-right-false countOff typesOff arguments-fit)
 
   -- The parameters that the honest call has stand for the arguments.
-  pub honest-parameters-stand : (addressOf : Name → ℕ) → addressOf meName ≡ caller → (k : ℕ) → k < length ((calledFunction l function caller) .parameters)
-      → Stands (readerOf addressOf (parameterOwner (parameterAt ((calledFunction l function caller) .parameters) k)))
+  pub honest-parameters-stand : (addressOf : Name → ℕ) → addressOf meName ≡ caller → (k : ℕ) → k < length ((functionOfLedger l function) .parameters)
+      → Stands (readerOf addressOf (parameterOwner (parameterAt ((functionOfLedger l function) .parameters) k)))
       (contentAt (honestParametersOf l function caller arguments) k) (getD arguments k 0)
   honest-parameters-stand addressOf me k h =
       record {
@@ -141,11 +139,11 @@ module _ (l : Ledger) (function caller : ℕ) (arguments : List ℕ) (clear : ca
   -- Both have the same address for each name.
   pub same-address : (n : Name) → walkAddress l function caller arguments n ≡ originalAddress l function caller arguments n
   same-address meName = refl
-  same-address (finalName f) = go (isFinal ((fieldAt ((contractOfLedger l) .fields) f) .shape)) refl
+  same-address (finalName f) = go (isFinal ((fieldAt ((contractIn (l .file)) .fields) f) .shape)) refl
     where
-      go : (b : Bool) → isFinal ((fieldAt ((contractOfLedger l) .fields) f) .shape) ≡ b
-          → cond b (finalAddress ((contractOfLedger l) .fields) (map plainNumber (l .places)) f) 0
-          ≡ cond b (finalAddress ((contractOfLedger l) .fields) (map openedNumber (l .places)) f) 0
+      go : (b : Bool) → isFinal ((fieldAt ((contractIn (l .file)) .fields) f) .shape) ≡ b
+          → cond b (finalAddress ((contractIn (l .file)) .fields) (map plainNumber (l .places)) f) 0
+          ≡ cond b (finalAddress ((contractIn (l .file)) .fields) (map openedNumber (l .places)) f) 0
       go true e = ledger-final l call-well-formed f e
       go false e = refl
   same-address (parameterName k) = go ((parameterAt parameters k) .private) refl
@@ -159,11 +157,11 @@ module _ (l : Ledger) (function caller : ℕ) (arguments : List ℕ) (clear : ca
   same-addresses = fun-ext same-address
 
   -- The readers that the call has for the places are those that the ledger's numbers give.
-  pub call-readers : readersOf (originalAddress l function caller arguments) ((contractOfLedger l) .fields) ≡ placeReaders ((contractOfLedger l) .fields) (map openedNumber (l .places))
+  pub call-readers : readersOf (originalAddress l function caller arguments) ((contractIn (l .file)) .fields) ≡ placeReaders ((contractIn (l .file)) .fields) (map openedNumber (l .places))
   call-readers =
-      readers-in-call (scopeOf (contractOfLedger l) function) (ledger-fields-fit l call-well-formed) caller arguments (map openedNumber (l .places))
+      readers-in-call (scopeOf (contractIn (l .file)) function) (ledger-fields-fit l call-well-formed) caller arguments (map openedNumber (l .places))
 
-  pub call-places-stand : AllStand (readersOf (originalAddress l function caller arguments) ((contractOfLedger l) .fields)) (l .places) (map openedNumber (l .places))
+  pub call-places-stand : AllStand (readersOf (originalAddress l function caller arguments) ((contractIn (l .file)) .fields)) (l .places) (map openedNumber (l .places))
   call-places-stand = subst (λ readers. AllStand readers (l .places) (map openedNumber (l .places))) (sym call-readers) (places-stand l call-well-formed)
 
   -- An argument at a public address parameter is the name's address.
@@ -173,11 +171,11 @@ module _ (l : Ledger) (function caller : ℕ) (arguments : List ℕ) (clear : ca
       not-true-false ((parameterAt parameters k) .private) (and-right (sameType ((parameterAt parameters k) .type) address) (not ((parameterAt parameters k) .private)) h) in
       ap (λ b. cond b 0 (getD arguments k 0)) (sym open-to-all)
 
-  pub call-environment : Environment (scopeOf (contractOfLedger l) function) (originalAddress l function caller arguments) arguments (map openedNumber (l .places))
+  pub call-environment : Environment (scopeOf (contractIn (l .file)) function) (originalAddress l function caller arguments) arguments (map openedNumber (l .places))
   call-environment =
       record {
         caller = lt-ltb caller 16 caller-below;
-        finals = λ f final. ap (λ b. cond b (finalAddress ((contractOfLedger l) .fields) (map openedNumber (l .places)) f) 0) (sym final);
+        finals = λ f final. ap (λ b. cond b (finalAddress ((contractIn (l .file)) .fields) (map openedNumber (l .places)) f) 0) (sym final);
         parameters = public-argument;
         arguments = argument-typed;
         places = ledger-numbers-typed l call-well-formed;

@@ -5,11 +5,9 @@ use mathlib.Core.List.{List, [], _∷_, _++_, map, zipWith}
 use Prim.Native.Nat.{ℕ, suc}
 use lib.ListN.{length, getD, length-map}
 use lib.Seq.{ext-getD}
-use Rattle.definitions.specs.Syntax.{boolean, FieldOwner, toEveryone, toKey, toFinal, finalName, Field, Scope, fieldAt, isFinal}
-use Rattle.definitions.specs.DataTypes.{isOfType}
-use Rattle.definitions.specs.Places.{numbersFrom, placeCount, perPlace, position, finalAddress, addressIn, Reader, anyone, only, placeReader, placeReaders}
-use Rattle.definitions.specs.Ledger.{Content, plainNumber, openedNumber, contentAt}
-use Rattle.definitions.specs.Calls.{Form, fits, allFit}
+use Rattle.definitions.specs.ContractFile.{boolean, FieldOwner, toEveryone, toKey, toFinal, finalName, Field, Scope, fieldAt, isFinal, isOfType}
+use Rattle.definitions.specs.Original.{numbersFrom, placeCount, perPlace, position, finalAddress, addressIn, Reader, anyone, only, placeReader, placeReaders}
+use Rattle.definitions.specs.Ledger.{Content, plainNumber, openedNumber, contentAt, Form, fits, allFit}
 use Rattle.relations.specs.Environment.{placeTypes}
 use Rattle.relations.specs.Acceptance.{FieldsFit}
 use Rattle.relations.specs.Standing.{Stands, AllStand, readersOf}

@@ -1,7 +1,7 @@
 -- A deployed ledger is well formed, and its contents stand for the deployed numbers, which are typed.
 use mathlib.Core.Path.{_≡_, refl, ap, ap₂, sym, _∙_, subst}
 use mathlib.Core.Bool.{Bool, true, false, _&&_, cond, not, false≢true}
-use mathlib.Core.List.{List, [], _∷_, _++_, map}
+use mathlib.Core.List.{List, [], _∷_, _++_, map, zipWith}
 use Prim.Native.Nat.{ℕ, zero, suc, _+_, _<_, _≤_}
 use native.Mathlib.Omega.{arith}
 use borrow.Author.Tests.{ltb-false, lt-ltb, eq-eqb}
@@ -9,12 +9,10 @@ use lib.Dec.{eqb, ltb}
 use lib.ListN.{length, getD, drop, replicate, length-append, length-replicate}
 use lib.Seq.{getD-drop}
 use Rattle.definitions.specs.Basics.{any, countIf, firstThatHolds}
-use Rattle.definitions.specs.Syntax.{DataType, boolean, uint, address, Shape, plainField, finalField, mapping, Field, fieldAt, isFinal, isMapping}
-use Rattle.definitions.specs.DataTypes.{isOfType}
+use Rattle.definitions.specs.ContractFile.{DataType, boolean, uint, address, Shape, plainField, finalField, mapping, Field, fieldAt, isFinal, isMapping, isOfType, contractIn}
 use Rattle.definitions.specs.Numbers.{checkNumber, orElse}
-use Rattle.definitions.specs.Places.{numbersFrom, placeCount, perPlace, finalAddress, Reader, anyone, placeReader, placeReaders, deployedNumbers}
-use Rattle.definitions.specs.Ledger.{Content, plainNumber, contentFor}
-use Rattle.definitions.specs.Calls.{contractIn, finalsOff, deployNumber, deployedPlaces, deployed, fits, allFit, isWellFormed}
+use Rattle.definitions.specs.Original.{numbersFrom, placeCount, perPlace, finalAddress, Reader, anyone, placeReader, placeReaders, deployedNumbers}
+use Rattle.definitions.specs.Ledger.{Content, plainNumber, contentFor, finalsOff, deployNumber, deployed, fits, allFit, isWellFormed}
 use Rattle.relations.specs.Environment.{placeTypes}
 use Rattle.relations.specs.Acceptance.{FieldsFit}
 use Rattle.relations.specs.Standing.{AllStand}
@@ -116,6 +114,10 @@ deployed-typed (d ∷ ds) finals addresses below =
     (typed-append (map (λ key. d .type) (numbersFrom 0 (placeCount d))) (placeTypes ds) (placesOfField d addresses) (deployedNumbers ds (addressesLeft d addresses))
     (length-field-places (λ d _. d .type) d ∙ sym (length-of-field d addresses)) (field-typed d addresses (finals 0) (below 0))
     (deployed-typed ds (λ f. finals (suc f)) (addressesLeft d addresses) (left-below d addresses below)))
+
+-- The contents of the places at deployment.
+abbrev pub deployedPlaces : List Field → List ℕ → List Content
+deployedPlaces fields addresses = let numbers = deployedNumbers fields addresses in zipWith (λ reader n. contentFor reader 0 0 n) (placeReaders fields numbers) numbers
 
 -- The deployed contents stand for the deployed numbers.
 pub deployed-stand : (fields : List Field) (addresses : List ℕ)

@@ -8,12 +8,10 @@ use lib.Dec.{eqb, ltb}
 use lib.ListN.{length, getD, set, length-set}
 use lib.Seq.{getD-set-same, getD-set-other, set-out}
 use Rattle.definitions.specs.Basics.{isTrue}
-use Rattle.definitions.specs.Syntax.{boolean, Name, Statement, skip, sequence, assignField, assignEntry, require, conditional, Scope, fieldAt, isFinal}
+use Rattle.definitions.specs.ContractFile.{boolean, Name, Statement, skip, sequence, assignField, assignEntry, require, conditional, Scope, fieldAt, isFinal, isOfType}
 use Rattle.definitions.specs.Owners.{Links, linksAfter}
-use Rattle.definitions.specs.DataTypes.{isOfType}
 use Rattle.definitions.specs.Numbers.{statementFaults}
-use Rattle.definitions.specs.Places.{placeCount, position}
-use Rattle.definitions.specs.Original.{value, placesAfter}
+use Rattle.definitions.specs.Original.{placeCount, position, value, placesAfter}
 use Rattle.relations.specs.Environment.{Environment, placeTypes}
 use Rattle.relations.specs.Acceptance.{constantsFit, constantsFitIn}
 use Rattle.typing.proofs.Basics.{and-left, and-right}

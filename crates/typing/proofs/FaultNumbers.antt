@@ -7,10 +7,9 @@ use Prim.Native.Nat.{ℕ, suc}
 use borrow.Author.Tests.{eqb-true, eq-eqb}
 use lib.Dec.{eqb, leb}
 use lib.ListN.{length, getD}
-use Rattle.definitions.specs.Basics.{any, flatMap}
-use Rattle.definitions.specs.Syntax.{DataType, boolean, address, Owner, Expression, constant, me, field, entry, parameter, operator, negation, reveal, Statement, skip, sequence, assignField, assignEntry, require, conditional, Field, Contract, Scope, fieldAt, sameType, isPlainField, isFinal, isMapping, isDivision}
+use Rattle.definitions.specs.Basics.{any, flatMap, isZero}
+use Rattle.definitions.specs.ContractFile.{DataType, boolean, address, Owner, Expression, constant, me, field, entry, parameter, operator, negation, reveal, Statement, skip, sequence, assignField, assignEntry, require, conditional, Field, Contract, Scope, fieldAt, sameType, shapeCode, isFinal, isMapping, isDivision, operandsFit, typeOf}
 use Rattle.definitions.specs.Owners.{Links, noLinks, isReader, placeOwner, nameOf, ownerOf, isPublic, linksAfter}
-use Rattle.definitions.specs.DataTypes.{operandsFit, typeOf}
 use Rattle.definitions.specs.Numbers.{fault, mayBePut, isTagged, isNone, ownerFits, entryFaults, readFault, expressionFaults, conditionFaults, valueFaults, statementFaults, fieldOfDeclaredOwner, fieldFaults, functionFaults, contractFaults, contractSentences}
 use Rattle.typing.proofs.Basics.{or-left-false, contradiction}
 
@@ -112,7 +111,7 @@ module _ (scope : Scope) where
   known-statement linked skip = nothing
   known-statement linked (sequence first second) = both (known-statement linked first) (known-statement (linksAfter scope first linked) second)
   known-statement linked (assignField f e) =
-      both (eight (not (isPlainField ((at f) .shape)))) (known-value linked f (placeOwner ((at f) .owner) none) e)
+      both (eight (not (isZero (shapeCode ((at f) .shape))))) (known-value linked f (placeOwner ((at f) .owner) none) e)
   known-statement linked (assignEntry f key e) =
       both (both (known-expression linked key) (known-entry f key)) (known-value linked f (placeOwner ((at f) .owner) (nameOf scope key)) e)
   known-statement linked (require condition) = known-condition linked condition

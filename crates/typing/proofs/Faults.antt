@@ -7,11 +7,11 @@ use Prim.Native.Nat.{ℕ, _<_}
 use lib.Dec.{leb}
 use lib.ListN.{length}
 use borrow.Author.Tests.{leb-false}
-use Rattle.definitions.specs.Syntax.{DataType, boolean, uint, address, Owner, Operator, Expression, field, entry, parameter, operator, negation, reveal, Statement, sequence, assignField, assignEntry, require, conditional, Scope, fieldAt, sameType, isPlainField, isMapping, isDivision}
+use Rattle.definitions.specs.ContractFile.{DataType, boolean, uint, address, Owner, Operator, Expression, field, entry, parameter, operator, negation, reveal, Statement, sequence, assignField, assignEntry, require, conditional, Scope, fieldAt, sameType, shapeCode, isMapping, isDivision, operandsFit, typeOf}
 use Rattle.definitions.specs.Owners.{Links, isReader, placeOwner, nameOf, ownerOf, isPublic, linksAfter}
-use Rattle.definitions.specs.DataTypes.{operandsFit, typeOf}
 use Rattle.definitions.specs.Numbers.{fault, mayBePut, isTagged, isNone, ownerFits, entryFaults, readFault, expressionFaults, conditionFaults, valueFaults, statementFaults}
 use Rattle.typing.proofs.Basics.{and-right-false, or-left-false, or-right-false, not-false-true, two-empty, three-empty, four-empty, fault-none, fault-none-not}
+use Rattle.definitions.specs.Basics.{isZero}
 
 pub same-type : (a b : DataType) → sameType a b ≡ true → a ≡ b
 same-type boolean boolean h = refl
@@ -189,15 +189,15 @@ module _ (scope : Scope) where
         record { firstFaults = empty .0; secondFaults = empty .1 }
 
     pub record AssignFieldFits (f : ℕ) (value : Expression) : Type 0 where
-      pub shape : isPlainField ((fieldAt (scope .fields) f) .shape) ≡ true
+      pub shape : isZero (shapeCode ((fieldAt (scope .fields) f) .shape)) ≡ true
       pub valueFit : ValueFits f (placeOwner ((fieldAt (scope .fields) f) .owner) none) value
 
     pub assign-field-fits : (f : ℕ) (value : Expression) → statementFaults scope linked (assignField f value) ≡ [] → AssignFieldFits f value
     unfolding statementFaults
     assign-field-fits f value h =
         let place : Owner = placeOwner ((fieldAt (scope .fields) f) .owner) none in
-        let empty = two-empty (fault (not (isPlainField ((fieldAt (scope .fields) f) .shape))) 8) (valueFaults scope linked f place value) h in
-        record { shape = fault-none-not (isPlainField ((fieldAt (scope .fields) f) .shape)) 8 (empty .0); valueFit = value-fits f place value (empty .1) }
+        let empty = two-empty (fault (not (isZero (shapeCode ((fieldAt (scope .fields) f) .shape)))) 8) (valueFaults scope linked f place value) h in
+        record { shape = fault-none-not (isZero (shapeCode ((fieldAt (scope .fields) f) .shape))) 8 (empty .0); valueFit = value-fits f place value (empty .1) }
 
     pub record AssignEntryFits (f : ℕ) (key value : Expression) : Type 0 where
       pub keyFaults : expressionFaults scope linked key ≡ []

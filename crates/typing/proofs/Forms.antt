@@ -7,11 +7,9 @@ use native.Mathlib.Omega.{arith}
 use borrow.Author.Tests.{eqb-true, eq-eqb}
 use lib.Dec.{eqb}
 use lib.ListN.{length, getD, List·getD-map}
-use Rattle.definitions.specs.Syntax.{DataType, boolean}
-use Rattle.definitions.specs.DataTypes.{isOfType}
-use Rattle.definitions.specs.Places.{Reader, anyone, only}
-use Rattle.definitions.specs.Ledger.{Content, plain, cell, plainNumber, openedNumber, contentAt}
-use Rattle.definitions.specs.Calls.{Form, fits, allFit}
+use Rattle.definitions.specs.ContractFile.{DataType, boolean, isOfType}
+use Rattle.definitions.specs.Original.{Reader, anyone, only}
+use Rattle.definitions.specs.Ledger.{Content, plain, cell, plainNumber, openedNumber, contentAt, Form, fits, allFit}
 use Rattle.relations.specs.Standing.{Stands}
 use Rattle.typing.proofs.Basics.{and-left, and-right, and-both}
 

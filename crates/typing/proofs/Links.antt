@@ -6,7 +6,7 @@ use mathlib.Core.Option.{Option, none, some}
 use Prim.Native.Nat.{ℕ}
 use lib.Dec.{eqb}
 use Rattle.definitions.specs.Basics.{bit, isTrue}
-use Rattle.definitions.specs.Syntax.{Name, meName, finalName, parameterName, sameName, plus, minus, times, divide, remainder, less, lessOrEqual, equal, unequal, conjunction, disjunction, Expression, constant, me, field, entry, parameter, operator, negation, reveal, Scope}
+use Rattle.definitions.specs.ContractFile.{Name, meName, finalName, parameterName, sameName, plus, minus, times, divide, remainder, less, lessOrEqual, equal, unequal, conjunction, disjunction, Expression, constant, me, field, entry, parameter, operator, negation, reveal, Scope}
 use Rattle.definitions.specs.Owners.{Links, noLinks, withLink, withLinkOf, nameOf, linksOfCondition}
 use Rattle.definitions.specs.Original.{value}
 use Rattle.relations.specs.Environment.{Environment}

@@ -6,8 +6,9 @@ use Prim.Native.Nat.{ℕ, zero, suc, _+_, _<_}
 use native.Mathlib.Omega.{arith}
 use lib.ListN.{length, getD, length-append, length-map, List·getD-append}
 use lib.Seq.{getD-append-add}
-use Rattle.definitions.specs.Syntax.{boolean, Shape, plainField, finalField, mapping, toEveryone, Field, fieldAt, isPlainField, isFinal, isMapping}
-use Rattle.definitions.specs.Places.{numbersFrom, placeCount, perPlace, position}
+use Rattle.definitions.specs.ContractFile.{boolean, Shape, plainField, finalField, mapping, toEveryone, Field, fieldAt, shapeCode, isFinal, isMapping}
+use Rattle.definitions.specs.Original.{numbersFrom, placeCount, perPlace, position}
+use Rattle.definitions.specs.Basics.{isZero}
 
 -- The field that a number past the last one reads as.
 abbrev pub noField : Field
@@ -72,7 +73,7 @@ final-place-apart fields f g key p q h e =
     true≢false (sym p ∙ (sym (at-place ask fields f 0 (first-place (fieldAt fields f)))
     ∙ (ap (λ n. getD (perPlace ask fields) n false) e ∙ (at-place ask fields g key h ∙ q))))
 
-pub plain-not-final : (s : Shape) → isPlainField s ≡ true → isFinal s ≡ false
+pub plain-not-final : (s : Shape) → isZero (shapeCode s) ≡ true → isFinal s ≡ false
 plain-not-final plainField h = refl
 plain-not-final finalField h = absurd (false≢true h)
 plain-not-final mapping h = absurd (false≢true h)
@@ -82,7 +83,7 @@ mapping-not-final plainField h = refl
 mapping-not-final finalField h = absurd (false≢true h)
 mapping-not-final mapping h = refl
 
-pub plain-not-mapping : (s : Shape) → isPlainField s ≡ true → isMapping s ≡ false
+pub plain-not-mapping : (s : Shape) → isZero (shapeCode s) ≡ true → isMapping s ≡ false
 plain-not-mapping plainField h = refl
 plain-not-mapping finalField h = refl
 plain-not-mapping mapping h = absurd (false≢true h)

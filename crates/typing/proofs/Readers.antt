@@ -5,11 +5,10 @@ use mathlib.Core.List.{List, []}
 use mathlib.Core.Option.{Option, none, some, Option·none-ne-some}
 use Prim.Native.Nat.{ℕ, _<_}
 use lib.ListN.{getD}
-use Rattle.definitions.specs.Syntax.{Name, finalName, FieldOwner, toEveryone, toKey, toFinal, Expression, field, entry, assignField, assignEntry, Field, Scope, fieldAt, isMapping}
+use Rattle.definitions.specs.ContractFile.{Name, finalName, FieldOwner, toEveryone, toKey, toFinal, Expression, field, entry, assignField, assignEntry, Field, Scope, fieldAt, isMapping}
 use Rattle.definitions.specs.Owners.{Links, placeOwner, nameOf, ownerOf}
 use Rattle.definitions.specs.Numbers.{expressionFaults, statementFaults, isTagged, isNone}
-use Rattle.definitions.specs.Places.{placeCount, position, anyone, only, readerOf, placeReader}
-use Rattle.definitions.specs.Original.{value}
+use Rattle.definitions.specs.Original.{placeCount, position, anyone, only, readerOf, placeReader, value}
 use Rattle.relations.specs.Environment.{Environment}
 use Rattle.relations.specs.Acceptance.{FieldsFit, constantsFit, constantsFitIn}
 use Rattle.relations.specs.Standing.{readersOf}

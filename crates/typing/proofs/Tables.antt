@@ -6,10 +6,7 @@ use Prim.Native.Nat.{ℕ, zero, suc, _-_}
 use borrow.Author.Tests.{eqb-true}
 use lib.Dec.{eqb, leb}
 use Rattle.definitions.specs.Basics.{any, isZero}
-use Rattle.definitions.specs.Syntax.{DataType, address, plainField, finalField, mapping, toEveryone, toKey, toFinal, Expression, Statement, Field, fieldAt, isFinal, isMapping}
-use Rattle.definitions.specs.ContractFile.{FieldRecord, NodeRecord, dataTypeOf, shapeOf, fieldOwnerOfCode, isFinalCode, fieldOf}
-use Rattle.definitions.specs.Nodes.{Kind, constantKind, meKind, fieldKind, entryKind, parameterKind, operatorKind, negationKind, revealKind, skipKind, sequenceKind, assignFieldKind, assignEntryKind, requireKind, conditionalKind, noKind, kindOf, constantValue, nodeOfKind, nodeOf, nodeAt, expressionOf, statementOf, statementAt}
-use Rattle.definitions.specs.DataTypes.{isOfType}
+use Rattle.definitions.specs.ContractFile.{DataType, address, plainField, finalField, mapping, toEveryone, toKey, toFinal, Expression, Statement, Field, fieldAt, isFinal, isMapping, FieldRecord, NodeRecord, dataTypeOf, shapeOf, fieldOwnerOfCode, isFinalCode, fieldOf, Kind, constantKind, meKind, fieldKind, entryKind, parameterKind, operatorKind, negationKind, revealKind, skipKind, sequenceKind, assignFieldKind, assignEntryKind, requireKind, conditionalKind, noKind, kindOf, constantValue, nodeOfKind, nodeOf, nodeAt, expressionOf, statementOf, statementAt, isOfType}
 use Rattle.definitions.specs.Numbers.{fieldInTables, kindInTables, nodeInTables, isTagged}
 use Rattle.trees.specs.Trees.{Keeps}
 use Rattle.trees.proofs.Kept.{unknown-keeps, statement-kept}

@@ -10,12 +10,10 @@ use borrow.Author.Tests.{ltb-true, lt-ltb}
 use lib.Dec.{ltb, leb, eqb}
 use lib.ListN.{getD}
 use Rattle.definitions.specs.Basics.{bit}
-use Rattle.definitions.specs.Syntax.{DataType, boolean, uint, address, Name, meName, finalName, parameterName, Operator, plus, minus, times, divide, remainder, less, lessOrEqual, equal, unequal, conjunction, disjunction, Expression, constant, me, field, entry, parameter, operator, negation, reveal, assignEntry, Scope, fieldAt, parameterAt, sameType, isFinal}
+use Rattle.definitions.specs.ContractFile.{DataType, boolean, uint, address, Name, meName, finalName, parameterName, Operator, plus, minus, times, divide, remainder, less, lessOrEqual, equal, unequal, conjunction, disjunction, Expression, constant, me, field, entry, parameter, operator, negation, reveal, assignEntry, Scope, fieldAt, parameterAt, sameType, isFinal, isOfType, operandsFit, resultType, typeOf}
 use Rattle.definitions.specs.Owners.{Links, nameOf, isPublicAddress}
-use Rattle.definitions.specs.DataTypes.{isOfType, operandsFit, resultType, typeOf}
 use Rattle.definitions.specs.Numbers.{expressionFaults, statementFaults}
-use Rattle.definitions.specs.Places.{placeCount, position}
-use Rattle.definitions.specs.Original.{operate, value}
+use Rattle.definitions.specs.Original.{placeCount, position, operate, value}
 use Rattle.relations.specs.Environment.{Environment}
 use Rattle.relations.specs.Acceptance.{constantsFit, constantsFitIn}
 use Rattle.typing.proofs.Basics.{and-left, address-below}

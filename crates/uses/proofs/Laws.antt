@@ -9,8 +9,7 @@ use lib.ListN.{length, getD, set, length-set}
 use lib.Seq.{getD-set-same, getD-set-other}
 use borrow.Author.Tests.{eqb-true, eqb-false}
 use Rattle.definitions.specs.Basics.{countIf}
-use Rattle.definitions.specs.ContractFile.{NodeRecord}
-use Rattle.definitions.specs.Nodes.{nodeOf, children}
+use Rattle.definitions.specs.ContractFile.{NodeRecord, nodeOf, children}
 use Rattle.nodes.specs.Children.{childCount}
 use Rattle.nodes.proofs.ByCount.{no-children, one-child, two-children, three-children}
 use Rattle.uses.specs.Counting.{Room, Counted}

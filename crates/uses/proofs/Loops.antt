@@ -9,8 +9,7 @@ use lib.Dec.{eqb}
 use lib.ListN.{length, getD, take, replicate, getD-replicate}
 use borrow.Author.Tests.{eq-eqb, ne-eqb}
 use Rattle.definitions.specs.Basics.{anyNumbered, countIf, flatMap}
-use Rattle.definitions.specs.ContractFile.{FunctionRecord, NodeRecord, twoBytesAt, functionEnd, functionRecord, functionRecords, nodeRecord, nodeRecords, sectionsOf}
-use Rattle.definitions.specs.Nodes.{nodeOf, children}
+use Rattle.definitions.specs.ContractFile.{FunctionRecord, NodeRecord, twoBytesAt, functionEnd, functionRecord, functionRecords, nodeRecord, nodeRecords, sectionsOf, nodeOf, children}
 use Rattle.definitions.specs.Numbers.{usesOf, usedOtherThanOnce}
 use Rattle.file.specs.declared.Layout.{Layout}
 use Rattle.file.specs.declared.Node.{Node}

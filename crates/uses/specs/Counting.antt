@@ -6,8 +6,7 @@ use Prim.Native.Nat.{ℕ, zero, suc, _+_, _<_, _≤_}
 use lib.Dec.{eqb}
 use lib.ListN.{length, getD}
 use Rattle.definitions.specs.Basics.{countIf}
-use Rattle.definitions.specs.ContractFile.{FunctionRecord, NodeRecord}
-use Rattle.definitions.specs.Nodes.{nodeOf, children}
+use Rattle.definitions.specs.ContractFile.{FunctionRecord, NodeRecord, nodeOf, children}
 use Rattle.file.specs.declared.Layout.{Layout}
 use Rattle.file.specs.Layout.{IsLayout}
 

@@ -5,9 +5,8 @@ use mathlib.Core.List.{List}
 use Prim.Native.Nat.{ℕ}
 use lib.ListN.{getD, set}
 use Rattle.definitions.specs.Basics.{isTrue}
-use Rattle.definitions.specs.Syntax.{Name, meName, Field, Expression, Statement}
-use Rattle.definitions.specs.Places.{position}
-use Rattle.definitions.specs.Original.{value, operate, negate, placesAfter}
+use Rattle.definitions.specs.ContractFile.{Name, meName, Field, Expression, Statement}
+use Rattle.definitions.specs.Original.{position, value, operate, negate, placesAfter}
 use Rattle.context.specs.Context.{fieldsIn}
 use Rattle.values.specs.Values.{valueOf, numbersAfter}
 

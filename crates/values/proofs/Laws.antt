@@ -3,10 +3,8 @@ use mathlib.Core.Path.{_≡_, ap, _∙_}
 use mathlib.Core.List.{List}
 use Prim.Native.Nat.{ℕ}
 use lib.ListN.{getD}
-use Rattle.definitions.specs.Syntax.{DataType, Owner, Operator, Expression}
-use Rattle.definitions.specs.ContractFile.{NodeRecord}
-use Rattle.definitions.specs.Places.{position}
-use Rattle.definitions.specs.Original.{value, operate, negate}
+use Rattle.definitions.specs.ContractFile.{DataType, Owner, Operator, Expression, NodeRecord}
+use Rattle.definitions.specs.Original.{position, value, operate, negate}
 use Rattle.context.specs.Context.{fieldsIn}
 use Rattle.values.specs.Values.{valueOf}
 

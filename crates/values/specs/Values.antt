@@ -1,8 +1,7 @@
 -- What the original works out on numbers. Of the addresses that names stand for it asks only the caller's.
 use mathlib.Core.List.{List}
 use Prim.Native.Nat.{ℕ, _+_, _*_}
-use Rattle.definitions.specs.Syntax.{Name, Expression, Statement}
-use Rattle.definitions.specs.ContractFile.{nodeRecord}
+use Rattle.definitions.specs.ContractFile.{Name, Expression, Statement, nodeRecord}
 use Rattle.definitions.specs.Original.{value, placesAfter}
 use Rattle.context.specs.Context.{fieldsIn}
 

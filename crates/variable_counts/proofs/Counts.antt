@@ -4,10 +4,9 @@ use mathlib.Core.Bool.{Bool, true, false, _&&_, cond}
 use mathlib.Core.List.{[], _∷_}
 use Prim.Native.Nat.{ℕ, suc, _+_}
 use lib.ListN.{length, length-append}
-use Rattle.definitions.specs.Syntax.{Owner, everyone, Operator, Expression, Scope, isDivision}
+use Rattle.definitions.specs.ContractFile.{Owner, everyone, Operator, Expression, Scope, isDivision}
 use Rattle.definitions.specs.Owners.{isPublic}
-use Rattle.definitions.specs.Written.{BodyExpression, Circuit, readFrom}
-use Rattle.definitions.specs.Rewriting.{Generator, kept, onePart, twoParts, supplying, reading, operatorInCircuit, inBody, inCircuit}
+use Rattle.definitions.specs.Rewriting.{BodyExpression, Circuit, readFrom, Generator, kept, onePart, twoParts, supplying, reading, operatorInCircuit, inBody, inCircuit}
 use Rattle.variable_counts.specs.Counts.{operatorCount, bodyCount, circuitCount}
 
 -- A generator makes a number of variables that does not depend on where they begin.

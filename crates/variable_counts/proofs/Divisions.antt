@@ -2,9 +2,8 @@
 use mathlib.Core.Path.{_≡_, refl}
 use mathlib.Core.Bool.{Bool, true, false, _&&_}
 use Prim.Native.Nat.{ℕ, zero, suc}
-use Rattle.definitions.specs.Syntax.{Expression, Scope, isDivision}
+use Rattle.definitions.specs.ContractFile.{Expression, Scope, isDivision, operatorOf}
 use Rattle.definitions.specs.Owners.{isPublic}
-use Rattle.definitions.specs.ContractFile.{operatorOf}
 
 pub other-operator : (code : ℕ) → (code ≡ 3 → ⊥) → (code ≡ 4 → ⊥) → isDivision (operatorOf code) ≡ false
 other-operator zero h k = refl

@@ -3,7 +3,7 @@ use mathlib.Core.Path.{_≡_}
 use mathlib.Core.Bool.{true, false, _&&_}
 use Prim.Native.Nat.{ℕ, _+_}
 use native.Mathlib.Numerals.{add-one}
-use Rattle.definitions.specs.Syntax.{DataType, Owner, Operator, Expression, Scope, isDivision}
+use Rattle.definitions.specs.ContractFile.{DataType, Owner, Operator, Expression, Scope, isDivision}
 use Rattle.definitions.specs.Owners.{isPublic}
 use Rattle.variable_counts.specs.Counts.{bodyCount, circuitCount}
 

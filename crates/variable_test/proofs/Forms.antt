@@ -7,14 +7,10 @@ use native.Mathlib.Omega.{arith}
 use borrow.Author.Tests.{ne-eqb, lt-ltb}
 use lib.ListN.{length, drop, take, getD, length-map}
 use lib.Seq.{take-at}
-use Rattle.definitions.specs.Syntax.{boolean, meName, finalName, parameterName, Owner, everyone, ownedBy}
-use Rattle.definitions.specs.ContractFile.{nodesAt, ownerCode}
-use Rattle.definitions.specs.DataTypes.{typeOf}
-use Rattle.definitions.specs.Written.{Variable, always}
-use Rattle.definitions.specs.Rewriting.{privateParameters, openings, rewriteStatement, rewriteFunction}
-use Rattle.definitions.specs.Places.{anyone, readerOf}
-use Rattle.definitions.specs.Ledger.{Content}
-use Rattle.definitions.specs.Calls.{Form, allFit}
+use Rattle.definitions.specs.ContractFile.{boolean, meName, finalName, parameterName, Owner, everyone, ownedBy, nodesAt, ownerCode, typeOf}
+use Rattle.definitions.specs.Rewriting.{Variable, always, privateParameters, openings, rewriteStatement, rewriteFunction}
+use Rattle.definitions.specs.Original.{anyone, readerOf}
+use Rattle.definitions.specs.Ledger.{Content, Form, allFit}
 use Rattle.trees.specs.Trees.{expressionIn, statementIn}
 use Rattle.context.specs.Context.{Context, nodesIn, parametersIn, scopeIn}
 use Rattle.context.specs.Functions.{rootAt}

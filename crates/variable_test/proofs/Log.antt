@@ -8,13 +8,9 @@ use borrow.Author.Tests.{eq-eqb, ne-eqb}
 use lib.Dec.{eqb, leb}
 use lib.ListN.{length, drop, getD, length-drop, length-map, List·getD-eq-default}
 use lib.Seq.{drop-cons}
-use Rattle.definitions.specs.Syntax.{DataType, boolean, Expression}
-use Rattle.definitions.specs.ContractFile.{twoBytesAt, nodeCount, sectionsOf, dataTypeOf}
-use Rattle.definitions.specs.Nodes.{Node, unknownNode, nodeOf, nodeAt, expressionOf}
-use Rattle.definitions.specs.DataTypes.{typeOf}
-use Rattle.definitions.specs.Places.{anyone, only}
-use Rattle.definitions.specs.Ledger.{Content}
-use Rattle.definitions.specs.Calls.{Form, allFit}
+use Rattle.definitions.specs.ContractFile.{DataType, boolean, Expression, twoBytesAt, nodeCount, sectionsOf, dataTypeOf, Node, unknownNode, nodeOf, nodeAt, expressionOf, typeOf}
+use Rattle.definitions.specs.Original.{anyone, only}
+use Rattle.definitions.specs.Ledger.{Content, Form, allFit}
 use Rattle.trees.specs.Trees.{expressionIn}
 use Rattle.trees.proofs.Unfolding.{expression-unfolds}
 use Rattle.file.proofs.Sections.{count-of-nodes}

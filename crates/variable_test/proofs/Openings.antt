@@ -8,12 +8,10 @@ use borrow.Author.Tests.{eq-eqb, ne-eqb}
 use lib.Dec.{eqb}
 use lib.ListN.{length, drop, length-map, drop-of-length-le}
 use lib.Seq.{drop-cons}
-use Rattle.definitions.specs.Syntax.{Parameter, parameterAt}
-use Rattle.definitions.specs.ContractFile.{byteAt, parameterRecords, parameterOf, dataTypeOf}
-use Rattle.definitions.specs.Places.{only}
-use Rattle.definitions.specs.Ledger.{Content}
+use Rattle.definitions.specs.ContractFile.{Parameter, parameterAt, byteAt, parameterRecords, parameterOf, dataTypeOf}
+use Rattle.definitions.specs.Original.{only}
+use Rattle.definitions.specs.Ledger.{Content, Form}
 use Rattle.definitions.specs.Rewriting.{privateParameters}
-use Rattle.definitions.specs.Calls.{Form}
 use Rattle.context.specs.Context.{parametersIn}
 use Rattle.context.proofs.Declarations.{parameters-length, parameter-declared}
 use Rattle.readers.specs.declared.Reader.{Reader}

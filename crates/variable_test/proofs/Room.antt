@@ -7,7 +7,7 @@ use native.Mathlib.Omega.{arith}
 use lib.ListN.{length, drop, take, getD}
 use lib.Seq.{length-take-le}
 use Rattle.definitions.specs.ContractFile.{byteAt, nodesAt}
-use Rattle.definitions.specs.Calls.{allFit}
+use Rattle.definitions.specs.Ledger.{allFit}
 use Rattle.context.specs.Context.{Context, nodesIn, parametersIn, scopeIn}
 use Rattle.context.specs.Functions.{rootAt}
 use Rattle.contents.specs.Contents.{contentsOf}

@@ -4,12 +4,10 @@ use mathlib.Core.List.{List, [], _∷_, map}
 use Prim.Native.Nat.{ℕ}
 use lib.Dec.{eqb}
 use lib.ListN.{getD, drop}
-use Rattle.definitions.specs.Syntax.{boolean, Name, Parameter, Scope, parameterAt}
-use Rattle.definitions.specs.DataTypes.{typeOf}
-use Rattle.definitions.specs.Written.{Variable, variableOwner}
-use Rattle.definitions.specs.Rewriting.{privateParameters}
-use Rattle.definitions.specs.Places.{Reader, anyone, only, readerOf}
-use Rattle.definitions.specs.Calls.{Form, variableType}
+use Rattle.definitions.specs.ContractFile.{boolean, Name, Parameter, Scope, parameterAt, typeOf}
+use Rattle.definitions.specs.Rewriting.{Variable, variableOwner, privateParameters}
+use Rattle.definitions.specs.Original.{Reader, anyone, only, readerOf}
+use Rattle.definitions.specs.Ledger.{Form, variableType}
 use Rattle.trees.specs.Trees.{expressionIn}
 use Rattle.context.specs.Context.{nodesIn, scopeIn}
 

@@ -10,7 +10,7 @@ use lib.ListN.{length, drop}
 use Rattle.buffer.specs.Buffer.{stored}
 use Rattle.definitions.specs.Basics.{firstThatHolds}
 use Rattle.definitions.specs.Ledger as ledger
-use Rattle.definitions.specs.Calls.{isWellFormed}
+use Rattle.definitions.specs.Ledger.{isWellFormed}
 use Rattle.definitions.specs.View.{viewBytes, viewNumber, viewLength, outputAfterView}
 use Rattle.views.specs.declared.Answer.{Answer}
 use Rattle.views.specs.Views.{IsViewLength, Viewed}

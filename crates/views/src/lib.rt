@@ -4,7 +4,7 @@ ghost use mathlib.Core.Path.{_≡_};
 ghost use lib.ListN.{length};
 ghost use Prim.Native.Nat.{_+_, _*_, _≤_};
 ghost use Rattle.buffer.specs.Buffer.{stored};
-ghost use Rattle.definitions.specs.Calls.{isWellFormed};
+ghost use Rattle.definitions.specs.Ledger.{isWellFormed};
 ghost use Rattle.definitions.specs.View.{viewBytes};
 ghost use Rattle.ledgers.specs.Ledgers.{ledgerOf};
 ghost use Rattle.views.specs.Views.{headBytes, IsViewLength, Viewed};

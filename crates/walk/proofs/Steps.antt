@@ -8,8 +8,8 @@ use borrow.Author.Tests.{eqb-true, ne-eqb}
 use lib.ListN.{set}
 use Rattle.definitions.specs.Basics.{isTrue}
 use Rattle.definitions.specs.ContractFile.{NodeRecord}
-use Rattle.definitions.specs.Places.{position}
-use Rattle.definitions.specs.Written.{BodyExpression, Command, Constraint}
+use Rattle.definitions.specs.Original.{position}
+use Rattle.definitions.specs.Rewriting.{BodyExpression, Command, Constraint}
 use Rattle.definitions.specs.Ledger as ledger
 use Rattle.context.specs.Context.{fieldsIn}
 use Rattle.contents.specs.Contents.{contentOfCode, contentsOf}

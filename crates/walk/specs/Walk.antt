@@ -4,7 +4,7 @@ use mathlib.Core.Bool.{Bool, true, _||_}
 use mathlib.Core.List.{List}
 use Prim.Native.Nat.{ℕ}
 use lib.Dec.{eqb}
-use Rattle.definitions.specs.Written.{Command, Constraint}
+use Rattle.definitions.specs.Rewriting.{Command, Constraint}
 use Rattle.definitions.specs.Ledger as ledger
 use Rattle.context.specs.Context.{fieldsIn}
 use Rattle.contents.specs.Contents.{contentsOf}

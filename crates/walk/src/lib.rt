@@ -14,7 +14,7 @@ ghost use Prim.Native.Nat.{_*_, _<_, _≤_};
 ghost use lib.ListN.{set};
 ghost use Rattle.definitions.specs.Basics.{isTrue};
 ghost use Rattle.definitions.specs.ContractFile.{fieldCount};
-ghost use Rattle.definitions.specs.Places.{position};
+ghost use Rattle.definitions.specs.Original.{position};
 ghost use Rattle.definitions.specs.Ledger.{plainNumber};
 ghost use Rattle.context.specs.Context.{fieldsIn};
 ghost use Rattle.contents.specs.Contents.{contentOfCode, contentsOf};

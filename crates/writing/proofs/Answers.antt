@@ -10,7 +10,7 @@ use lib.ListN.{length, take, drop, length-append}
 use lib.Seq.{take-at}
 use Rattle.definitions.specs.Basics.{twoBytes, firstThatHolds}
 use Rattle.definitions.specs.Numbers.{checkNumber, orElse}
-use Rattle.definitions.specs.WrittenFile.{writtenFile, writeNumber, writtenLength, outputAfterWriting}
+use Rattle.definitions.specs.Rewriting.{writtenFile, writeNumber, writtenLength, outputAfterWriting}
 use Rattle.buffer.specs.Buffer.{stored}
 use Rattle.append.specs.Append.{Appended}
 use Rattle.writing.specs.Answers.{Promised, HandedOut}

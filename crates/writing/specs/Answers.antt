@@ -6,7 +6,7 @@ use Prim.Native.Nat.{ℕ}
 use lib.Dec.{ltb}
 use lib.ListN.{length, drop}
 use Rattle.definitions.specs.Basics.{firstThatHolds}
-use Rattle.definitions.specs.WrittenFile.{writeNumber, writtenLength, outputAfterWriting}
+use Rattle.definitions.specs.Rewriting.{writeNumber, writtenLength, outputAfterWriting}
 
 -- What the entry promises of a file, the output before and after, the number and the length.
 abbrev pub Promised : List ℕ → List ℕ → List ℕ → ℕ → ℕ → Type 0

@@ -9,7 +9,7 @@ ghost use Prim.Native.Nat.{_≤_};
 ghost use lib.ListN.{length};
 ghost use Rattle.definitions.specs.Basics.{twoBytes};
 ghost use Rattle.definitions.specs.Numbers.{checkNumber};
-ghost use Rattle.definitions.specs.WrittenFile.{writeNumber, writtenLength, outputAfterWriting};
+ghost use Rattle.definitions.specs.Rewriting.{writeNumber, writtenLength, outputAfterWriting};
 ghost use Rattle.writing.specs.Answers.{Promised, HandedOut};
 
 // A number, 0 where the file is written, and the written file's length.

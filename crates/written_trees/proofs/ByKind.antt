@@ -6,8 +6,7 @@ use Prim.Native.Nat.{ℕ, _+_, _*_, _<_}
 use borrow.Author.Tests.{ne-eqb}
 use lib.Dec.{eqb}
 use Rattle.definitions.specs.ContractFile.{NodeRecord, dataTypeOf, operatorOf}
-use Rattle.definitions.specs.Written.{BodyExpression, Circuit, Command}
-use Rattle.definitions.specs.WrittenFile.{Tree}
+use Rattle.definitions.specs.Rewriting.{BodyExpression, Circuit, Command, Tree}
 use Rattle.written_trees.specs.Trees.{Form, leafForm, oneForm, twoForm, threeForm, settingForm, formOf, recordAt, treeOf, treeIn, FallsBy, Falling, bodyOf, circuitOf, commandOf, bodyIn, circuitIn, commandIn}
 use Rattle.written_trees.proofs.Unfolding.{tree-unfolds}
 

@@ -6,7 +6,7 @@ use native.Mathlib.Omega.{arith}
 use native.Mathlib.Nat.{add-zero, zero-add}
 use lib.ListN.{length, length-append}
 use Rattle.definitions.specs.ContractFile.{NodeRecord, node}
-use Rattle.definitions.specs.WrittenFile.{Tree, leaf, oneChild, twoChildren, threeChildren, setting, size, numbered, numberedAll}
+use Rattle.definitions.specs.Rewriting.{Tree, leaf, oneChild, twoChildren, threeChildren, setting, size, numbered, numberedAll}
 use Rattle.written_trees.specs.Trees.{Form, leafForm, oneForm, twoForm, threeForm, settingForm, formOf, recordAt, FallsBy, Falls, Falling, FallingFrom}
 use Rattle.written_trees.proofs.Numbering.{Shaped, leafShaped, oneShaped, twoShaped, threeShaped, settingShaped, size-positive, numbered-length}
 

@@ -7,8 +7,7 @@ use native.Mathlib.Omega.{arith}
 use lib.ListN.{length, length-append}
 use Rattle.definitions.specs.Basics.{flatMap}
 use Rattle.definitions.specs.ContractFile.{NodeRecord}
-use Rattle.definitions.specs.Written.{Command, WrittenFunction}
-use Rattle.definitions.specs.WrittenFile.{Tree, size, sizes, numbered, numberedAll, commandTree, claimTrees, functionTrees}
+use Rattle.definitions.specs.Rewriting.{Command, WrittenFunction, Tree, size, sizes, numbered, numberedAll, commandTree, claimTrees, functionTrees}
 use Rattle.written_trees.specs.Trees.{commandOf, commandIn}
 use Rattle.written_trees.proofs.Numbering.{size-positive, numbered-length, reads-back}
 use Rattle.written_trees.proofs.RoundTrip.{command-shaped, command-said}

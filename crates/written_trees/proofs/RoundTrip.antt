@@ -5,10 +5,8 @@ use Prim.Native.Nat.{ℕ, suc, _+_, _*_, _-_, _/_, _%_, _≤_}
 use native.Mathlib.Omega.{arith}
 use lib.ListN.{length}
 use Rattle.definitions.specs.Basics.{flatMap}
-use Rattle.definitions.specs.Syntax.{DataType, boolean, uint, address, Operator, plus, minus, times, divide, remainder, less, lessOrEqual, equal, unequal, conjunction, disjunction, operatorCode, dataTypeCode}
-use Rattle.definitions.specs.ContractFile.{NodeRecord, dataTypeOf, operatorOf}
-use Rattle.definitions.specs.Written.{BodyExpression, Circuit, Command, Claim, equals, opensForCaller, Constraint, WrittenFunction}
-use Rattle.definitions.specs.WrittenFile.{size, numbered, bodyTree, circuitTree, commandTree, claimTrees, functionTrees}
+use Rattle.definitions.specs.ContractFile.{DataType, boolean, uint, address, Operator, plus, minus, times, divide, remainder, less, lessOrEqual, equal, unequal, conjunction, disjunction, operatorCode, dataTypeCode, NodeRecord, dataTypeOf, operatorOf}
+use Rattle.definitions.specs.Rewriting.{BodyExpression, Circuit, Command, Claim, equals, opensForCaller, Constraint, WrittenFunction, size, numbered, bodyTree, circuitTree, commandTree, claimTrees, functionTrees}
 use Rattle.written_trees.specs.Trees.{formOf, bodyOf, circuitOf, commandOf, bodyAt, circuitAt, circuitIn}
 use Rattle.written_trees.proofs.Numbering.{Shaped, leafShaped, oneShaped, twoShaped, threeShaped, settingShaped, size-positive, reads-back}
 use Rattle.written_trees.proofs.Falls.{AllShaped, none, more, shaped-append}

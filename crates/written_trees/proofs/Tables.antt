@@ -8,7 +8,7 @@ use lib.ListN.{length, List·getD-eq-default, length-append}
 use Rattle.definitions.specs.Basics.{flatMap}
 use lib.Seq.{getD-append-add}
 use Rattle.definitions.specs.ContractFile.{NodeRecord, byteAt, twoBytesAt, nodeRecord, nodeRecords, node}
-use Rattle.definitions.specs.WrittenFile.{nodeBytes}
+use Rattle.definitions.specs.Rewriting.{nodeBytes}
 use Rattle.file.proofs.Laws.{length-nodeRecords, getD-nodeRecords}
 use Rattle.written_trees.specs.Trees.{recordAt}
 use Rattle.written_trees.specs.Table.{countOf, tableOf}

@@ -4,7 +4,7 @@ use mathlib.Core.List.{List}
 use Prim.Native.Nat.{ℕ, zero, suc, _<_}
 use native.Mathlib.Omega.{arith}
 use Rattle.definitions.specs.ContractFile.{NodeRecord}
-use Rattle.definitions.specs.WrittenFile.{Tree, oneChild, twoChildren, threeChildren, setting}
+use Rattle.definitions.specs.Rewriting.{Tree, oneChild, twoChildren, threeChildren, setting}
 use Rattle.written_trees.specs.Trees.{Form, leafForm, oneForm, twoForm, threeForm, settingForm, formOf, recordAt, treeOf, treeAt, treeIn, FallsBy, Falling}
 
 -- Two readings of the children agree below n, so the node's tree is the same by either.

@@ -2,8 +2,7 @@
 use mathlib.Core.List.{List, [], _∷_, _++_}
 use Prim.Native.Nat.{ℕ, _+_, _-_}
 use Rattle.definitions.specs.ContractFile.{ownerCode}
-use Rattle.definitions.specs.Written.{Claim, equals, opensForCaller, Constraint}
-use Rattle.definitions.specs.WrittenFile.{size, sizes, circuitTree, claimTrees, guardNumber}
+use Rattle.definitions.specs.Rewriting.{Claim, equals, opensForCaller, Constraint, size, sizes, circuitTree, claimTrees, guardNumber}
 
 abbrev pub claimNumbers : ℕ → Claim → List ℕ
 claimNumbers n (equals i o circuit) = i ∷ ownerCode o ∷ (n + size (circuitTree circuit) - 1) ∷ []

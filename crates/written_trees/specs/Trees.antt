@@ -5,8 +5,7 @@ use Prim.Native.Nat.{ℕ, zero, suc, _+_, _*_, _<_}
 use lib.Dec.{eqb}
 use lib.ListN.{getD}
 use Rattle.definitions.specs.ContractFile.{NodeRecord, dataTypeOf, operatorOf, node}
-use Rattle.definitions.specs.Written.{BodyExpression, Circuit, Command}
-use Rattle.definitions.specs.WrittenFile.{Tree, leaf, oneChild, twoChildren, threeChildren, setting}
+use Rattle.definitions.specs.Rewriting.{BodyExpression, Circuit, Command, Tree, leaf, oneChild, twoChildren, threeChildren, setting}
 
 -- Which parts of a node are children.
 pub data Form : Type 0 where

@@ -1,7 +1,7 @@
 -- `assigned::entry_slots` meets its contract.
 use mathlib.Core.Path.{_∙_, ap}
 use native.Mathlib.Omega.{arith}
-use Rattle.definitions.specs.Places.{position}
+use Rattle.definitions.specs.Original.{position}
 use Rattle.context.specs.Context.{fieldsIn}
 use Rattle.assigned.proofs.Laws.{key-ready, entry-ready, entry-wrote, put-at}
 use borrow.Author.Needs.{needs}

@@ -1,5 +1,5 @@
 -- `assigned::is_private_entry` meets its contract.
-use Rattle.definitions.specs.Syntax.{fieldAt}
+use Rattle.definitions.specs.ContractFile.{fieldAt}
 use Rattle.context.specs.Context.{fieldsIn, scopeIn}
 use Rattle.definitions.specs.Owners.{nameOf}
 use Rattle.plans.specs.Plans.{nodeExpression}

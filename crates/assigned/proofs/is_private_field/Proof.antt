@@ -1,5 +1,5 @@
 -- `assigned::is_private_field` meets its contract.
-use Rattle.definitions.specs.Syntax.{fieldAt}
+use Rattle.definitions.specs.ContractFile.{fieldAt}
 use Rattle.context.specs.Context.{fieldsIn}
 use mathlib.Core.Option.{none}
 use mathlib.Core.Path.{refl}

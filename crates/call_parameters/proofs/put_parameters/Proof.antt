@@ -3,7 +3,7 @@ use mathlib.Core.Path.{_≡_, refl}
 use Prim.Native.Nat.{_-_, _≤_}
 use native.Mathlib.Omega.{arith}
 use lib.ListN.{length, take}
-use Rattle.definitions.specs.Calls.{honestParameters}
+use Rattle.definitions.specs.Ledger.{honestParameters}
 use Rattle.context.specs.Context.{parametersIn}
 use Rattle.contents.specs.Contents.{contentsOf}
 use Rattle.call_parameters.proofs.Honest.{parameter-more, parameters-done}

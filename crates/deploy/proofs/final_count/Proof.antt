@@ -3,7 +3,7 @@ use mathlib.Core.Path.{_≡_}
 use Prim.Native.Nat.{_+_, _-_, _≤_}
 use native.Mathlib.Omega.{arith}
 use Rattle.definitions.specs.Basics.{countIf}
-use Rattle.definitions.specs.Syntax.{isFinal}
+use Rattle.definitions.specs.ContractFile.{isFinal}
 use Rattle.context.specs.Context.{fieldsIn}
 use Rattle.positions.proofs.Laws.{fields-count}
 use Rattle.deploy.proofs.Addresses.{finalsFrom, finals-next, finals-done}

@@ -2,8 +2,8 @@
 use mathlib.Core.Path.{ap, sym, _∙_}
 use native.Mathlib.Omega.{arith}
 use lib.ListN.{length}
-use Rattle.definitions.specs.Nodes.{contractOf}
-use Rattle.definitions.specs.Calls.{deployed}
+use Rattle.definitions.specs.ContractFile.{contractOf}
+use Rattle.definitions.specs.Ledger.{deployed}
 use Rattle.context.specs.Context.{fieldsIn}
 use Rattle.ledgers.specs.Ledgers.{ledgerOf}
 use Rattle.deployments.specs.Deployments.{contentsFor}

@@ -5,8 +5,8 @@ use Prim.Native.Nat.{_+_, _-_, _≤_}
 use native.Mathlib.Omega.{arith}
 use lib.ListN.{length, getD, drop, length-set}
 use borrow.Author.Needs.{needs}
-use Rattle.definitions.specs.Syntax.{fieldAt}
-use Rattle.definitions.specs.Places.{Reader, finalAddress, position}
+use Rattle.definitions.specs.ContractFile.{fieldAt}
+use Rattle.definitions.specs.Original.{Reader, finalAddress, position}
 use Rattle.definitions.specs.Ledger.{contentFor}
 use Rattle.context.specs.Context.{fieldsIn}
 use Rattle.ledgers.specs.Ledgers.{contentsIn}

@@ -5,7 +5,7 @@ use native.Mathlib.Omega.{arith}
 use lib.ListN.{length, drop, length-set}
 use borrow.Author.Needs.{needs}
 use Rattle.buffer.specs.Buffer.{stored}
-use Rattle.definitions.specs.Places.{deployedNumbers}
+use Rattle.definitions.specs.Original.{deployedNumbers}
 use Rattle.context.specs.Context.{fieldsIn}
 use Rattle.positions.proofs.Laws.{fields-count}
 use Rattle.deployments.proofs.Numbers.{final-next, final-count, zeros-field, zeros-count, numbers-done, numbers-counted, is-final, not-final}

@@ -5,7 +5,7 @@ use Prim.Native.Nat.{_+_, _-_, _<_, _≤_}
 use native.Mathlib.Omega.{arith}
 use lib.ListN.{length, drop}
 use borrow.Author.Needs.{needs}
-use Rattle.definitions.specs.Places.{perPlace, placeReaders}
+use Rattle.definitions.specs.Original.{perPlace, placeReaders}
 use Rattle.context.specs.Context.{fieldsIn}
 use Rattle.ledgers.specs.Ledgers.{contentsIn}
 use Rattle.positions.proofs.Laws.{fields-count}

@@ -4,8 +4,7 @@ use mathlib.Core.List.{map}
 use Prim.Native.Nat.{_+_, _*_, _-_, _≤_}
 use native.Mathlib.Omega.{arith}
 use borrow.Author.Needs.{needs}
-use Rattle.definitions.specs.ContractFile.{nodeRecords}
-use Rattle.definitions.specs.Nodes.{nodeOf}
+use Rattle.definitions.specs.ContractFile.{nodeRecords, nodeOf}
 use Rattle.depth.specs.Chains.{Chains}
 use Rattle.depth.proofs.Loops.{chains-done, chains-start, chains-next}
 use Rattle.depth.proofs.note_depths.Statement.{statement}

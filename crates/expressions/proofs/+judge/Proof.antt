@@ -1,6 +1,6 @@
 -- `expressions::judge` meets its contract, by the number of its node: each kind from the judgements of its parts.
 use mathlib.Core.Bool.{true}
-use Rattle.definitions.specs.Nodes.{constantValue, nodeAt, nodeOf}
+use Rattle.definitions.specs.ContractFile.{constantValue, nodeAt, nodeOf}
 use Rattle.definitions.specs.Numbers.{targetInTables}
 use Rattle.scopes.specs.Trees.{nodesOf}
 use Rattle.expressions.proofs.Reading.{named, target-listed, count-parameters, judged-same}

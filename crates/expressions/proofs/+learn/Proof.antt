@@ -1,5 +1,5 @@
 -- `expressions::learn` meets its contract, by the number of its node: an equality joins two names, an "and" learns from both halves.
-use Rattle.definitions.specs.Nodes.{nodeAt, nodeOf}
+use Rattle.definitions.specs.ContractFile.{nodeAt, nodeOf}
 use Rattle.scopes.specs.Trees.{nodesOf}
 use Rattle.expressions.proofs.Reading.{named, equality-learnt, conjunction-learnt, nothing-learnt}
 use Rattle.scopes.proofs.ByKind.{operator-tree, no-links-learnt, left-below, right-below}

@@ -1,7 +1,7 @@
 -- A content that is there is tested.
 use mathlib.Core.Path.{ap, _∙_}
 use native.Mathlib.Omega.{arith}
-use Rattle.definitions.specs.Calls.{fits}
+use Rattle.definitions.specs.Ledger.{fits}
 use Rattle.readers.specs.Readers.{formOf}
 use Rattle.forms_test.proofs.Laws.{found, absent}
 use borrow.Author.Needs.{needs}

@@ -1,9 +1,8 @@
 -- A content that is there is plain 0 or tested.
-use Rattle.definitions.specs.Ledger.{contentAt}
+use Rattle.definitions.specs.Ledger.{contentAt, fits, isPlainZero}
 use Rattle.contents.specs.Contents.{contentsOf}
 use mathlib.Core.Path.{ap, _∙_}
 use native.Mathlib.Omega.{arith}
-use Rattle.definitions.specs.Calls.{fits, isPlainZero}
 use Rattle.readers.specs.Readers.{formOf}
 use Rattle.forms_test.specs.Forms.{fitsOrZero}
 use Rattle.forms_test.proofs.Laws.{found, absent, zero-fits, other-fits}

@@ -2,9 +2,9 @@
 use mathlib.Core.Path.{ap, sym, _∙_}
 use mathlib.Core.List.{List, map}
 use Prim.Native.Nat.{ℕ}
-use Rattle.definitions.specs.Syntax.{Name}
-use Rattle.definitions.specs.Places.{addressIn}
-use Rattle.definitions.specs.Calls.{allFit}
+use Rattle.definitions.specs.ContractFile.{Name}
+use Rattle.definitions.specs.Original.{addressIn}
+use Rattle.definitions.specs.Ledger.{allFit}
 use Rattle.context.specs.Context.{scopeIn}
 use Rattle.contents.specs.Contents.{contentsOf}
 use Rattle.forms_test.specs.Forms.{fitsOrZero}

@@ -5,7 +5,7 @@ use Prim.Native.Nat.{_-_, _≤_}
 use native.Mathlib.Omega.{arith}
 use lib.ListN.{length, drop}
 use borrow.Author.Needs.{needs}
-use Rattle.definitions.specs.WrittenFile.{eachOnce}
+use Rattle.definitions.specs.Rewriting.{eachOnce}
 use Rattle.append.specs.Append.{Appending}
 use Rattle.logged_variables.specs.PerEntry.{perEntry}
 use Rattle.logged_variables.specs.Variables.{keyCode, onceUnseen, seenIn}

@@ -5,7 +5,7 @@ use Prim.Native.Nat.{_-_, _<_, _≤_}
 use native.Mathlib.Omega.{arith}
 use lib.ListN.{length, drop}
 use borrow.Author.Needs.{needs}
-use Rattle.definitions.specs.Calls.{Form, fits, allFit}
+use Rattle.definitions.specs.Ledger.{Form, fits, allFit}
 use Rattle.context.specs.Context.{parametersIn}
 use Rattle.contents.specs.Contents.{contentsOf}
 use Rattle.parameter_test.specs.Parameters.{formsOfParameters, shownForms}

@@ -4,7 +4,7 @@ use Prim.Native.Nat.{_+_, _-_, _≤_}
 use native.Mathlib.Omega.{arith}
 use lib.ListN.{drop}
 use borrow.Author.Needs.{needs}
-use Rattle.definitions.specs.Calls.{fits}
+use Rattle.definitions.specs.Ledger.{fits}
 use Rattle.context.specs.Context.{fieldsIn}
 use Rattle.contents.specs.Contents.{contentsOf}
 use Rattle.forms_test.specs.Forms.{frontFits}

@@ -5,8 +5,8 @@ use Prim.Native.Nat.{_*_, _-_, _<_, _≤_}
 use native.Mathlib.Omega.{arith}
 use lib.ListN.{length, drop}
 use borrow.Author.Needs.{needs}
-use Rattle.definitions.specs.Places.{perPlace}
-use Rattle.definitions.specs.Calls.{Form, fits, allFit}
+use Rattle.definitions.specs.Original.{perPlace}
+use Rattle.definitions.specs.Ledger.{Form, fits, allFit}
 use Rattle.context.specs.Context.{fieldsIn}
 use Rattle.contents.specs.Contents.{contentsOf}
 use Rattle.positions.proofs.Laws.{fields-count}

@@ -4,7 +4,7 @@ use native.Mathlib.Omega.{arith}
 use borrow.Author.Needs.{needs}
 use lib.ListN.{drop}
 use Rattle.definitions.specs.ContractFile.{fieldCount}
-use Rattle.definitions.specs.Places.{position}
+use Rattle.definitions.specs.Original.{position}
 use Rattle.context.specs.Context.{fieldsIn}
 use Rattle.positions.proofs.Laws.{position-start, position-next, position-all, position-done, fields-count}
 use Rattle.positions.proofs.position.Statement.{statement}

@@ -1,7 +1,6 @@
 -- The two parts of a form.
 use mathlib.Core.Path.{ap, _∙_}
-use Rattle.definitions.specs.ContractFile.{dataTypeOf}
-use Rattle.definitions.specs.DataTypes.{isOfType}
+use Rattle.definitions.specs.ContractFile.{dataTypeOf, isOfType}
 use Rattle.contents.specs.Contents.{contentOfCode}
 use Rattle.readers.specs.Readers.{formOf}
 use Rattle.readers.proofs.Laws.{fits-both, fits-not}

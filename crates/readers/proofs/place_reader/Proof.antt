@@ -2,7 +2,7 @@
 use mathlib.Core.Path.{ap, _∙_}
 use Prim.Native.Nat.{ℕ}
 use lib.ListN.{getD}
-use Rattle.definitions.specs.Places.{finalAddress, position}
+use Rattle.definitions.specs.Original.{finalAddress, position}
 use Rattle.context.specs.Context.{fieldsIn}
 use Rattle.readers.proofs.Laws.{reader-all, reader-key, reader-final}
 use borrow.Author.Needs.{needs}

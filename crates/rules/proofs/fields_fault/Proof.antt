@@ -1,5 +1,5 @@
 -- `rules::fields_fault` meets its contract: the least so far, and the faults of the fields ahead, make the least of all.
-use Rattle.definitions.specs.Syntax.{plainField, boolean, toEveryone}
+use Rattle.definitions.specs.ContractFile.{plainField, boolean, toEveryone}
 use Rattle.rules.proofs.Fields.{fault-start, fault-next, fault-done, count-fields}
 use Rattle.rules.specs.Sections.{fieldsOf, allFieldsFault}
 use Rattle.faults.specs.Faults.{leastFault}

@@ -1,6 +1,5 @@
 -- `scopes::parameter_at` meets its contract.
-use Rattle.definitions.specs.ContractFile.{dataTypeOf}
-use Rattle.definitions.specs.Syntax.{dataTypeCode}
+use Rattle.definitions.specs.ContractFile.{dataTypeOf, dataTypeCode}
 use mathlib.Core.Path.{ap, _∙_}
 use native.Mathlib.Omega.{arith}
 use Rattle.scopes.proofs.Settling.{parameter-there, parameter-missing}

@@ -3,7 +3,7 @@ use mathlib.Core.Path.{_≡_, ap, _∙_}
 use Prim.Native.Nat.{ℕ, _<_, min}
 use native.Mathlib.Omega.{arith}
 use borrow.Author.Needs.{needs}
-use Rattle.definitions.specs.Nodes.{nodeAt, nodeOf}
+use Rattle.definitions.specs.ContractFile.{nodeAt, nodeOf}
 use Rattle.file.specs.Node.{recordOf}
 use Rattle.scopes.specs.Trees.{nodesOf}
 use Rattle.expressions.proofs.Reading.{named}

@@ -1,8 +1,8 @@
 -- The five meet their contracts, as a cycle: around it the node number falls, or a node asks for its own supply, circuit or parts.
 use Prim.Native.Nat.{_+_, _*_, _≤_}
 use native.Mathlib.Omega.{arith}
-use Rattle.definitions.specs.Syntax.{meName, ownedBy}
-use Rattle.definitions.specs.Written.{always}
+use Rattle.definitions.specs.ContractFile.{meName, ownedBy}
+use Rattle.definitions.specs.Rewriting.{always}
 use Rattle.context.specs.Context.{scopeIn}
 use Rattle.events.specs.Events.{bodyEvents, circuitEvents}
 use Rattle.supplies.proofs.Writing.{wrote-as, wrote-length, wrote-supply, wrote-read, room-slot, room-circuit, room-parts, room-read}

@@ -2,7 +2,7 @@
 use mathlib.Core.Path.{sym, _∙_}
 use borrow.Author.Tests.{le-leb, lt-leb}
 use borrow.Author.Needs.{needs}
-use Rattle.definitions.specs.Nodes.{kindOf}
+use Rattle.definitions.specs.ContractFile.{kindOf}
 use Rattle.definitions.specs.Numbers.{kindInTables}
 use Rattle.file.specs.Node.{recordOf}
 use Rattle.tables.proofs.Laws.{of-kind, of-two-kinds, of-no-kind}

@@ -4,7 +4,7 @@ use Prim.Native.Nat.{_+_, _-_, _≤_}
 use native.Mathlib.Omega.{arith}
 use lib.ListN.{length, drop}
 use borrow.Author.Needs.{needs}
-use Rattle.definitions.specs.Calls.{allFit}
+use Rattle.definitions.specs.Ledger.{allFit}
 use Rattle.contents.specs.Contents.{contentsOf}
 use Rattle.forms_test.specs.Forms.{fitsOrZero}
 use Rattle.variable_test.specs.Variables.{loggedForms}
