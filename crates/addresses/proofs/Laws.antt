@@ -2,15 +2,16 @@
 use mathlib.Core.Path.{_≡_, refl, ap, sym, _∙_}
 use mathlib.Core.Bool.{Bool, true, false, cond, not}
 use mathlib.Core.List.{List}
-use Prim.Native.Nat.{ℕ, zero, _+_, _*_, _-_, _<_, _≤_}
+use Prim.Native.Nat.{ℕ, _+_, _*_, _-_, _<_, _≤_}
 use native.Mathlib.Omega.{arith}
 use borrow.Author.Count.{below-more}
 use borrow.Author.Tests.{eq-eqb, ne-eqb, lt-ltb, le-ltb, le-leb, lt-leb, ltb-true, ltb-false}
-use lib.Dec.{eqb, ltb}
+use lib.Dec.{ltb}
 use lib.ListN.{length, getD, set, length-set, List·getD-eq-default}
 use lib.Seq.{getD-set-same, getD-set-other}
-use Rattle.definitions.specs.ContractFile.{Field, Parameter, plainField, finalField, mapping, isFinal, finalName, parameterName, byteAt, fieldCount, fieldOf, parameterOf, shapeOf}
+use Rattle.definitions.specs.ContractFile.{Field, Parameter, isFinal, finalName, parameterName, byteAt, fieldCount, fieldOf, parameterOf, shapeOf}
 use Rattle.definitions.specs.Original.{finalAddress, position}
+use Rattle.laws.proofs.Codes.{not-final}
 use Rattle.context.specs.Context.{fieldsIn, scopeIn}
 use Rattle.context.proofs.Declarations.{field-declared, field-missing, parameter-declared, parameter-missing}
 use Rattle.positions.proofs.Laws.{fields-count}
@@ -19,13 +20,6 @@ use Rattle.addresses.specs.Addresses.{named, addressOfCode, FewNames, Ad
 
 is-final : (code : ℕ) → code ≡ 1 → isFinal (shapeOf code) ≡ true
 is-final code e = rw e
-
-not-final : (code : ℕ) → (code ≡ 1 → ⊥) → isFinal (shapeOf code) ≡ false
-not-final code n = ap (λ (one : Bool). isFinal (cond (eqb code 0) plainField (cond one finalField mapping))) (ne-eqb code 1 n) ∙ either (eqb code 0)
-  where
-    either : (zero : Bool) → isFinal (cond zero plainField (cond false finalField mapping)) ≡ false
-    either true = refl
-    either false = refl
 
 module _ (file : List ℕ) (functionStart caller : ℕ) (arguments places : List ℕ) where
   abbrev finalOr : ℕ → Bool → ℕ

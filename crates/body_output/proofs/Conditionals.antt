@@ -7,6 +7,7 @@ use lib.ListN.{length, take}
 use Rattle.definitions.specs.Basics.{flatMap}
 use Rattle.definitions.specs.ContractFile.{Statement, NodeRecord}
 use Rattle.definitions.specs.Rewriting.{Command, Step, inBody, stepsBefore, nodeBytes, commandTree}
+use Rattle.laws.proofs.Records.{kind-as}
 use Rattle.trees.specs.Trees.{expressionIn, statementIn}
 use Rattle.buffer.specs.Buffer.{stored}
 use Rattle.context.specs.Context.{nodesIn, scopeIn}
@@ -24,7 +25,6 @@ use Rattle.body_output.specs.Parts.{commandOf, eventsOf, branchCommand, 
 use Rattle.body_output.specs.Bodies.{StatementReady, StatementWritten, ConditionReady, ConditionWritten, elseGuard, BranchesReady, BranchesWritten}
 use Rattle.body_output.proofs.Guards.{steps-few}
 use Rattle.body_output.proofs.Commands.{branching-command, branching-events, branching-variables}
-use Rattle.body_output.proofs.Sequences.{kind-as}
 
 module _ (file : List ℕ) (functionStart nodesStart n i : ℕ) (scratch roots out : List ℕ) (at base : ℕ) (ready : StatementReady file functionStart nodesStart n i scratch roots out at base)
     (r : NodeRecord) (same : r ≡ recordAt file nodesStart n) (kind : (recordAt file nodesStart n) .kind ≡ 21) where

@@ -10,11 +10,12 @@ use lib.ListN.{length, take, length-map}
 use Rattle.definitions.specs.Basics.{flatMap}
 use Rattle.definitions.specs.ContractFile.{Parameter, byteAt, twoBytesAt, functionEnd, parameterRecords, parameterOf, node}
 use Rattle.definitions.specs.Rewriting.{Command, Constraint, Step, privateParameters, openings, stepsBefore, withVerify, rewriteFunction, Tree, leaf, twoChildren, nodeBytes, commandTree}
+use Rattle.laws.proofs.Records.{parameters-length}
+use Rattle.laws.proofs.Written.{opening-count}
 use Rattle.trees.specs.Trees.{statementIn}
 use Rattle.buffer.specs.Buffer.{stored}
 use Rattle.context.specs.Context.{nodesIn, parametersIn, scopeIn}
 use Rattle.context.specs.Functions.{rootAt}
-use Rattle.context.proofs.Declarations.{parameters-length}
 use Rattle.node_output.specs.Numbering.{Room, Numbered}
 use Rattle.node_output.proofs.Laws.{room-left, room-right, room-above-two, room-any, numbered-leaf, numbered-two, room-as, numbered-as}
 use Rattle.parameter_output.specs.Parameters.{privateCount}
@@ -82,12 +83,6 @@ module _ (file : List ℕ) (functionStart nodesStart private : ℕ) (verified : 
         verified-written after nodes m total =
             rw v (numbered-as out at base after _ _ _ nodes refl total (numbered-two out at base 17 0 _ _ room-both between (e .nodes) own later 1 verify after m))
 
--- The opening steps are as many as the private parameters.
-opening-variables : (ks : List ℕ) (i : ℕ) → length ((openings ks i) .variables) ≡ length ks
-unfolding openings
-opening-variables [] i = refl
-opening-variables (k ∷ ks) i = ap suc (opening-variables ks (suc i))
-
 opening-steps : (ks : List ℕ) (i : ℕ) → length ((openings ks i) .steps) ≡ length ks
 unfolding openings
 opening-steps [] i = refl
@@ -129,7 +124,7 @@ module _ (file : List ℕ) (functionStart nodesStart private : ℕ) (verified : 
   body-is =
       ap (stepsBefore steps) (verify-ends ((writtenIn file functionStart) .constraints) _)
       ∙ ap₂ (λ (v : Bool) (n : ℕ). stepsBefore steps (ended v (commandOf (scopeIn file functionStart) (statementIn (nodesIn file) (rootAt file functionStart)) n)))
-      (sym (ready .verifies)) (opening-variables privates 0 ∙ private-is)
+      (sym (ready .verifies)) (opening-count privates 0 ∙ private-is)
 
   rest-tree : (v : Bool) (command : Command) → commandTree (ended v command) ≡ cond v (twoChildren 17 0 (commandTree command) (leaf 23 0 0 0)) (commandTree command)
   unfolding commandTree

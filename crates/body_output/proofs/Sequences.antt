@@ -6,6 +6,7 @@ use native.Mathlib.Omega.{arith}
 use lib.ListN.{length}
 use Rattle.definitions.specs.ContractFile.{Statement, NodeRecord, node}
 use Rattle.definitions.specs.Rewriting.{always, twoChildren, nodeBytes, commandTree}
+use Rattle.laws.proofs.Records.{kind-as}
 use Rattle.trees.specs.Trees.{statementIn}
 use Rattle.buffer.specs.Buffer.{stored}
 use Rattle.context.specs.Context.{nodesIn, scopeIn}
@@ -17,9 +18,6 @@ use Rattle.body_output.specs.declared.Extent.{Extent}
 use Rattle.body_output.specs.Parts.{commandOf, eventsOf, statementTree, eventsAt, recordAt}
 use Rattle.body_output.specs.Bodies.{StatementReady, StatementWritten}
 use Rattle.body_output.proofs.Commands.{sequence-command, sequence-events, sequence-variables}
-
-pub kind-as : (r q : NodeRecord) (kind : ℕ) → r ≡ q → r .kind ≡ kind → q .kind ≡ kind
-kind-as r q kind e h = ap (λ (x : NodeRecord). x .kind) (sym e) ∙ h
 
 module _ (file : List ℕ) (functionStart nodesStart n i : ℕ) (scratch roots out : List ℕ) (at base : ℕ) (ready : StatementReady file functionStart nodesStart n i scratch roots out at base)
     (r : NodeRecord) (same : r ≡ recordAt file nodesStart n) (kind : (recordAt file nodesStart n) .kind ≡ 17) where

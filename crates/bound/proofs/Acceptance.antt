@@ -1,60 +1,24 @@
 -- What an accepted file's counts, roots and children are: numbers 2, 4 and 5 hold nowhere.
 use mathlib.Core.Path.{_≡_, refl, ap, _∙_}
-use mathlib.Core.Bool.{Bool, true, false, _||_, not, true≢false}
+use mathlib.Core.Bool.{Bool, false, _||_, not}
 use mathlib.Core.List.{List, [], _∷_, _++_, map}
-use Prim.Native.Nat.{ℕ, zero, suc, _+_, _≤_, _<_}
-use native.Mathlib.Nat.{add-zero}
+use Prim.Native.Nat.{ℕ, _+_, _≤_, _<_}
 use native.Mathlib.Omega.{arith}
 use borrow.Author.Tests.{ltb-false, leb-false, not-false, eqb-true}
 use lib.Dec.{eqb, leb, ltb}
-use lib.ListN.{length, getD, length-map}
-use Rattle.definitions.specs.Basics.{force, any, anyNumbered, countIf, flatMap, isZero}
-use Rattle.definitions.specs.ContractFile.{FunctionRecord, NodeRecord, Sections, fieldCount, functionCount, nodeCount, nodesAt, functionEnd, fieldRecords, functionRecords, nodeRecords, sectionsOf, fieldOf, parameterOf, Node, nodeOf, children, fieldsNamed, functionOf}
+use lib.ListN.{length, length-map}
+use Rattle.definitions.specs.Basics.{any, anyNumbered, countIf, flatMap, isZero}
+use Rattle.definitions.specs.ContractFile.{FunctionRecord, NodeRecord, Sections, fieldCount, functionCount, nodeCount, nodesAt, nodeRecords, sectionsOf, fieldOf, parameterOf, Node, nodeOf, children, fieldsNamed, functionOf}
 use Rattle.definitions.specs.Numbers.{countOffLimits, namesNothing, fieldOfDeclaredOwner, usesOf, usedOtherThanOnce, checkNumber}
+use Rattle.laws.proofs.Lists.{count-append, none-numbered}
+use Rattle.laws.proofs.Records.{fields-length, force-is, functions-length, node-records-length}
+use Rattle.laws.proofs.TruthValues.{or-left, or-right}
 use Rattle.numbers.specs.Settled.{Settled}
 use Rattle.numbers.proofs.Sentences.{accepted-settled}
 use Rattle.trees.specs.Trees.{Falling}
 use Rattle.trees.proofs.Falls.{nodes-fall}
 use Rattle.bound.specs.Sizes.{fewParameters}
 use Rattle.bound.specs.Counting.{Below}
-use Rattle.bound.proofs.Counting.{count-append}
-
-or-left : (a b : Bool) → (a || b) ≡ false → a ≡ false
-or-left true b h = h
-or-left false b h = refl
-
-or-right : (a b : Bool) → (a || b) ≡ false → b ≡ false
-or-right true b h = absurd (true≢false h)
-or-right false b h = h
-
-none-numbered : {A : Type 0} (test : ℕ → A → Bool) (n : ℕ) (xs : List A) → anyNumbered test n xs ≡ false → (i : ℕ) (d : A) → i < length xs → test (n + i) (getD xs i d) ≡ false
-unfolding anyNumbered
-none-numbered test n [] h i d l = absurd (omega arith)
-none-numbered test n (x ∷ xs) h zero d l = rw (add-zero n) (or-left (test n x) (anyNumbered test (suc n) xs) h)
-none-numbered test n (x ∷ xs) h (suc i) d l =
-    let e : n + suc i ≡ suc n + i = omega arith in
-    rw e (none-numbered test (suc n) xs (or-right (test n x) (anyNumbered test (suc n) xs) h) i d (omega arith))
-
-pub force-is : {A : Type 0} (n : ℕ) (f : ℕ → A) → force n f ≡ f n
-force-is zero f = refl
-force-is (suc n) f = refl
-
--- As many records as counted.
-fields-length : (n : ℕ) (file : List ℕ) (at : ℕ) → length (fieldRecords n file at) ≡ n
-unfolding fieldRecords
-fields-length zero file at = refl
-fields-length (suc n) file at = ap suc (fields-length n file (at + 3))
-
-functions-length : (n : ℕ) (file : List ℕ) (at : ℕ) → length (functionRecords n file at) ≡ n
-unfolding functionRecords
-functions-length zero file at = refl
-functions-length (suc n) file at =
-    ap suc (ap length (force-is (functionEnd file at) (functionRecords n file)) ∙ functions-length n file (functionEnd file at))
-
-nodes-length : (n : ℕ) (file : List ℕ) (at : ℕ) → length (nodeRecords n file at) ≡ n
-unfolding nodeRecords
-nodes-length zero file at = refl
-nodes-length (suc n) file at = ap suc (nodes-length n file (at + 8))
 
 -- None at or above k: all below k.
 roots-below : (k : ℕ) (rs : List FunctionRecord) → any (λ r. leb k (r .root)) rs ≡ false → Below k (map (λ r. r .root) rs)
@@ -99,7 +63,7 @@ module _ (file : List ℕ) (accepted : checkNumber file ≡ 0) where
 
   pub nodes-counted : length (sections .nodes) ≡ nodeCount file
   unfolding sectionsOf
-  nodes-counted = ap length (force-is (nodesAt file + 2) (nodeRecords (nodeCount file) file)) ∙ nodes-length (nodeCount file) file (nodesAt file + 2)
+  nodes-counted = ap length (force-is (nodesAt file + 2) (nodeRecords (nodeCount file) file)) ∙ node-records-length (nodeCount file) file (nodesAt file + 2)
 
   abbrev manyParameters : Bool
   manyParameters = any (λ r. ltb 8 (length (r .parameters))) (sections .functions)

@@ -1,7 +1,7 @@
 -- Where every node is used once, the trees of the roots have together no more nodes than there are.
-use mathlib.Core.Path.{_≡_, refl, ap, sym, _∙_}
-use mathlib.Core.Bool.{Bool, true, false, _&&_, cond, false≢true}
-use mathlib.Core.List.{List, [], _∷_, _++_, append-nil, append-assoc}
+use mathlib.Core.Path.{_≡_, refl, ap, _∙_}
+use mathlib.Core.Bool.{Bool, true, false, cond}
+use mathlib.Core.List.{List, [], _∷_, _++_, append-nil}
 use Prim.Native.Nat.{ℕ, zero, suc, _+_, _*_, _≤_, _<_, max}
 use native.Mathlib.Nat.{zero-mul, one-mul, add-mul}
 use native.Mathlib.Omega.{arith}
@@ -11,34 +11,18 @@ use lib.ListN.{length, take}
 use lib.Seq.{take-suc, take-length}
 use Rattle.definitions.specs.Basics.{all, countIf, flatMap}
 use Rattle.definitions.specs.ContractFile.{NodeRecord, Kind, constantKind, meKind, fieldKind, entryKind, parameterKind, operatorKind, negationKind, revealKind, skipKind, sequenceKind, assignFieldKind, assignEntryKind, requireKind, conditionalKind, noKind, kindOf, Node, unknownNode, nodeOfKind, nodeAt, expressionParts, statementParts, children, expressionOf, statementOf}
+use Rattle.laws.proofs.Lists.{count-append, flat-append}
+use Rattle.laws.proofs.TruthValues.{and-left, and-right}
 use Rattle.trees.specs.Trees.{expressionIn, statementIn, IsRead, Falling}
 use Rattle.trees.proofs.Unfolding.{expression-unfolds, statement-unfolds}
 use Rattle.trees.specs.Sizes.{expressionSize, statementSize}
 use Rattle.bound.specs.Counting.{sumOf, Below, without}
-
-pub and-left : (a b : Bool) → (a && b) ≡ true → a ≡ true
-and-left true b h = refl
-and-left false b h = h
-
-pub and-right : (a b : Bool) → (a && b) ≡ true → b ≡ true
-and-right true b h = h
-and-right false b h = absurd (false≢true h)
 
 -- Sums and counts over lists put together.
 sum-append : (f : ℕ → ℕ) (a b : List ℕ) → sumOf f (a ++ b) ≡ sumOf f a + sumOf f b
 unfolding sumOf
 sum-append f [] b = omega arith
 sum-append f (x ∷ a) b = let h = sum-append f a b in omega arith
-
-pub count-append : (test : ℕ → Bool) (a b : List ℕ) → countIf test (a ++ b) ≡ countIf test a + countIf test b
-unfolding countIf
-count-append test [] b = omega arith
-count-append test (x ∷ a) b = let h = count-append test a b in omega arith
-
-flat-append : {A B : Type 0} (f : A → List B) (a b : List A) → flatMap f (a ++ b) ≡ flatMap f a ++ flatMap f b
-unfolding flatMap
-flat-append f [] b = refl
-flat-append f (x ∷ a) b = ap (λ ys. f x ++ ys) (flat-append f a b) ∙ sym (append-assoc (f x) (flatMap f a) (flatMap f b))
 
 below-append : (k : ℕ) (a b : List ℕ) → Below k a → Below k b → Below k (a ++ b)
 unfolding Below

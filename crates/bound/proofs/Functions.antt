@@ -8,7 +8,9 @@ use lib.Dec.{eqb}
 use lib.ListN.{length, length-append}
 use Rattle.definitions.specs.Basics.{any, flatMap, twoBytes}
 use Rattle.definitions.specs.ContractFile.{everyone, ownedBy, Field, Parameter, Function, Contract, Scope, dataTypeCode}
-use Rattle.definitions.specs.Rewriting.{Command, Variable, supplied, readFrom, guard, Claim, equals, opensForCaller, always, Constraint, WrittenFunction, privateParameters, openings, heldUnder, withVerify, rewriteStatement, rewriteFunction, rewrite, Tree, leaf, oneChild, twoChildren, threeChildren, setting, size, numbered, bodyTree, commandTree, claimTrees, functionTrees, sizes, numberedAll, nodeBytes, fieldBytes, parameterBytes, variableBytes, keyOf, eachOnce, guardNumber, claimBytes, constraintBytes, functionBytes, functionsBytes, contractBytes}
+use Rattle.definitions.specs.Rewriting.{Command, Variable, supplied, readFrom, guard, Claim, equals, opensForCaller, always, Constraint, WrittenFunction, privateParameters, openings, heldUnder, withVerify, rewriteStatement, rewriteFunction, rewrite, size, bodyTree, commandTree, claimTrees, functionTrees, sizes, numberedAll, nodeBytes, fieldBytes, parameterBytes, variableBytes, keyOf, eachOnce, guardNumber, claimBytes, constraintBytes, functionBytes, functionsBytes, contractBytes}
+use Rattle.laws.proofs.Lists.{four-lengths}
+use Rattle.laws.proofs.Written.{all-length, sizes-append}
 use Rattle.trees.specs.Sizes.{statementSize}
 use Rattle.bound.specs.Sizes.{bodiesSize, commandSize, stepsSize, claimWeight, claimsWeight, constraintsWeight, passageWeight, fewParameters}
 use Rattle.bound.proofs.Pieces.{constraints-append, steps-before, held-weight, statement-light}
@@ -61,34 +63,6 @@ codes-length (v ∷ vs) = let h = codes-length vs in let k = key-length v in ome
 keys-length : (vs : List Variable) → length (eachOnce [] (flatMap keyOf vs)) ≤ length vs
 keys-length vs = let h = once-length [] (flatMap keyOf vs) in let k = codes-length vs in omega arith
 
--- Sizes of several trees, and the nodes that they are written as.
-sizes-append : (a b : List Tree) → sizes (a ++ b) ≡ sizes a + sizes b
-unfolding sizes
-sizes-append [] b = omega arith
-sizes-append (t ∷ a) b = let h = sizes-append a b in omega arith
-
-numbered-length : (n : ℕ) (t : Tree) → length (numbered n t) ≡ size t
-unfolding numbered size
-numbered-length n (leaf kind arg first second) = refl
-numbered-length n (oneChild kind arg first) = simp length-append (let h = numbered-length n first in omega arith)
-numbered-length n (twoChildren kind arg first second) =
-    simp length-append (let h = numbered-length n first in let k = numbered-length (n + size first) second in omega arith)
-numbered-length n (threeChildren kind first second third) =
-    simp length-append
-    (let h = numbered-length n first in
-    let k = numbered-length (n + size first) second in
-    let m = numbered-length (n + size first + size second) third in
-    omega arith)
-numbered-length n (setting variable value) = simp length-append (let h = numbered-length n value in omega arith)
-
-all-length : (n : ℕ) (ts : List Tree) → length (numberedAll n ts) ≡ sizes ts
-unfolding numberedAll sizes
-all-length n [] = refl
-all-length n (t ∷ ts) =
-    let h = all-length (n + size t) ts in
-    let k = numbered-length n t in
-    omega (arith, length-append (numbered n t) (numberedAll (n + size t) ts))
-
 -- A constraint takes six bytes of the heading, and its circuit's nodes.
 claim-length : (n : ℕ) (c : Claim) → length (claimBytes n c) ≡ 4
 claim-length n (equals i o circuit) = refl
@@ -115,9 +89,6 @@ constraint-weight n (c ∷ cs) =
 eight-lengths : (a b c d e f g h : List ℕ)
     → length (a ++ b ++ c ++ d ++ e ++ f ++ g ++ h) ≡ length a + length b + length c + length d + length e + length f + length g + length h
 eight-lengths a b c d e f g h = simp length-append
-
-four-lengths : (a b c d : List ℕ) → length (a ++ b ++ c ++ d) ≡ length a + length b + length c + length d
-four-lengths a b c d = simp length-append
 
 -- The whole of a written function: heading and nodes.
 pub function-weight : (n : ℕ) (g : WrittenFunction)

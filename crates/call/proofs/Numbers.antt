@@ -10,9 +10,9 @@ use Rattle.definitions.specs.Basics.{firstThatHolds}
 use Rattle.definitions.specs.ContractFile.{functionCount, contractIn}
 use Rattle.definitions.specs.Ledger as ledger
 use Rattle.definitions.specs.Ledger.{isWellFormed, notCallable, argumentsOff, callNumber, callWith, honestParametersOf, honestVariablesOf, ledgerAfterCall}
+use Rattle.laws.proofs.TruthValues.{or-right}
 use Rattle.context.specs.Context.{parametersIn}
 use Rattle.context.specs.Functions.{functionStart}
-use Rattle.scopes.proofs.Lists.{or-right}
 use Rattle.context.proofs.Functions.{functions-count}
 use Rattle.ledgers.specs.declared.Ledger as code
 use Rattle.ledgers.specs.Ledgers.{ledgerOf}

@@ -10,9 +10,10 @@ use lib.Seq.{drop-cons}
 use Rattle.definitions.specs.Basics.{any}
 use Rattle.definitions.specs.ContractFile.{Parameter, Function, boolean, parameterAt, isOfType, byteAt, dataTypeOf, functionCount, parameterRecords, parameterOf}
 use Rattle.definitions.specs.Ledger.{Ledger, argumentsOff}
+use Rattle.laws.proofs.Records.{parameters-length}
 use Rattle.context.specs.Context.{parametersIn}
 use Rattle.context.specs.Functions.{functionStart}
-use Rattle.context.proofs.Declarations.{parameter-declared, parameters-length}
+use Rattle.context.proofs.Declarations.{parameter-declared}
 use Rattle.context.proofs.Functions.{function-in}
 use Rattle.call_numbers.specs.Arguments.{anyOutside, argumentsOffFor}
 

@@ -10,6 +10,7 @@ use Rattle.definitions.specs.Owners.{noLinks}
 use Rattle.definitions.specs.Rewriting.{Variable, always, rewriteStatement, openings, privateParameters}
 use Rattle.definitions.specs.Original.{addressIn, readerOf}
 use Rattle.definitions.specs.Ledger.{Content, Ledger, openedNumber, callNumber, honestContents, honestVariables, honestVariablesOf}
+use Rattle.laws.proofs.Written.{opening-count}
 use Rattle.relations.specs.Acceptance.{AcceptedBody}
 use Rattle.relations.specs.Environment.{Environment}
 use Rattle.typing.proofs.WellFormed.{ledger-body-accepted}
@@ -24,7 +25,7 @@ use Rattle.events.proofs.Statements.{statement-made}
 use Rattle.entries.specs.Entries.{suppliedEntry, claimedEntry, readEntry, guardEntry, Entries, noEntry, entryThen}
 use Rattle.logged_variables.specs.PerEntry.{perEntry}
 use Rattle.honest.specs.Honest.{honestNumbers, contentsFrom, nodeStatement}
-use Rattle.honest.proofs.Contents.{call-is, opening-count}
+use Rattle.honest.proofs.Contents.{call-is}
 use Rattle.circuits.specs.Circuits.{addressFrom}
 use Rattle.function_room.specs.Functions.{functionIn, eventsIn, privateIn}
 use Rattle.call_variables.specs.Slots.{slotsOf}
@@ -71,7 +72,7 @@ module _ (file : List ℕ) (at : ℕ) (arguments : List ℕ) (caller call : ℕ)
   privates-counted = refl
 
   openings-counted : length ((openings privates 0) .variables) ≡ privateIn file at
-  openings-counted = opening-count file at arguments caller address call refl privates 0 ∙ privates-counted
+  openings-counted = opening-count privates 0 ∙ privates-counted
 
   module _ (few : fieldCount file ≤ 64) (accepted : AcceptedBody (scopeIn file at) (nodeStatement file (rootAt file at)))
       (env : Environment (scopeIn file at) (addressIn (scopeIn file at) caller arguments places) arguments places) (log : List ℕ)

@@ -8,8 +8,8 @@ use Rattle.definitions.specs.ContractFile.{Name, meName, finalName, parameterNa
 use Rattle.definitions.specs.Owners.{Links, isPublicAddress, placeOwner, parameterOwner, nameOf, ownerOf, isPublic, linksAfter}
 use Rattle.definitions.specs.Numbers.{ownerFits, expressionFaults, statementFaults}
 use Rattle.definitions.specs.Rewriting.{Variable, supplied, readFrom, guard, variableOwner, Guard}
+use Rattle.laws.proofs.TruthValues.{and-left, and-right}
 use Rattle.relations.specs.Acceptance.{constantsFit, constantsFitIn, FieldsFit}
-use Rattle.typing.proofs.Basics.{and-left, and-right}
 use Rattle.typing.proofs.Faults.{entry-read-fits, operator-fits, negation-fits, reveal-fits, sequence-fits, assign-field-fits, assign-entry-fits, require-fits, conditional-fits}
 use Rattle.events.specs.Events.{Event, claimedEvent, readEvent, variablesOf, variableCount, Events, noEvents, inTurn, supplyEvents, readEvents, bodyEvents, circuitEvents, placeEvents, branchEvents, statementEvents}
 use Rattle.events.proofs.Appended.{variables-append}

@@ -2,18 +2,18 @@
 use mathlib.Core.Path.{_≡_, subst}
 use mathlib.Core.Bool.{Bool, true, false, _&&_}
 use mathlib.Core.List.{List, [], _∷_, _++_, map}
-use Prim.Native.Nat.{ℕ, zero, suc, _<_, _≤_}
+use Prim.Native.Nat.{ℕ, zero, suc, _≤_}
 use native.Mathlib.Omega.{arith}
-use borrow.Author.Tests.{ltb-true}
 use lib.ListN.{getD, replicate}
-use Rattle.definitions.specs.ContractFile.{DataType, boolean, uint, address, Name, meName, Expression, Statement, isOfType, typeOf}
+use Rattle.definitions.specs.ContractFile.{Name, meName, Expression, Statement, typeOf}
 use Rattle.definitions.specs.Owners.{Links, linksAfter}
 use Rattle.definitions.specs.Numbers.{statementFaults}
 use Rattle.definitions.specs.Original.{value}
 use Rattle.definitions.specs.Rewriting.{Variable, supplied, readFrom, guard, always}
+use Rattle.laws.proofs.Codes.{type-below}
+use Rattle.laws.proofs.TruthValues.{and-left, and-right}
 use Rattle.relations.specs.Acceptance.{constantsFit, constantsFitIn, FieldsFit}
 use Rattle.relations.specs.Environment.{Environment}
-use Rattle.typing.proofs.Basics.{and-left, and-right}
 use Rattle.typing.proofs.Faults.{sequence-fits, conditional-fits}
 use Rattle.typing.proofs.Values.{value-typed}
 use Rattle.typing.proofs.Environments.{environment-after}
@@ -40,11 +40,6 @@ pub small-at : (xs : List ℕ) → AllSmall xs → (k : ℕ) → getD xs k 0 ≤
 small-at [] h k = omega arith
 small-at (x ∷ xs) h zero = h .0
 small-at (x ∷ xs) h (suc k) = small-at xs (h .1) k
-
-type-below : (t : DataType) (v : ℕ) → isOfType t v ≡ true → v < 4294967296
-type-below boolean v h = omega (arith, ltb-true v 2 h)
-type-below uint v h = ltb-true v 4294967296 h
-type-below address v h = omega (arith, ltb-true v 16 h)
 
 sequence-first : (first second : Statement) → constantsFitIn (Statement.sequence first second) ≡ true → constantsFitIn first ≡ true
 unfolding constantsFitIn

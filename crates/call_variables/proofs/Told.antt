@@ -12,9 +12,10 @@ use Rattle.definitions.specs.Numbers.{ownerFits}
 use Rattle.definitions.specs.Rewriting.{Variable, supplied, readFrom, guard, variableOwner, openings}
 use Rattle.definitions.specs.Original.{position, readerOf}
 use Rattle.definitions.specs.Ledger.{Content, plain, contentFor}
+use Rattle.laws.proofs.TruthValues.{and-left}
 use Rattle.relations.specs.Acceptance.{FieldsFit}
 use Rattle.relations.specs.Environment.{Environment}
-use Rattle.typing.proofs.Basics.{and-left, address-below}
+use Rattle.typing.proofs.Basics.{address-below}
 use Rattle.typing.proofs.Places.{first-place}
 use Rattle.typing.proofs.Faults.{same-type}
 use Rattle.typing.proofs.Values.{place-typed}

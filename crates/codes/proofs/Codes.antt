@@ -11,6 +11,7 @@ use lib.ListN.{getD}
 use Rattle.definitions.specs.ContractFile.{DataType, meName, finalName, parameterName, everyone, ownedBy, toEveryone, toKey, toFinal, Operator, dataTypeCode, isDivision, isEveryone, isFinalCode, ownerOfCode, fieldOwnerOfCode, operatorOf, operandsFit, resultType}
 use Rattle.definitions.specs.Owners.{isReader, placeOwner, ownerOfParts}
 use Rattle.definitions.specs.Numbers.{targetInTables, isTagged, isNone, mayBePut, fault}
+use Rattle.laws.proofs.TruthValues.{and-parts}
 use Rattle.links.specs.Names.{nameOfCode, nameWith, linkedBy}
 use Rattle.links.proofs.Names.{code-final, code-argument, owner-named, above-eqb}
 use Rattle.faults.specs.Faults.{leastFault}
@@ -113,10 +114,6 @@ pub data FieldCode (code : ℕ) : Type 0 where
   everyoneCode : code ≡ 0 → FieldCode code
   keyCode : code ≡ 2 → FieldCode code
   finalCode : (f : ℕ) → f < 64 → code ≡ 16 + f → FieldCode code
-
-and-parts : (a b : Bool) → (a && b) ≡ true → (a ≡ true) × (b ≡ true)
-and-parts true b h = (refl, h)
-and-parts false b h = absurd (false≢true h)
 
 pub field-code : (code : ℕ) → isFieldCode code ≡ true → FieldCode code
 field-code code h = go (eqb code 0) refl (isFinalCode code) refl (eqb code 2) refl h

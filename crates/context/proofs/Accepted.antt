@@ -1,9 +1,8 @@
 -- What code may rely on holds of a file of which numbers 2, 3, 4 and 7 say nothing, at each of its functions.
 use mathlib.Core.Path.{_≡_, refl, ap, sym, _∙_}
-use mathlib.Core.Bool.{Bool, true, false, _||_, not, true≢false}
+use mathlib.Core.Bool.{Bool, true, false, _||_, not}
 use mathlib.Core.List.{List, [], _∷_, map}
 use Prim.Native.Nat.{ℕ, zero, suc, _+_, _*_, _<_, _≤_}
-use native.Mathlib.Nat.{add-zero}
 use native.Mathlib.Omega.{arith}
 use borrow.Author.Tests.{ltb-true, ltb-false, leb-false, not-false}
 use lib.Dec.{leb, ltb}
@@ -11,20 +10,12 @@ use lib.ListN.{length, getD, length-map, List·getD-eq-default}
 use Rattle.definitions.specs.Basics.{all, any, anyNumbered, isZero}
 use Rattle.definitions.specs.ContractFile.{FieldRecord, FunctionRecord, NodeRecord, byteAt, fieldCount, functionCount, functionsAt, functionEnd, functionsEnd, nodesAt, nodeCount, fieldRecords, parameterRecords, functionRecord, functionRecords, nodeRecord, sectionsOf, fieldOf, Node, unknownNode, nodeOf, nodeAt, children, expressionParts, statementParts, isExpression, isStatement, fieldsNamed}
 use Rattle.definitions.specs.Numbers.{countOffLimits, fieldInTables, parameterInTables, nodeInTables, outsideTables, fieldOfDeclaredOwner, namesNothing, wrongSort}
+use Rattle.laws.proofs.Records.{field-record, fields-length, force-is, functions-length, parameters-length}
+use Rattle.laws.proofs.TruthValues.{or-left, or-right}
 use Rattle.trees.specs.Trees.{Falling}
 use Rattle.trees.proofs.Falls.{nodes-fall}
-use Rattle.file.proofs.Laws.{force-is}
 use Rattle.file.proofs.Sections.{fields-are, functions-are, count-of-nodes, node-of}
 use Rattle.context.specs.Context.{nodesIn, fieldRecordAt, Context}
-use Rattle.context.proofs.Declarations.{fields-length, parameters-length}
-
-or-left : (a b : Bool) → (a || b) ≡ false → a ≡ false
-or-left true b h = h
-or-left false b h = refl
-
-or-right : (a b : Bool) → (a || b) ≡ false → b ≡ false
-or-right true b h = absurd (true≢false h)
-or-right false b h = h
 
 none-at : {A : Type 0} (test : A → Bool) (xs : List A) → any test xs ≡ false → (i : ℕ) (d : A) → i < length xs → test (getD xs i d) ≡ false
 unfolding any
@@ -32,27 +23,11 @@ none-at test [] h i d l = absurd (omega arith)
 none-at test (x ∷ xs) h zero d l = or-left (test x) (any test xs) h
 none-at test (x ∷ xs) h (suc i) d l = none-at test xs (or-right (test x) (any test xs) h) i d (omega arith)
 
-none-numbered : {A : Type 0} (test : ℕ → A → Bool) (n : ℕ) (xs : List A) → anyNumbered test n xs ≡ false → (i : ℕ) (d : A) → i < length xs → test (n + i) (getD xs i d) ≡ false
-unfolding anyNumbered
-none-numbered test n [] h i d l = absurd (omega arith)
-none-numbered test n (x ∷ xs) h zero d l = rw (add-zero n) (or-left (test n x) (anyNumbered test (suc n) xs) h)
-none-numbered test n (x ∷ xs) h (suc i) d l =
-    let e : n + suc i ≡ suc n + i = omega arith in
-    rw e (none-numbered test (suc n) xs (or-right (test n x) (anyNumbered test (suc n) xs) h) i d (omega arith))
-
 -- None at or above k: all below k. None that fails a test: all pass it.
 none-fails : (test : ℕ → Bool) (xs : List ℕ) → any (λ x. not (test x)) xs ≡ false → all test xs ≡ true
 unfolding any all
 none-fails test [] h = refl
 none-fails test (x ∷ xs) h = rw (not-false (test x) (or-left (not (test x)) _ h), none-fails test xs (or-right (not (test x)) _ h))
-
--- The record of a field and of a function, by its number.
-field-record : (k : ℕ) (file : List ℕ) (at f : ℕ) (other : FieldRecord) → f < k
-    → getD (fieldRecords k file at) f other ≡ record { shape = byteAt file (at + 3 * f); type = byteAt file (at + 3 * f + 1); owner = byteAt file (at + 3 * f + 2) }
-unfolding fieldRecords
-field-record zero file at f other h = absurd (omega arith)
-field-record (suc k) file at zero other h = let e : at + 3 * 0 ≡ at = omega arith in rw e
-field-record (suc k) file at (suc f) other h = let e : at + 3 * suc f ≡ at + 3 + 3 * f = omega arith in rw e (field-record k file (at + 3) f other (omega arith))
 
 pub function-record : (k : ℕ) (file : List ℕ) (at f : ℕ) (other : FunctionRecord) → f < k → getD (functionRecords k file at) f other ≡ functionRecord file (functionsEnd f file at)
 unfolding functionRecords functionsEnd
@@ -61,12 +36,6 @@ function-record (suc k) file at zero other h = refl
 function-record (suc k) file at (suc f) other h =
     rw (force-is (functionEnd file at) (functionRecords k file), force-is (functionEnd file at) (functionsEnd f file))
     (function-record k file (functionEnd file at) f other (omega arith))
-
-pub functions-length : (k : ℕ) (file : List ℕ) (at : ℕ) → length (functionRecords k file at) ≡ k
-unfolding functionRecords
-functions-length zero file at = refl
-functions-length (suc k) file at =
-    ap suc (ap length (force-is (functionEnd file at) (functionRecords k file)) ∙ functions-length k file (functionEnd file at))
 
 abbrev manyParameters : FunctionRecord → Bool
 manyParameters r = ltb 8 (length (r .parameters))

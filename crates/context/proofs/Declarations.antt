@@ -1,11 +1,12 @@
 -- A field and a parameter of the scope, by their number: as the bytes at its place say, or what stands for none.
-use mathlib.Core.Path.{_≡_, refl, ap}
+use mathlib.Core.Path.{_≡_}
 use mathlib.Core.Bool.{true}
 use mathlib.Core.List.{List, map}
 use Prim.Native.Nat.{ℕ, zero, suc, _+_, _*_, _<_, _≤_}
 use native.Mathlib.Omega.{arith}
-use lib.ListN.{length, getD, length-map, List·getD-eq-default}
+use lib.ListN.{getD, length-map, List·getD-eq-default}
 use Rattle.definitions.specs.ContractFile.{Field, Parameter, fieldAt, parameterAt, plainField, boolean, toEveryone, byteAt, fieldCount, fieldRecords, parameterRecords, fieldOf, parameterOf}
+use Rattle.laws.proofs.Records.{fields-length, parameters-length}
 use Rattle.file.proofs.Sections.{fields-are}
 use Rattle.context.specs.Context.{fieldsIn, parametersIn, fieldRecordAt, parameterRecordAt}
 
@@ -23,16 +24,6 @@ unfolding parameterRecords
 parameters-at zero file at k other h = absurd (omega arith)
 parameters-at (suc c) file at zero other h = let e : at + 2 * 0 ≡ at = omega arith in rw e
 parameters-at (suc c) file at (suc k) other h = let e : at + 2 * suc k ≡ at + 2 + 2 * k = omega arith in rw e (parameters-at c file (at + 2) k other (omega arith))
-
-pub fields-length : (k : ℕ) (file : List ℕ) (at : ℕ) → length (fieldRecords k file at) ≡ k
-unfolding fieldRecords
-fields-length zero file at = refl
-fields-length (suc k) file at = ap suc (fields-length k file (at + 3))
-
-pub parameters-length : (k : ℕ) (file : List ℕ) (at : ℕ) → length (parameterRecords k file at) ≡ k
-unfolding parameterRecords
-parameters-length zero file at = refl
-parameters-length (suc k) file at = ap suc (parameters-length k file (at + 2))
 
 module _ (file : List ℕ) (f : ℕ) where
   pub field-declared : f < fieldCount file → fieldAt (fieldsIn file) f ≡ fieldOf (fieldRecordAt file f)

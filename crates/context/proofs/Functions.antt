@@ -1,17 +1,19 @@
 -- Function f of a contract, as the bytes at its place say.
 use mathlib.Core.Path.{_≡_, refl, ap, _∙_}
-use mathlib.Core.List.{List, [], _∷_, map}
-use Prim.Native.Nat.{ℕ, zero, suc, _+_, _<_}
+use mathlib.Core.List.{List, [], map}
+use Prim.Native.Nat.{ℕ, _+_, _<_}
 use mathlib.Core.Bool.{false}
 use native.Mathlib.Omega.{arith}
 use lib.ListN.{length, getD, length-map, List·getD-map}
 use Rattle.definitions.specs.ContractFile.{functionAt, FunctionRecord, functionCount, functionsAt, functionRecord, nodeCount, sectionsOf, nodeOf, functionOf, contractOf}
 use Rattle.definitions.specs.Numbers.{namesNothing}
+use Rattle.laws.proofs.Lists.{getD-inside}
+use Rattle.laws.proofs.Records.{functions-length}
 use Rattle.trees.specs.Trees.{statementIn}
 use Rattle.file.proofs.Sections.{functions-are, count-of-nodes}
 use Rattle.context.specs.Context.{nodesIn, fieldsIn, parametersIn}
 use Rattle.context.specs.Functions.{functionStart, rootAt}
-use Rattle.context.proofs.Accepted.{function-record, functions-length, root-inside}
+use Rattle.context.proofs.Accepted.{function-record, root-inside}
 
 pub fields-in : (file : List ℕ) → (contractOf (sectionsOf file)) .fields ≡ fieldsIn file
 unfolding contractOf fieldsIn
@@ -26,11 +28,6 @@ functions-count file =
 record-of : (file : List ℕ) (f : ℕ) (other : FunctionRecord) → f < functionCount file → getD ((sectionsOf file) .functions) f other ≡ functionRecord file (functionStart file f)
 record-of file f other h =
     ap (λ (l : List FunctionRecord). getD l f other) (functions-are file) ∙ function-record (functionCount file) file (functionsAt file + 1) f other h
-
-getD-inside : {A : Type 0} (l : List A) (i : ℕ) (a b : A) → i < length l → getD l i a ≡ getD l i b
-getD-inside [] i a b h = absurd (omega arith)
-getD-inside (x ∷ l) zero a b h = refl
-getD-inside (x ∷ l) (suc i) a b h = getD-inside l i a b (omega arith)
 
 pub function-in : (file : List ℕ) (f : ℕ) → f < functionCount file
     → functionAt ((contractOf (sectionsOf file)) .functions) f

@@ -1,6 +1,6 @@
 -- What the expression of a node is, by the kind of its record, and that its children's numbers are below its own.
 use mathlib.Core.Path.{_≡_, refl, ap, sym, subst, _∙_}
-use mathlib.Core.Bool.{Bool, true, false, _&&_, cond, false≢true}
+use mathlib.Core.Bool.{Bool, true, false, cond, false≢true}
 use mathlib.Core.List.{List, map}
 use Prim.Native.Nat.{ℕ, _+_, _*_, _<_, _≤_}
 use native.Mathlib.Omega.{arith}
@@ -10,19 +10,12 @@ use lib.ListN.{getD, length-map, List·getD-map, List·getD-eq-default}
 use Rattle.definitions.specs.Basics.{all}
 use Rattle.definitions.specs.ContractFile.{Expression, Statement, NodeRecord, nodesAt, nodeCount, nodeRecord, sectionsOf, dataTypeOf, ownerOfCode, operatorOf, Kind, constantKind, meKind, fieldKind, entryKind, parameterKind, operatorKind, negationKind, revealKind, skipKind, sequenceKind, assignFieldKind, assignEntryKind, requireKind, conditionalKind, noKind, kindOf, Node, unknownNode, nodeOfKind, nodeOf, nodeAt, children, expressionParts, statementParts, expressionOf}
 use Rattle.definitions.specs.Numbers.{kindInTables}
+use Rattle.laws.proofs.TruthValues.{and-left, and-right}
 use Rattle.trees.specs.Trees.{expressionIn, Keeps}
 use Rattle.trees.proofs.Unfolding.{expression-unfolds}
 use Rattle.trees.proofs.Kept.{unknown-keeps}
 use Rattle.file.proofs.Sections.{node-of, count-of-nodes}
 use Rattle.context.specs.Context.{nodesIn, Context}
-
-pub both-left : (a b : Bool) → a && b ≡ true → a ≡ true
-both-left true b e = refl
-both-left false b e = e
-
-pub both-right : (a b : Bool) → a && b ≡ true → b ≡ true
-both-right true b e = e
-both-right false b e = absurd (false≢true e)
 
 -- The kinds that make no expression but me.
 abbrev isOtherKind : Kind → Bool
@@ -162,18 +155,18 @@ module _ (file : List ℕ) (functionStart nodesStart : ℕ) (context : Context f
 
   pub key-below : r .kind ≡ 4 → r .first < n
   unfolding nodeOfKind expressionParts statementParts all kindOf
-  key-below e = ltb-true (r .first) n (both-left (ltb (r .first) n) true (children-below entryKind (rw e)))
+  key-below e = ltb-true (r .first) n (and-left (ltb (r .first) n) true (children-below entryKind (rw e)))
 
   pub part-below : r .kind ≡ 7 → r .first < n
   unfolding nodeOfKind expressionParts statementParts all kindOf
-  part-below e = ltb-true (r .first) n (both-left (ltb (r .first) n) true (children-below negationKind (rw e)))
+  part-below e = ltb-true (r .first) n (and-left (ltb (r .first) n) true (children-below negationKind (rw e)))
 
   pub revealed-below : r .kind ≡ 8 → r .first < n
   unfolding nodeOfKind expressionParts statementParts all kindOf
-  revealed-below e = ltb-true (r .first) n (both-left (ltb (r .first) n) true (children-below revealKind (rw e)))
+  revealed-below e = ltb-true (r .first) n (and-left (ltb (r .first) n) true (children-below revealKind (rw e)))
 
   pub operands-below : r .kind ≡ 6 → (r .first < n) × (r .second < n)
   unfolding nodeOfKind expressionParts statementParts all kindOf
   operands-below e =
       let h = children-below operatorKind (rw e) in
-      (ltb-true (r .first) n (both-left (ltb (r .first) n) _ h), ltb-true (r .second) n (both-left (ltb (r .second) n) true (both-right (ltb (r .first) n) _ h)))
+      (ltb-true (r .first) n (and-left (ltb (r .first) n) _ h), ltb-true (r .second) n (and-left (ltb (r .second) n) true (and-right (ltb (r .first) n) _ h)))

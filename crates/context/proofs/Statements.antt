@@ -7,10 +7,11 @@ use borrow.Author.Tests.{ne-eqb, ltb-true}
 use lib.Dec.{eqb, ltb}
 use Rattle.definitions.specs.Basics.{all}
 use Rattle.definitions.specs.ContractFile.{Statement, NodeRecord, nodeCount, nodeRecord, Kind, constantKind, meKind, fieldKind, entryKind, parameterKind, operatorKind, negationKind, revealKind, skipKind, sequenceKind, assignFieldKind, assignEntryKind, requireKind, conditionalKind, noKind, kindOf, Node, nodeOfKind, expressionParts, statementParts, statementOf}
+use Rattle.laws.proofs.TruthValues.{and-left, and-right}
 use Rattle.trees.specs.Trees.{expressionIn, statementIn}
 use Rattle.trees.proofs.Unfolding.{statement-unfolds}
 use Rattle.context.specs.Context.{nodesIn, Context}
-use Rattle.context.proofs.Nodes.{node-is, children-below, both-left, both-right}
+use Rattle.context.proofs.Nodes.{node-is, children-below}
 
 -- The kinds that hold no other part.
 abbrev isStillKind : Kind → Bool
@@ -112,25 +113,25 @@ module _ (file : List ℕ) (functionStart nodesStart : ℕ) (context : Context f
   unfolding nodeOfKind expressionParts statementParts all kindOf
   steps-below e =
       let h = children-below file functionStart nodesStart context n inside r same sequenceKind (rw e) in
-      (ltb-true (r .first) n (both-left (ltb (r .first) n) _ h), ltb-true (r .second) n (both-left (ltb (r .second) n) true (both-right (ltb (r .first) n) _ h)))
+      (ltb-true (r .first) n (and-left (ltb (r .first) n) _ h), ltb-true (r .second) n (and-left (ltb (r .second) n) true (and-right (ltb (r .first) n) _ h)))
 
   pub value-below : r .kind ≡ 18 → r .first < n
   unfolding nodeOfKind expressionParts statementParts all kindOf
-  value-below e = ltb-true (r .first) n (both-left (ltb (r .first) n) true (children-below file functionStart nodesStart context n inside r same assignFieldKind (rw e)))
+  value-below e = ltb-true (r .first) n (and-left (ltb (r .first) n) true (children-below file functionStart nodesStart context n inside r same assignFieldKind (rw e)))
 
   pub key-and-value-below : r .kind ≡ 19 → (r .first < n) × (r .second < n)
   unfolding nodeOfKind expressionParts statementParts all kindOf
   key-and-value-below e =
       let h = children-below file functionStart nodesStart context n inside r same assignEntryKind (rw e) in
-      (ltb-true (r .first) n (both-left (ltb (r .first) n) _ h), ltb-true (r .second) n (both-left (ltb (r .second) n) true (both-right (ltb (r .first) n) _ h)))
+      (ltb-true (r .first) n (and-left (ltb (r .first) n) _ h), ltb-true (r .second) n (and-left (ltb (r .second) n) true (and-right (ltb (r .first) n) _ h)))
 
   pub required-below : r .kind ≡ 20 → r .first < n
   unfolding nodeOfKind expressionParts statementParts all kindOf
-  required-below e = ltb-true (r .first) n (both-left (ltb (r .first) n) true (children-below file functionStart nodesStart context n inside r same requireKind (rw e)))
+  required-below e = ltb-true (r .first) n (and-left (ltb (r .first) n) true (children-below file functionStart nodesStart context n inside r same requireKind (rw e)))
 
   pub branches-below : r .kind ≡ 21 → (r .first < n) × ((r .second < n) × (r .third < n))
   unfolding nodeOfKind expressionParts statementParts all kindOf
   branches-below e =
       let h = children-below file functionStart nodesStart context n inside r same conditionalKind (rw e) in
-      let g = both-right (ltb (r .first) n) _ h in
-      (ltb-true (r .first) n (both-left (ltb (r .first) n) _ h), (ltb-true (r .second) n (both-left (ltb (r .second) n) _ g), ltb-true (r .third) n (both-left (ltb (r .third) n) true (both-right (ltb (r .second) n) _ g))))
+      let g = and-right (ltb (r .first) n) _ h in
+      (ltb-true (r .first) n (and-left (ltb (r .first) n) _ h), (ltb-true (r .second) n (and-left (ltb (r .second) n) _ g), ltb-true (r .third) n (and-left (ltb (r .third) n) true (and-right (ltb (r .second) n) _ g))))

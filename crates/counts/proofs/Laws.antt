@@ -9,10 +9,10 @@ use borrow.Author.Tests.{lt-ltb, le-ltb}
 use Rattle.definitions.specs.Basics.{any}
 use Rattle.definitions.specs.ContractFile.{FunctionRecord, byteAt, functionEnd, functionRecord, functionRecords}
 use Rattle.definitions.specs.Numbers.{countOffLimits}
+use Rattle.laws.proofs.Records.{parameters-length}
 use Rattle.file.specs.declared.Layout.{Layout}
 use Rattle.file.specs.Layout.{IsLayout}
 use Rattle.file.proofs.Sections.{functions-are}
-use Rattle.nodes.proofs.Steps.{length-parameterRecords}
 use Rattle.nodes.proofs.Scans.{functions-next, functions-found}
 
 abbrev pub hasManyParameters : FunctionRecord → Bool
@@ -22,7 +22,7 @@ module _ (left : ℕ) (file : List ℕ) (at : ℕ) (goal : Bool) (inv : any hasM
     (count : ℕ)
     (e : count ≡ byteAt file at) where
   counted : length ((functionRecord file at) .parameters) ≡ count
-  counted = length-parameterRecords (byteAt file at) file (at + 1) ∙ sym e
+  counted = parameters-length (byteAt file at) file (at + 1) ∙ sym e
 
   pub many-next : count ≤ 8 → (next : ℕ) → next ≡ functionEnd file at → any hasManyParameters (functionRecords (left - 1) file next) ≡ goal
   many-next few next ends = functions-next hasManyParameters left file at goal inv h next ends (ap (ltb 8) counted ∙ le-ltb 8 count few)

@@ -1,5 +1,5 @@
 -- A file of number 0 is short enough for a ledger: "0 to 64" fields, "1 to 16" functions of at most 8 parameters, at most 512 nodes.
-use mathlib.Core.Path.{_≡_, refl, ap, sym, _∙_}
+use mathlib.Core.Path.{_≡_, ap, sym, _∙_}
 use mathlib.Core.Bool.{Bool, false, _||_}
 use mathlib.Core.List.{List}
 use Prim.Native.Nat.{ℕ, zero, suc, _+_, _*_, _≤_}
@@ -9,15 +9,15 @@ use lib.Dec.{eqb, ltb}
 use lib.ListN.{length}
 use Rattle.definitions.specs.Basics.{any, isZero}
 use Rattle.definitions.specs.ContractFile.{FunctionRecord, byteAt, fieldCount, functionCount, functionsAt, functionEnd, functionsEnd, nodesAt, nodeCount, fileEnd, parameterRecords, functionRecord, functionRecords, sectionsOf}
-use Rattle.definitions.specs.Numbers.{endsWrongly, countOffLimits, checkNumber, orElse}
+use Rattle.definitions.specs.Numbers.{endsWrongly, countOffLimits, checkNumber}
 use Rattle.definitions.specs.Ledger.{deployNumber}
-use Rattle.file.proofs.Laws.{force-is}
+use Rattle.laws.proofs.Records.{force-is, parameters-length}
+use Rattle.laws.proofs.TruthValues.{or-else-first}
 use Rattle.file.proofs.Sections.{functions-are}
 use Rattle.nodes.proofs.Truth.{either-false}
 use Rattle.numbers.specs.Settled.{Settled}
 use Rattle.reading.specs.Shape.{shapeNumber}
 use Rattle.reading.proofs.Laws.{settled, check-after-shape}
-use Rattle.context.proofs.Declarations.{parameters-length}
 use Rattle.context.proofs.Accepted.{few-fields, few-functions, few-nodes}
 
 abbrev manyParameters : FunctionRecord → Bool
@@ -35,13 +35,9 @@ functions-near (suc k) file at h =
     let near = functions-near k file (functionEnd file at) later in
     rw (force-is (functionEnd file at) (functionsEnd k file)) (omega arith)
 
-zero-first : (first second : ℕ) → orElse first second ≡ 0 → first ≡ 0
-zero-first zero second h = refl
-zero-first (suc n) second h = h
-
 module _ (file : List ℕ) (accepted : checkNumber file ≡ 0) where
   shaped : Settled file
-  shaped = settled file (zero-first (shapeNumber file) _ (sym (check-after-shape file) ∙ accepted))
+  shaped = settled file (or-else-first (shapeNumber file) _ (sym (check-after-shape file) ∙ accepted))
 
   pub accepted-fields : fieldCount file ≤ 64
   accepted-fields = few-fields file (shaped .counts)
@@ -67,4 +63,4 @@ pub deployed-accepted : (file addresses : List ℕ) (number : ℕ) → number �
 unfolding deployNumber
 deployed-accepted file addresses number e h =
     let none : deployNumber file addresses ≡ 0 = omega arith in
-    zero-first (checkNumber file) _ none
+    or-else-first (checkNumber file) _ none

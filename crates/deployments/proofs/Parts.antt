@@ -7,12 +7,13 @@ use native.Mathlib.Numerals.{add-one}
 use native.Mathlib.Omega.{arith}
 use lib.ListN.{length, getD, set, take, drop, replicate, length-append, length-map, length-replicate}
 use lib.Seq.{getD-drop, take-at, take-suc, take-suc-set, take-all}
+use Rattle.laws.proofs.Lists.{numbers-length}
 use Rattle.buffer.specs.Buffer.{stored}
 use Rattle.definitions.specs.ContractFile.{Field, Shape, plainField, finalField, mapping, isFinal, isMapping, contractOf, fieldCount, contractIn}
 use Rattle.definitions.specs.Original.{numbersFrom, placeCount, perPlace, deployedNumbers}
 use Rattle.context.specs.Context.{fieldsIn}
 use Rattle.deployments.specs.Deployments.{Deployable}
-use Rattle.deployments.proofs.Places.{length-numbers, asked}
+use Rattle.deployments.proofs.Places.{asked}
 
 pub fields-in : (file : List ℕ) → (contractIn file) .fields ≡ fieldsIn file
 unfolding contractOf fieldsIn
@@ -33,7 +34,7 @@ module _ {A : Type 0} (ask : Field → ℕ → A) where
       places : length (map (ask d) (numbersFrom 0 (placeCount d)) ++ perPlace ask ds) ≡ placeCount d + length (perPlace ask ds)
       places =
           length-append (map (ask d) (numbersFrom 0 (placeCount d))) (perPlace ask ds)
-          ∙ ap (λ (n : ℕ). n + length (perPlace ask ds)) (length-map (numbersFrom 0 (placeCount d)) (ask d) ∙ length-numbers 0 (placeCount d))
+          ∙ ap (λ (n : ℕ). n + length (perPlace ask ds)) (length-map (numbersFrom 0 (placeCount d)) (ask d) ∙ numbers-length 0 (placeCount d))
 
       go : length (deployedNumbers ds (drop 1 addresses)) ≡ length (perPlace ask ds) → length (deployedNumbers ds addresses) ≡ length (perPlace ask ds)
           → (b : Bool) → isFinal (d .shape) ≡ b

@@ -1,7 +1,7 @@
 -- The contents of all places at deployment, field by field and key by key.
 use mathlib.Core.Path.{_≡_, refl, ap, sym, _∙_, subst}
 use mathlib.Core.List.{List, [], _∷_, _++_, map, zipWith, append-nil, append-assoc}
-use Prim.Native.Nat.{ℕ, zero, suc, _+_, _-_, _<_, _≤_}
+use Prim.Native.Nat.{ℕ, suc, _+_, _-_, _<_, _≤_}
 use native.Mathlib.Numerals.{add-one}
 use native.Mathlib.Omega.{arith}
 use lib.ListN.{length, getD, set, take, drop, length-append, length-map, length-drop, drop-of-length-le}
@@ -10,11 +10,11 @@ use Rattle.definitions.specs.ContractFile.{Field, FieldOwner, toEveryone, toKey
 use Rattle.definitions.specs.Original as original
 use Rattle.definitions.specs.Original.{numbersFrom, placeCount, perPlace, placeReader, finalAddress}
 use Rattle.definitions.specs.Ledger as ledger
+use Rattle.laws.proofs.Lists.{map-append, numbers-length}
 use Rattle.contents.specs.declared.Content.{Content}
 use Rattle.contents.specs.declared.Place.{Place}
 use Rattle.contents.specs.Contents.{contentOfCode, contentOfPlace}
 use Rattle.ledgers.specs.Ledgers.{contentsIn}
-use Rattle.ledgers.proofs.Flat.{map-append}
 use Rattle.readers.specs.declared.Reader.{Reader}
 use Rattle.readers.specs.declared.Reader.the-variants.{Anyone, Only}
 use Rattle.readers.specs.Readers.{readerOfCode, Short}
@@ -53,11 +53,6 @@ contents-append (r ∷ rs) ss [] h = absurd (omega arith)
 contents-append (r ∷ rs) ss (n ∷ ns) h =
     contents-first r (rs ++ ss) n ns ∙ ap (λ (l : List ledger.Content). ledger.contentFor r 0 0 n ∷ l) (contents-append rs ss ns (omega arith))
     ∙ ap (λ (l : List ledger.Content). l ++ contentsFor ss (drop (length rs) ns)) (sym (contents-first r rs n ns))
-
-pub length-numbers : (n count : ℕ) → length (numbersFrom n count) ≡ count
-unfolding numbersFrom
-length-numbers n zero = refl
-length-numbers n (suc count) = ap suc (length-numbers (suc n) count)
 
 -- A place more is given its content.
 place-more : (places : List Place) (n m : ℕ) (content : Content) → n < length places → m ≡ suc n
@@ -120,7 +115,7 @@ module _ (fields : List Field) (numbers : List ℕ) where
   readers-step f inside = rw (opened fields f inside, add-one f)
 
   readers-long : (f count : ℕ) → length (readersOf fields numbers f 0 count) ≡ count
-  readers-long f count = length-map (numbersFrom 0 count) (placeReader (finalAddress fields numbers) ((fieldAt fields f) .owner)) ∙ length-numbers 0 count
+  readers-long f count = length-map (numbersFrom 0 count) (placeReader (finalAddress fields numbers) ((fieldAt fields f) .owner)) ∙ numbers-length 0 count
 
   module _ (f p many : ℕ) (inside : f < length fields) (same : many ≡ placeCount (fieldAt fields f)) where
     pub field-counted : p + length (perPlace asked (drop f fields)) ≡ length numbers → p + many + length (perPlace asked (drop (f + 1) fields)) ≡ length numbers

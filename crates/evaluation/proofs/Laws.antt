@@ -2,13 +2,14 @@
 use mathlib.Core.Path.{_≡_, refl, ap, _∙_}
 use mathlib.Core.Bool.{Bool, true, false, _&&_, not}
 use mathlib.Core.List.{List}
-use Prim.Native.Nat.{ℕ, zero, suc}
+use Prim.Native.Nat.{ℕ}
 use borrow.Author.Tests.{ne-eqb}
 use lib.ListN.{getD}
 use Rattle.definitions.specs.ContractFile.{DataType, isDivision, operatorOf}
 use Rattle.definitions.specs.Original.{position, operate, operates, negate}
 use Rattle.definitions.specs.Rewriting.{BodyExpression}
 use Rattle.definitions.specs.Ledger as ledger
+use Rattle.laws.proofs.Codes.{other-operator}
 use Rattle.context.specs.Context.{fieldsIn}
 use Rattle.contents.specs.Contents.{contentOfCode, contentsOf}
 use Rattle.evaluation.specs.Evaluation.{stateOf, contentFrom, walkedFrom, Gives}
@@ -20,22 +21,8 @@ fails-divide code divisor e z = rw (e, z)
 pub fails-remainder : (code divisor : ℕ) → code ≡ 4 → divisor ≡ 0 → false ≡ operates (operatorOf code) divisor
 fails-remainder code divisor e z = rw (e, z)
 
-no-division : (code : ℕ) → (code ≡ 3 → ⊥) → (code ≡ 4 → ⊥) → isDivision (operatorOf code) ≡ false
-no-division zero h k = refl
-no-division (suc zero) h k = refl
-no-division (suc (suc zero)) h k = refl
-no-division (suc (suc (suc zero))) h k = absurd (h refl)
-no-division (suc (suc (suc (suc zero)))) h k = absurd (k refl)
-no-division (suc (suc (suc (suc (suc zero))))) h k = refl
-no-division (suc (suc (suc (suc (suc (suc zero)))))) h k = refl
-no-division (suc (suc (suc (suc (suc (suc (suc zero))))))) h k = refl
-no-division (suc (suc (suc (suc (suc (suc (suc (suc zero)))))))) h k = refl
-no-division (suc (suc (suc (suc (suc (suc (suc (suc (suc zero))))))))) h k = refl
-no-division (suc (suc (suc (suc (suc (suc (suc (suc (suc (suc zero)))))))))) h k = refl
-no-division (suc (suc (suc (suc (suc (suc (suc (suc (suc (suc (suc code))))))))))) h k = refl
-
 pub works-other : (code divisor : ℕ) → (code ≡ 3 → ⊥) → (code ≡ 4 → ⊥) → true ≡ operates (operatorOf code) divisor
-works-other code divisor h k = rw (no-division code h k)
+works-other code divisor h k = rw (other-operator code h k)
 
 never-both : (a : Bool) → true ≡ not (a && false)
 never-both true = refl

@@ -9,12 +9,13 @@ use lib.Dec.{eqb, leb, ltb}
 use Rattle.definitions.specs.ContractFile.{meName, finalName, parameterName, everyone, ownedBy, toEveryone, toKey, toFinal, FieldRecord, NodeRecord, byteAt, fieldCount, nodesAt, nodeRecord, isFinalCode, ownerOfCode, fieldOf, Kind, constantKind, meKind, fieldKind, entryKind, parameterKind, operatorKind, negationKind, revealKind, skipKind, sequenceKind, assignFieldKind, assignEntryKind, requireKind, conditionalKind, noKind, kindOf, nodeOfKind, expressionOf, statementOf, statementAt}
 use Rattle.definitions.specs.Numbers.{fieldInTables, targetInTables, kindInTables}
 use Rattle.definitions.specs.Rewriting.{Guard}
+use Rattle.laws.proofs.TruthValues.{and-left, and-right}
 use Rattle.trees.specs.Trees.{statementIn, Keeps}
 use Rattle.trees.proofs.Kept.{statement-kept}
 use Rattle.events.specs.Events.{statementEvents}
 use Rattle.context.specs.Context.{nodesIn, scopeIn, fieldRecordAt, Context}
 use Rattle.context.proofs.Declarations.{field-declared, field-missing, parameter-missing}
-use Rattle.context.proofs.Nodes.{nodes-keep, both-left, both-right}
+use Rattle.context.proofs.Nodes.{nodes-keep}
 use Rattle.event_owners.specs.Listed.{Listed, ownersListed}
 use Rattle.event_owners.proofs.Owners.{Declared, ListedScope, targetsListed, targetsListedIn, events-listed}
 
@@ -36,7 +37,7 @@ target-listed code h =
         → Listed (cond a everyone (cond b (ownedBy meName) (cond c (ownedBy (finalName (code - 16))) (ownedBy (parameterName (code - 128))))))
     go true b c e l = tt
     go false true c e l = tt
-    go false false true e l = let m = ltb-true code 80 (both-right (leb 16 code) (ltb code 80) e) in omega arith
+    go false false true e l = let m = ltb-true code 80 (and-right (leb 16 code) (ltb code 80) e) in omega arith
     go false false false e l = omega arith
 
 -- A declared owner is 0, 2 or below 80.
@@ -52,7 +53,7 @@ unfolding fieldInTables fieldOf
 declared-listed r h =
     let owner = r .owner in
     let owners = eqb owner 0 || isFinalCode owner || (eqb owner 2 && eqb (r .shape) 2) in
-    let listed = both-right (leb (r .shape) 2 && leb (r .type) 2) owners (both-left (leb (r .shape) 2 && leb (r .type) 2 && owners) _ h) in
+    let listed = and-right (leb (r .shape) 2 && leb (r .type) 2) owners (and-left (leb (r .shape) 2 && leb (r .type) 2 && owners) _ h) in
     go owner (eqb owner 0) (eqb owner 2) (declared-below owner (eqb owner 0) (leb 16 owner) (ltb owner 80) (eqb owner 2) (eqb (r .shape) 2) refl refl refl listed)
   where
     go : (code : ℕ) (a b : Bool) → code < 80 → Declared (cond a toEveryone (cond b toKey (toFinal (code - 16))))
@@ -70,7 +71,7 @@ kind-keeps parameterKind r h below part = (tt, λ later each. tt)
 kind-keeps operatorKind r h below part = ((part (r .first), part (r .second)), λ later each. tt)
 kind-keeps negationKind r h below part = (part (r .first), λ later each. tt)
 kind-keeps revealKind r h below part =
-    ((target-listed (r .arg) (both-left (targetInTables (r .arg)) _ (both-left _ _ h)), part (r .first)), λ later each. tt)
+    ((target-listed (r .arg) (and-left (targetInTables (r .arg)) _ (and-left _ _ h)), part (r .first)), λ later each. tt)
 kind-keeps skipKind r h below part = (tt, λ later each. tt)
 kind-keeps sequenceKind r h below part = (tt, λ later each. (each (r .first), each (r .second)))
 kind-keeps assignFieldKind r h below part = (tt, λ later each. part (r .first))

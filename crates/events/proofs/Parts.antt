@@ -1,19 +1,16 @@
 -- An expression's events are those of its parts, with what it makes itself.
 use mathlib.Core.Path.{_≡_, refl, ap, sym}
-use mathlib.Core.Bool.{Bool, true, false, _&&_, cond, not, false≢true}
+use mathlib.Core.Bool.{Bool, true, false, _&&_, cond, not}
 use Rattle.definitions.specs.ContractFile.{Owner, everyone, ownedBy, Expression, Scope, isEveryone, isDivision}
 use Rattle.definitions.specs.Owners.{ownerOf, isPublic}
 use Rattle.definitions.specs.Rewriting.{Guard}
+use Rattle.laws.proofs.Codes.{everyone-is}
 use Rattle.events.specs.Events.{Events, supplyEvents, readEvents, bodyEvents, circuitEvents, placeEvents}
 use Rattle.events.specs.Parts.{isSupplied, isRead, suppliedFor, eachPart}
 
 other-way : {A : Type 0} (b : Bool) (x y : A) → cond b x y ≡ cond (not b) y x
 other-way true x y = refl
 other-way false x y = refl
-
-everyone-is : (o : Owner) → isEveryone o ≡ true → o ≡ everyone
-everyone-is everyone h = refl
-everyone-is (ownedBy n) h = absurd (false≢true h)
 
 module _ (scope : Scope) (g : Guard) where
   pub body-is : (e : Expression)

@@ -7,6 +7,7 @@ use lib.ListN.{length, length-map}
 use Rattle.definitions.specs.ContractFile.{Expression, Scope, nodeRecord, nodeCount, operatorOf, parameterRecords, parameterOf, nodeAt, nodeOf}
 use Rattle.definitions.specs.Owners.{Links, linksOfCondition, withLinkOf, nameOf}
 use Rattle.definitions.specs.Numbers.{targetInTables}
+use Rattle.laws.proofs.Records.{parameters-length}
 use Rattle.file.specs.Node.{IsNode, recordOf}
 use Rattle.links.specs.Names.{nameWith}
 use Rattle.file.specs.declared.Node.{Node}
@@ -15,7 +16,6 @@ use Rattle.judgements.specs.declared.Judged.{Judged}
 use Rattle.scopes.specs.Trees.{nodesOf}
 use Rattle.scopes.specs.Scopes.{Ready}
 use Rattle.scopes.specs.declared.Parameters.{Parameters}
-use Rattle.scopes.proofs.Lists.{length-parameterRecords}
 use Rattle.scopes.proofs.ByKind.{node-read, node-named}
 use Rattle.scopes.proofs.Settling.{reveal-listed}
 
@@ -28,7 +28,7 @@ module _ (file : List ℕ) (start n : ℕ) (p : Parameters) (node : Node) (ready
   target-listed e = reveal-listed file (ready .settled) n (recordOf node) inside (node-read file start n (recordOf node) (ready .nodes) inside (is .same)) e
 
 pub count-parameters : (file : List ℕ) (p : Parameters) → length (map parameterOf (parameterRecords (p .count) file (p .at))) ≡ p .count
-count-parameters file p = length-map (parameterRecords (p .count) file (p .at)) parameterOf ∙ length-parameterRecords (p .count) file (p .at)
+count-parameters file p = length-map (parameterRecords (p .count) file (p .at)) parameterOf ∙ parameters-length (p .count) file (p .at)
 
 pub judged-same : (scope : Scope) (linked : Links) (e f : Expression) (r q : Judged) → e ≡ f → r ≡ q → JudgedAs scope linked f q → JudgedAs scope linked e r
 judged-same scope linked e f r q s t h = rw (s, t) h

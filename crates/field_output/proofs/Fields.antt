@@ -8,34 +8,22 @@ use borrow.Author.Tests.{leb-true, eqb-true}
 use lib.Dec.{eqb, leb}
 use lib.ListN.{length, length-append}
 use Rattle.definitions.specs.Basics.{flatMap, isZero}
-use Rattle.definitions.specs.ContractFile.{dataTypeCode, shapeCode, byteAt, fieldCount, dataTypeOf, shapeOf, isFinalCode, fieldOwnerOfCode, fieldOwnerCode, fieldRecords, fieldOf}
+use Rattle.definitions.specs.ContractFile.{shapeCode, byteAt, fieldCount, shapeOf, isFinalCode, fieldOwnerOfCode, fieldOwnerCode, fieldRecords, fieldOf}
 use Rattle.definitions.specs.Numbers.{fieldInTables}
 use Rattle.definitions.specs.Rewriting.{fieldBytes}
+use Rattle.laws.proofs.Codes.{type-code}
+use Rattle.laws.proofs.TruthValues.{and-left, and-right}
 use Rattle.file.proofs.Sections.{fields-are}
 use Rattle.append.specs.Append.{Appended, Appending}
 use Rattle.append.proofs.Laws.{appended-then, three-appended, appending-room, appending-next, appending-done}
 use Rattle.context.specs.Context.{fieldsIn}
 use Rattle.field_output.specs.Fields.{fieldRead, writtenType, writtenField, fieldsFrom, fieldSection, FieldsListed}
 
-and-left : (a b : Bool) → (a && b) ≡ true → a ≡ true
-and-left true b h = refl
-and-left false b h = h
-
-and-right : (a b : Bool) → (a && b) ≡ true → b ≡ true
-and-right true b h = h
-and-right false b h = absurd (true≢false (sym h))
-
 shape-kept : (code : ℕ) → code ≤ 2 → shapeCode (shapeOf code) ≡ code
 shape-kept zero h = refl
 shape-kept (suc zero) h = refl
 shape-kept (suc (suc zero)) h = refl
 shape-kept (suc (suc (suc code))) h = absurd (omega arith)
-
-type-kept : (code : ℕ) → code ≤ 2 → dataTypeCode (dataTypeOf code) ≡ code
-type-kept zero h = refl
-type-kept (suc zero) h = refl
-type-kept (suc (suc zero)) h = refl
-type-kept (suc (suc (suc code))) h = absurd (omega arith)
 
 -- An owner of the tables: everyone, a mapping's key, or a final.
 owner-kept : (owner : ℕ) (b : Bool) → (isZero owner || isFinalCode owner || (eqb owner 2 && b)) ≡ true → fieldOwnerCode (fieldOwnerOfCode owner) ≡ owner
@@ -66,7 +54,7 @@ module _ (shape type owner : ℕ) (listed : fieldInTables (fieldRead shape type 
   unfolding writtenField fieldOf
   field-kept =
       let s = shape-kept shape (leb-true shape 2 (and-left (leb shape 2) (leb type 2) two-listed)) in
-      let t = type-kept type (leb-true type 2 (and-right (leb shape 2) (leb type 2) two-listed)) in
+      let t = type-code type (leb-true type 2 (and-right (leb shape 2) (leb type 2) two-listed)) in
       let o = owner-kept owner (eqb shape 2) (and-right (leb shape 2 && leb type 2) ownerListed three-listed) in
       (λ k. s k ∷ cond (eqb (o k) 0) (t k) 3 ∷ o k ∷ [])
 

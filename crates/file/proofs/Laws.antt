@@ -1,15 +1,11 @@
 -- Steps of the definitions that read a file: functions one after another, and nodes by their number.
-use mathlib.Core.Path.{_≡_, refl, ap, sym, _∙_}
+use mathlib.Core.Path.{_≡_, sym, _∙_}
 use mathlib.Core.List.{List}
 use Prim.Native.Nat.{ℕ, zero, suc, _+_, _*_, _-_, _<_, _≤_}
 use native.Mathlib.Omega.{arith}
 use lib.ListN.{length, getD, List·getD-eq-default}
-use Rattle.definitions.specs.Basics.{force}
 use Rattle.definitions.specs.ContractFile.{NodeRecord, byteAt, functionEnd, functionsEnd, nodeRecord, nodeRecords}
-
-pub force-is : {A : Type 0} (n : ℕ) (f : ℕ → A) → force n f ≡ f n
-force-is zero f = refl
-force-is (suc n) f = refl
+use Rattle.laws.proofs.Records.{force-is}
 
 functionsEnd-step : (k : ℕ) (file : List ℕ) (at : ℕ) → 0 < k → functionsEnd k file at ≡ functionsEnd (k - 1) file (functionEnd file at)
 unfolding functionsEnd
@@ -26,11 +22,6 @@ pub functionsEnd-done : (k : ℕ) (file : List ℕ) (at goal : ℕ) → k ≤ 0 
 unfolding functionsEnd
 functionsEnd-done zero file at goal h inv = inv
 functionsEnd-done (suc k) file at goal h inv = absurd (omega arith)
-
-pub length-nodeRecords : (k : ℕ) (file : List ℕ) (at : ℕ) → length (nodeRecords k file at) ≡ k
-unfolding nodeRecords
-length-nodeRecords zero file at = refl
-length-nodeRecords (suc k) file at = ap suc (length-nodeRecords k file (at + 8))
 
 -- Node n of the section stands 8 n bytes after the first.
 pub getD-nodeRecords : (k : ℕ) (file : List ℕ) (at n : ℕ) (other : NodeRecord) → n < k

@@ -4,7 +4,8 @@ use mathlib.Core.List.{List}
 use Prim.Native.Nat.{ℕ, _+_, _*_, _<_}
 use lib.ListN.{length, getD}
 use Rattle.definitions.specs.ContractFile.{NodeRecord, fieldRecords, fieldCount, functionRecords, functionCount, functionsAt, nodeRecord, nodeRecords, nodeCount, nodesAt, sectionsOf}
-use Rattle.file.proofs.Laws.{force-is, length-nodeRecords, getD-nodeRecords}
+use Rattle.laws.proofs.Records.{force-is, node-records-length}
+use Rattle.file.proofs.Laws.{getD-nodeRecords}
 
 pub fields-are : (file : List ℕ) → (sectionsOf file) .fields ≡ fieldRecords (fieldCount file) file 1
 unfolding sectionsOf
@@ -19,7 +20,7 @@ unfolding sectionsOf
 nodes-are file = force-is (nodesAt file + 2) (nodeRecords (nodeCount file) file)
 
 pub count-of-nodes : (file : List ℕ) → length ((sectionsOf file) .nodes) ≡ nodeCount file
-count-of-nodes file = ap length (nodes-are file) ∙ length-nodeRecords (nodeCount file) file (nodesAt file + 2)
+count-of-nodes file = ap length (nodes-are file) ∙ node-records-length (nodeCount file) file (nodesAt file + 2)
 
 pub node-of : (file : List ℕ) (n : ℕ) (other : NodeRecord) → n < nodeCount file
     → getD ((sectionsOf file) .nodes) n other ≡ nodeRecord file (nodesAt file + 2 + 8 * n)

@@ -60,11 +60,6 @@ unfolding openings flatMap
 opening-trees [] i later = refl
 opening-trees (k ∷ ks) i later = opening-trees ks (suc i) later
 
-pub opening-variables : (ks : List ℕ) (i : ℕ) → length ((openings ks i) .variables) ≡ length ks
-unfolding openings
-opening-variables [] i = refl
-opening-variables (k ∷ ks) i = ap suc (opening-variables ks (suc i))
-
 pub opening-claims : (ks : List ℕ) (i : ℕ) (later : List Constraint) → length (heldUnder always ((openings ks i) .claims) ++ later) ≡ length ks + length later
 unfolding openings
 opening-claims [] i later = omega arith

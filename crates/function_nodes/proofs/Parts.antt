@@ -8,19 +8,19 @@ use lib.ListN.{length, length-map}
 use Rattle.definitions.specs.Basics.{flatMap}
 use Rattle.definitions.specs.ContractFile.{Parameter, Scope, byteAt, nodesAt, nodeCount, parameterRecords, parameterOf, sectionsOf, nodeOf}
 use Rattle.definitions.specs.Rewriting.{always, Constraint, WrittenFunction, privateParameters, openings, heldUnder, Tree, size, sizes, numberedAll, nodeBytes, commandTree, claimTrees, functionTrees}
+use Rattle.laws.proofs.Records.{parameters-length}
+use Rattle.laws.proofs.Written.{opening-count, sizes-append}
 use Rattle.trees.specs.Trees.{statementIn}
 use Rattle.file.proofs.Sections.{count-of-nodes}
 use Rattle.buffer.specs.Buffer.{stored}
 use Rattle.buffer.proofs.Laws.{stored-length}
 use Rattle.context.specs.Context.{Context, nodesIn, fieldsIn, parametersIn, scopeIn}
 use Rattle.context.specs.Functions.{rootAt}
-use Rattle.context.proofs.Declarations.{parameters-length}
 use Rattle.node_output.proofs.Laws.{run-then}
 use Rattle.events.specs.Events.{Event, suppliedEvent, claimedEvent, readEvent, guardEvent, constraintsOf, statementEvents}
 use Rattle.events.proofs.Functions.{function-constraints}
 use Rattle.parameter_output.specs.Parameters.{privateCount}
 use Rattle.function_room.specs.Functions.{functionIn, writtenIn, privateIn, eventsIn, FunctionRoom}
-use Rattle.written_trees.proofs.Functions.{sizes-append}
 use Rattle.circuit_output.specs.declared.Circuits.{Circuits}
 use Rattle.circuit_output.specs.Circuits.{treesOf, foursOf, claimsIn, Claimable, CircuitsRoom, CircuitsPut}
 use Rattle.written_trees.specs.Numbers.{constraintNumbers}
@@ -28,7 +28,7 @@ use Rattle.circuit_output.proofs.Logged.{claims-logged, circuits-logged, count-
 use Rattle.circuit_output.proofs.Claimable.{claimable}
 use Rattle.circuit_output.proofs.Within.{statement-within, claims-few}
 use Rattle.function_nodes.specs.Functions.{openingNumbers, circuitTrees, FunctionLogged, ConstraintsReady, ConstraintsPut}
-use Rattle.function_nodes.proofs.Openings.{numbers-length, opening-numbers, opening-trees, opening-variables, opening-claims}
+use Rattle.function_nodes.proofs.Openings.{numbers-length, opening-numbers, opening-trees, opening-claims}
 
 private-few : (k : ℕ) (ps : List Parameter) → length (privateParameters k ps) ≤ length ps
 unfolding privateParameters
@@ -67,7 +67,7 @@ module _ (file : List ℕ) (at : ℕ) where
       let body = statementIn (nodesIn file) (rootAt file at) in
       function-constraints (fieldsIn file) (functionIn file at)
       ∙ ap (λ (i : ℕ). heldUnder always ((openings privates 0) .claims) ++ constraintsOf (scopeIn file at) (statementEvents (scopeIn file at) body always i))
-      (opening-variables privates 0 ∙ private-is)
+      (opening-count privates 0 ∙ private-is)
 
   numbers-are : constraintNumbers 0 (written .constraints) ≡ openingNumbers 0 (privateIn file at) ++ constraintNumbers 0 claims
   numbers-are =

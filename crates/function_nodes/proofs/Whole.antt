@@ -9,10 +9,11 @@ use lib.Dec.{ltb}
 use lib.ListN.{length}
 use Rattle.definitions.specs.Basics.{flatMap}
 use Rattle.definitions.specs.Rewriting.{WrittenFunction, Tree, sizes, numbered, numberedAll, nodeBytes, commandTree, functionTrees}
+use Rattle.laws.proofs.Written.{nodes-length}
 use Rattle.buffer.specs.Buffer.{stored}
 use Rattle.buffer.proofs.Laws.{stored-length}
 use Rattle.node_output.specs.Numbering.{treeBytes, Numbered}
-use Rattle.node_output.proofs.Laws.{nodes-length, nodes-append, run-then}
+use Rattle.node_output.proofs.Laws.{nodes-append, run-then}
 use Rattle.written_trees.proofs.Functions.{numbered-append, all-length}
 use Rattle.function_room.specs.Functions.{writtenIn, FunctionRoom}
 use Rattle.circuit_output.specs.declared.Circuits.{Circuits}

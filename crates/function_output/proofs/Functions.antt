@@ -8,12 +8,13 @@ use lib.Dec.{ltb}
 use lib.ListN.{length}
 use Rattle.definitions.specs.Basics.{flatMap}
 use Rattle.definitions.specs.Rewriting.{Tree, size, sizes, numbered, numberedAll, nodeBytes, commandTree, functionTrees, functionBytes}
+use Rattle.laws.proofs.Written.{nodes-length}
 use Rattle.buffer.specs.Buffer.{stored}
 use Rattle.buffer.proofs.Laws.{stored-length}
 use Rattle.append.specs.Append.{Appended}
 use Rattle.context.specs.Context.{scopeIn}
 use Rattle.node_output.specs.Numbering.{treeBytes, Numbered}
-use Rattle.node_output.proofs.Laws.{nodes-append, nodes-length, run-then}
+use Rattle.node_output.proofs.Laws.{nodes-append, run-then}
 use Rattle.written_trees.proofs.Functions.{numbered-append, all-length}
 use Rattle.body_output.specs.Bodies.{BodyReady}
 use Rattle.function_room.specs.Functions.{writtenIn, eventsIn}

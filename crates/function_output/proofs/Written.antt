@@ -7,6 +7,7 @@ use lib.ListN.{length, length-append, length-map}
 use Rattle.definitions.specs.Basics.{flatMap}
 use Rattle.definitions.specs.ContractFile.{Scope, nodeCount, sectionsOf, nodeOf}
 use Rattle.definitions.specs.Rewriting.{always, Constraint, heldUnder, privateParameters, openings, Tree, size, sizes, commandTree, claimTrees, functionTrees}
+use Rattle.laws.proofs.Written.{claim-count, opening-count, sizes-append}
 use Rattle.file.proofs.Sections.{count-of-nodes}
 use Rattle.trees.specs.Trees.{statementIn}
 use Rattle.context.specs.Context.{nodesIn, fieldsIn, parametersIn, scopeIn}
@@ -14,7 +15,6 @@ use Rattle.context.specs.Functions.{rootAt}
 use Rattle.events.specs.Events.{Event, suppliedEvent, claimedEvent, readEvent, guardEvent, constraintsOf, statementEvents}
 use Rattle.events.proofs.Functions.{function-constraints}
 use Rattle.parameter_output.specs.Parameters.{privateCount}
-use Rattle.written_trees.proofs.Functions.{sizes-append}
 use Rattle.function_room.specs.Functions.{functionIn, writtenIn, privateIn}
 use Rattle.function_output.specs.Writing.{constraintsIn, circuitsIn}
 
@@ -30,16 +30,6 @@ constraints-few scope (suppliedEvent i o e ∷ events) = let h = constraints-few
 constraints-few scope (claimedEvent g i o e ∷ events) = let h = constraints-few scope events in omega arith
 constraints-few scope (readEvent s j o e ∷ events) = let h = constraints-few scope events in omega arith
 constraints-few scope (guardEvent i ∷ events) = let h = constraints-few scope events in omega arith
-
-opening-count : (ks : List ℕ) (i : ℕ) → length ((openings ks i) .variables) ≡ length ks
-unfolding openings
-opening-count [] i = refl
-opening-count (k ∷ ks) i = ap suc (opening-count ks (suc i))
-
-claim-count : (ks : List ℕ) (i : ℕ) → length (heldUnder always ((openings ks i) .claims)) ≡ length ks
-unfolding openings
-claim-count [] i = refl
-claim-count (k ∷ ks) i = ap suc (claim-count ks (suc i))
 
 abbrev treesIn : List Constraint → List Tree
 treesIn cs = flatMap (λ c. claimTrees (c .claim)) cs

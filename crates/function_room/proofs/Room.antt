@@ -8,6 +8,7 @@ use lib.ListN.{length, length-map}
 use Rattle.definitions.specs.ContractFile.{Statement, Parameter, Function, functionAt, byteAt, functionCount, nodesAt, nodeCount, parameterRecords, parameterOf, sectionsOf, contractOf}
 use Rattle.definitions.specs.Numbers.{checkNumber}
 use Rattle.definitions.specs.Rewriting.{always, privateParameters}
+use Rattle.laws.proofs.Records.{parameters-length}
 use Rattle.file.proofs.Sections.{count-of-nodes}
 use Rattle.numbers.specs.Settled.{Settled}
 use Rattle.numbers.proofs.Sentences.{accepted-settled}
@@ -15,7 +16,6 @@ use Rattle.trees.specs.Trees.{statementIn}
 use Rattle.context.specs.Context.{nodesIn, fieldsIn, parametersIn, scopeIn, Context}
 use Rattle.context.specs.Functions.{functionStart, rootAt}
 use Rattle.context.proofs.Accepted.{few-functions, context-of}
-use Rattle.context.proofs.Declarations.{parameters-length}
 use Rattle.context.proofs.Functions.{functions-count, function-in, root-below}
 use Rattle.events.specs.Events.{variableCount}
 use Rattle.trees.specs.Sizes.{statementSize}

@@ -7,30 +7,19 @@ use lib.ListN.{length, take, getD, length-append, length-map, List·getD-map}
 use lib.Seq.{take-all, take-suc}
 use Rattle.definitions.specs.Basics.{flatMap, twoBytes}
 use Rattle.definitions.specs.ContractFile.{Field, Function, functionAt, NodeRecord, fieldCount, functionCount, functionsAt, functionEnd, functionsEnd, sectionsOf, fieldOf, contractOf}
-use Rattle.definitions.specs.Rewriting.{WrittenFunction, rewriteFunction, rewrite, Tree, leaf, oneChild, twoChildren, threeChildren, setting, size, numbered, functionTrees, sizes, numberedAll, nodeBytes, fieldBytes, functionBytes, functionsBytes, contractBytes, writtenFile}
-use Rattle.file.proofs.Laws.{force-is}
+use Rattle.definitions.specs.Rewriting.{WrittenFunction, rewriteFunction, rewrite, Tree, size, numbered, functionTrees, sizes, numberedAll, nodeBytes, fieldBytes, functionBytes, functionsBytes, contractBytes, writtenFile}
+use Rattle.laws.proofs.Lists.{flat-append, four-lengths}
+use Rattle.laws.proofs.Records.{fields-length, force-is}
+use Rattle.laws.proofs.Written.{all-length, nodes-length, sizes-append}
 use Rattle.file.proofs.Sections.{fields-are}
 use Rattle.context.specs.Context.{fieldsIn}
 use Rattle.context.specs.Functions.{functionStart}
-use Rattle.context.proofs.Declarations.{fields-length}
 use Rattle.context.proofs.Functions.{fields-in, functions-count, function-in}
 use Rattle.function_room.specs.Functions.{writtenIn, writtenFunctions, headingsBefore, nodesBefore}
-
--- Lists one behind another.
-flat-append : {A B : Type 0} (f : A → List B) (a b : List A) → flatMap f (a ++ b) ≡ flatMap f a ++ flatMap f b
-unfolding flatMap
-flat-append f [] b = refl
-flat-append f (x ∷ a) b = ap (λ (l : List _). f x ++ l) (flat-append f a b) ∙ sym (append-assoc (f x) (flatMap f a) (flatMap f b))
 
 flat-one : {A B : Type 0} (f : A → List B) (x : A) → flatMap f (x ∷ []) ≡ f x
 unfolding flatMap
 flat-one f x = append-nil (f x)
-
--- Trees and functions one behind another.
-pub sizes-append : (a b : List Tree) → sizes (a ++ b) ≡ sizes a + sizes b
-unfolding sizes
-sizes-append [] b = omega arith
-sizes-append (t ∷ a) b = let h = sizes-append a b in omega arith
 
 pub numbered-append : (n : ℕ) (a b : List Tree) → numberedAll n (a ++ b) ≡ numberedAll n a ++ numberedAll (n + sizes a) b
 unfolding numberedAll sizes
@@ -59,34 +48,6 @@ functions-one : (n : ℕ) (w : WrittenFunction) → functionsBytes n (w ∷ []) 
 unfolding functionsBytes
 functions-one n w = append-nil (functionBytes n w)
 
-numbered-length : (n : ℕ) (t : Tree) → length (numbered n t) ≡ size t
-unfolding numbered size
-numbered-length n (leaf kind arg first second) = refl
-numbered-length n (oneChild kind arg first) = simp length-append (let h = numbered-length n first in omega arith)
-numbered-length n (twoChildren kind arg first second) =
-    simp length-append (let h = numbered-length n first in let k = numbered-length (n + size first) second in omega arith)
-numbered-length n (threeChildren kind first second third) =
-    simp length-append
-    (let h = numbered-length n first in
-    let k = numbered-length (n + size first) second in
-    let m = numbered-length (n + size first + size second) third in
-    omega arith)
-numbered-length n (setting variable value) = simp length-append (let h = numbered-length n value in omega arith)
-
--- As many nodes as the trees have, and eight bytes for each.
-pub nodes-length : (n : ℕ) (ts : List Tree) → length (numberedAll n ts) ≡ sizes ts
-unfolding numberedAll sizes
-nodes-length n [] = refl
-nodes-length n (t ∷ ts) =
-    let h = nodes-length (n + size t) ts in
-    let k = numbered-length n t in
-    omega (arith, length-append (numbered n t) (numberedAll (n + size t) ts))
-
-pub node-bytes-length : (rs : List NodeRecord) → length (flatMap nodeBytes rs) ≡ 8 * length rs
-unfolding flatMap
-node-bytes-length [] = refl
-node-bytes-length (r ∷ rs) = let h = node-bytes-length rs in omega (arith, length-append (nodeBytes r) (flatMap nodeBytes rs))
-
 field-bytes-length : (ds : List Field) → length (flatMap fieldBytes ds) ≡ 3 * length ds
 unfolding flatMap
 field-bytes-length [] = refl
@@ -104,9 +65,6 @@ layout : (fields : List Field) (ws : List WrittenFunction) (m n : ℕ) → lengt
     ≡ (m ∷ flatMap fieldBytes fields) ++ (n ∷ functionsBytes 0 ws) ++ twoBytes (sizes (flatMap functionTrees ws)) ++ flatMap nodeBytes (numberedAll 0 (flatMap functionTrees ws))
 unfolding contractBytes
 layout fields ws m n h k = rw (h, k)
-
-four-lengths : (a b c d : List ℕ) → length (a ++ b ++ c ++ d) ≡ length a + length b + length c + length d
-four-lengths a b c d = simp length-append
 
 module _ (file : List ℕ) where
   written-are : writtenFunctions file ≡ map (rewriteFunction (fieldsIn file)) ((contractOf (sectionsOf file)) .functions)
@@ -182,7 +140,7 @@ module _ (file : List ℕ) where
   headings-first = omega arith
 
   pub nodes-before-length : (f : ℕ) → length (flatMap nodeBytes (numberedAll 0 (treesBefore f))) ≡ 8 * nodesBefore file f
-  nodes-before-length f = omega (arith, node-bytes-length (numberedAll 0 (treesBefore f)), nodes-length 0 (treesBefore f))
+  nodes-before-length f = omega (arith, nodes-length (numberedAll 0 (treesBefore f)), all-length 0 (treesBefore f))
 
   pub file-whole : writtenFile file
       ≡ (fieldCount file ∷ flatMap fieldBytes (fieldsIn file)) ++ (functionCount file ∷ functionsBytes 0 (writtenFunctions file))

@@ -8,11 +8,12 @@ use lib.ListN.{length, take}
 use Rattle.definitions.specs.ContractFile.{byteAt}
 use Rattle.definitions.specs.Rewriting.{WrittenFunction, sizes, numberedAll, commandTree, functionTrees}
 use Rattle.definitions.specs.Ledger as ledger
+use Rattle.laws.proofs.Written.{nodes-length}
 use Rattle.buffer.proofs.Laws.{stored-length}
 use Rattle.context.specs.Context.{Context, nodesIn, fieldsIn}
 use Rattle.context.specs.Functions.{rootAt}
 use Rattle.contents.specs.Contents.{contentsOf}
-use Rattle.node_output.proofs.Laws.{nodes-length, size-positive}
+use Rattle.node_output.proofs.Laws.{size-positive}
 use Rattle.entries.specs.declared.Position.{Position}
 use Rattle.entries.specs.Logs.{Logged}
 use Rattle.logged_steps.proofs.Held.{stored-holds}

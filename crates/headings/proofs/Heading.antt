@@ -1,7 +1,7 @@
 -- A written function's heading and its crossings are what the file's parameters and the log of its body's events tell.
 use mathlib.Core.Path.{_≡_, refl, ap, ap₂, sym, _∙_}
 use mathlib.Core.Bool.{Bool}
-use mathlib.Core.List.{List, [], _∷_, _++_, map, append-assoc}
+use mathlib.Core.List.{List, [], _∷_, _++_, map}
 use Prim.Native.Nat.{ℕ, zero, suc, _+_, _-_}
 use native.Mathlib.Omega.{arith}
 use lib.Dec.{leb}
@@ -10,6 +10,8 @@ use Rattle.definitions.specs.Basics.{countIf, flatMap}
 use Rattle.definitions.specs.ContractFile.{Statement, Field, Parameter, Scope, parameterRecords, parameterOf, Node}
 use Rattle.definitions.specs.Rewriting.{Variable, origin, always, Constraint, WrittenFunction, heldUnder, privateParameters, openings, rewriteStatement, rewriteFunction, sizes, functionTrees, variableBytes, keyOf, eachOnce, constraintBytes, functionBytes}
 use Rattle.definitions.specs.Report.{crossings}
+use Rattle.laws.proofs.Lists.{flat-append}
+use Rattle.laws.proofs.Written.{claim-count, opening-count}
 use Rattle.events.specs.Events.{Event, variablesOf, constraintsOf, variableCount, statementEvents}
 use Rattle.events.proofs.Statements.{statement-made}
 use Rattle.entries.specs.Entries.{Entries}
@@ -20,11 +22,6 @@ use Rattle.parameter_output.specs.Parameters.{parametersFrom, privateCount, ope
 use Rattle.parameter_output.proofs.Openings.{opening-variables, opening-keys, opening-claims}
 use Rattle.headings.specs.Heading.{headingOf, loggedHeading}
 
-flat-append : {A : Type 0} (f : A → List ℕ) (a b : List A) → flatMap f (a ++ b) ≡ flatMap f a ++ flatMap f b
-unfolding flatMap
-flat-append f [] b = refl
-flat-append f (x ∷ a) b = ap (λ (ys : List ℕ). f x ++ ys) (flat-append f a b) ∙ sym (append-assoc (f x) (flatMap f a) (flatMap f b))
-
 count-append : {A : Type 0} (test : A → Bool) (a b : List A) → countIf test (a ++ b) ≡ countIf test a + countIf test b
 unfolding countIf
 count-append test [] b = omega arith
@@ -34,16 +31,6 @@ records-length : (n : ℕ) (file : List ℕ) (at : ℕ) → length (parameterRec
 unfolding parameterRecords
 records-length zero file at = refl
 records-length (suc n) file at = ap suc (records-length n file (at + 2))
-
-opening-count : (ks : List ℕ) (i : ℕ) → length ((openings ks i) .variables) ≡ length ks
-unfolding openings
-opening-count [] i = refl
-opening-count (k ∷ ks) i = ap suc (opening-count ks (suc i))
-
-claim-count : (ks : List ℕ) (i : ℕ) → length (heldUnder always ((openings ks i) .claims)) ≡ length ks
-unfolding openings
-claim-count [] i = refl
-claim-count (k ∷ ks) i = ap suc (claim-count ks (suc i))
 
 -- A private parameter's read is a crossing.
 opening-crossings : (ks : List ℕ) (i : ℕ) → countIf (λ v. leb (origin v) 3) ((openings ks i) .variables) ≡ length ks

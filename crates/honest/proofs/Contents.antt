@@ -10,6 +10,7 @@ use Rattle.definitions.specs.ContractFile.{Name, meName, Expression, Statement}
 use Rattle.definitions.specs.Rewriting.{Variable, supplied, readFrom, guard, Guard, always, under, inBody, single, kept, inSequence, inBranch, inBranches, rewriteStatement, openings}
 use Rattle.definitions.specs.Original.{readerOf}
 use Rattle.definitions.specs.Ledger.{Content, plain, contentFor, honestContents, honestVariables}
+use Rattle.laws.proofs.Written.{opening-count}
 use Rattle.context.specs.Context.{scopeIn}
 use Rattle.events.specs.Events.{Events, variablesOf, bodyEvents, statementEvents}
 use Rattle.events.proofs.Pieces.{body-made}
@@ -235,11 +236,6 @@ module _ (file : List ℕ) (functionStart : ℕ) (arguments : List ℕ) (caller 
   unfolding openings suppliedNumber
   opening-numbers p [] i = refl
   opening-numbers p (k ∷ ks) i = ap (λ (l : List ℕ). 0 ∷ l) (opening-numbers p ks (suc i))
-
-  pub opening-count : (ks : List ℕ) (i : ℕ) → length ((openings ks i) .variables) ≡ length ks
-  unfolding openings
-  opening-count [] i = refl
-  opening-count (k ∷ ks) i = ap suc (opening-count ks (suc i))
 
   -- All honest variables of a call, from a number for each.
   pub call-is : (s : Statement) (p ks : List ℕ)

@@ -1,11 +1,12 @@
 -- Steps of the loop that writes items one behind another.
 use mathlib.Core.Path.{_≡_, refl, ap, sym, _∙_}
 use mathlib.Core.List.{List, [], _∷_, _++_, append-assoc}
-use Prim.Native.Nat.{ℕ, zero, suc, _+_, _*_, _<_, _≤_, min}
+use Prim.Native.Nat.{ℕ, _+_, _*_, _<_, _≤_, min}
 use native.Mathlib.Numerals.{add-one}
 use native.Mathlib.Omega.{arith}
 use lib.ListN.{length, getD, take, drop, drop-of-length-le, length-append, length-map, length-take, List·getD-map}
 use lib.Seq.{drop-cons, getD-take}
+use Rattle.laws.proofs.Lists.{getD-inside}
 use Rattle.buffer.specs.Buffer.{stored}
 use Rattle.buffer.proofs.Laws.{stored-nothing, stored-then}
 use Rattle.definitions.specs.Basics.{flatMap}
@@ -54,11 +55,6 @@ pub shown-done : (party : ℕ) (contents : List ledger.Content) (i at : ℕ) (ou
 unfolding shown flatMap
 shown-done party contents i at out goal h inv = sym (stored-nothing out (at + 10 * i)) ∙ (rw (drop-of-length-le contents h) at inv)
 
-getD-default : {A : Type 0} (l : List A) (i : ℕ) (a b : A) → i < length l → getD l i a ≡ getD l i b
-getD-default [] i a b h = absurd (omega arith)
-getD-default (x ∷ l) zero a b h = refl
-getD-default (x ∷ l) (suc i) a b h = getD-default l i a b (omega arith)
-
 pub contents-length : (count : ℕ) (places : List Place) → length (contentsIn count places) ≡ min count (length places)
 contents-length count places = length-map (take count places) contentOfPlace ∙ length-take count places
 
@@ -66,7 +62,7 @@ pub content-of-place : (count : ℕ) (places : List Place) (i : ℕ) (other : Pl
     → ledger.contentAt (contentsIn count places) i ≡ contentOfPlace (getD places i other)
 content-of-place count places i other h k =
     List·getD-map contentOfPlace (take count places) i (record { content = Plain 0 })
-    ∙ ap contentOfPlace (getD-take count places i (record { content = Plain 0 }) h ∙ getD-default places i (record { content = Plain 0 }) other k)
+    ∙ ap contentOfPlace (getD-take count places i (record { content = Plain 0 }) h ∙ getD-inside places i (record { content = Plain 0 }) other k)
 
 -- One place more is shown.
 pub items-next : (party count : ℕ) (places : List Place) (i at : ℕ) (other : Place) (out after goal : List ℕ) → i < count → i < length places

@@ -1,6 +1,6 @@
 -- Steps of the loops between places and flat numbers.
 use mathlib.Core.Path.{_≡_, refl, ap, sym, _∙_}
-use mathlib.Core.List.{List, [], _∷_, _++_, map}
+use mathlib.Core.List.{List, [], _∷_, map}
 use mathlib.Core.Bool.{Bool, true, false}
 use Prim.Native.Nat.{ℕ, _+_, _*_, _/_, _<_, _≤_, min}
 use native.Mathlib.Numerals.{add-one}
@@ -10,14 +10,11 @@ use lib.Dec.{leb}
 use lib.ListN.{length, getD, set, take, length-map}
 use lib.Seq.{take-suc, take-suc-set, take-all}
 use Rattle.definitions.specs.Ledger as ledger
+use Rattle.laws.proofs.Lists.{map-append}
 use Rattle.contents.specs.declared.Content.{Content}
 use Rattle.contents.specs.declared.Place.{Place}
 use Rattle.contents.specs.Contents.{contentOfCode, contentOfPlace, contentsOf}
 use Rattle.contents.proofs.Laws.{length-contentsOf}
-
-pub map-append : {A B : Type 0} (f : A → B) (xs ys : List A) → map f (xs ++ ys) ≡ map f xs ++ map f ys
-map-append f [] ys = refl
-map-append f (x ∷ xs) ys = ap (λ (l : List _). f x ∷ l) (map-append f xs ys)
 
 -- As many as there are, or all.
 pub take-many : {A : Type 0} (count many : ℕ) (l : List A) → many ≡ min count (length l) → take many l ≡ take count l

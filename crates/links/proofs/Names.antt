@@ -1,12 +1,13 @@
 -- Owner codes that are in the tables, and the names that they give.
 use mathlib.Core.Path.{_≡_, refl}
-use mathlib.Core.Bool.{Bool, true, false, cond, _&&_, _||_, false≢true}
+use mathlib.Core.Bool.{Bool, true, false, cond, _||_, false≢true}
 use Prim.Native.Nat.{ℕ, zero, suc, _+_, _-_, _≤_, _<_}
 use native.Mathlib.Omega.{arith}
 use borrow.Author.Tests.{ltb-true, leb-true, lt-ltb, le-ltb, le-leb, ne-eqb}
 use lib.Dec.{eqb, leb, ltb}
 use Rattle.definitions.specs.ContractFile.{Name, meName, finalName, parameterName, everyone, ownedBy, isFinalCode, isParameterCode, ownerOfCode}
 use Rattle.definitions.specs.Numbers.{targetInTables}
+use Rattle.laws.proofs.TruthValues.{and-parts}
 use Rattle.links.specs.Names.{nameOfCode, codeOfName, known}
 
 pub data Listed (code : ℕ) : Type 0 where
@@ -14,10 +15,6 @@ pub data Listed (code : ℕ) : Type 0 where
   caller : code ≡ 1 → Listed code
   final : (f : ℕ) → f < 64 → code ≡ 16 + f → Listed code
   argument : (k : ℕ) → k < 8 → code ≡ 128 + k → Listed code
-
-and-parts : (a b : Bool) → (a && b) ≡ true → (a ≡ true) × (b ≡ true)
-and-parts true b h = (refl, h)
-and-parts false b h = absurd (false≢true h)
 
 pub listed : (code : ℕ) → targetInTables code ≡ true → Listed code
 listed code h = go (leb code 1) refl (isFinalCode code) refl (isParameterCode code) refl h

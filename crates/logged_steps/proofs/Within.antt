@@ -9,7 +9,7 @@ use lib.ListN.{length, length-append}
 use Rattle.definitions.specs.ContractFile.{meName, Owner, everyone, ownedBy, Operator, Expression, Statement, Scope, fieldAt, isDivision}
 use Rattle.definitions.specs.Owners.{nameOf, placeOwner, isPublic}
 use Rattle.definitions.specs.Rewriting.{Guard, under}
-use Rattle.context.proofs.Nodes.{both-left}
+use Rattle.laws.proofs.TruthValues.{and-left}
 use Rattle.variable_counts.specs.Counts.{bodyCount}
 use Rattle.variable_counts.proofs.Counts.{body-makes}
 use Rattle.variable_counts.proofs.Steps.{body-field, body-parameter, body-entry, body-operator}
@@ -101,7 +101,7 @@ module _ (scope : Scope) where
         (λ h. read-within everyone e _ (turn-within _ _ a b)
         (λ i. count-append (bodyEvents scope g left i) (bodyEvents scope g right (i + variableCount (bodyEvents scope g left i)))
         ∙ ap₂ _+_ (counted-body left i) (counted-body right (i + variableCount (bodyEvents scope g left i)))
-        ∙ body-operator scope e o left right refl (both-left (isPublic scope e) (isDivision o) h)))
+        ∙ body-operator scope e o left right refl (and-left (isPublic scope e) (isDivision o) h)))
         (λ h. turn-within _ _ c d)
 
     mutual

@@ -2,7 +2,7 @@
 use mathlib.Core.Path.{_≡_, refl, ap, sym, _∙_, subst}
 use mathlib.Core.Bool.{Bool, true, false, _||_, cond}
 use mathlib.Core.List.{List, [], _∷_, _++_}
-use Prim.Native.Nat.{ℕ, zero, suc, _+_, _%_, _<_, _≤_}
+use Prim.Native.Nat.{ℕ, _+_, _%_, _<_, _≤_}
 use native.Mathlib.Omega.{arith}
 use borrow.Author.Tests.{eqb-true, eqb-false, eq-eqb, ne-eqb}
 use lib.Dec.{eqb}
@@ -10,6 +10,7 @@ use lib.ListN.{length, getD, set, drop, replicate}
 use lib.Seq.{getD-set-same, getD-set-other}
 use Rattle.definitions.specs.Basics.{any}
 use Rattle.definitions.specs.Rewriting.{eachOnce}
+use Rattle.laws.proofs.Lists.{zeros-at}
 use Rattle.append.specs.Append.{Appended, Appending}
 use Rattle.append.proofs.Laws.{appended-nothing, appending-start, appending-same, appending-room, appending-next, appending-done}
 use Rattle.logged_variables.specs.PerEntry.{perEntry}
@@ -33,15 +34,10 @@ once-is seen (k ∷ ks) =
     let more = once-is (k ∷ seen) ks in
     λ i. cond (any (eqb k) seen) (rest i) (k ∷ more i)
 
-none-seen : (n x : ℕ) → _≡_ {A = ℕ} (getD (replicate n 0) x 0) 0
-none-seen zero x = refl
-none-seen (suc n) zero = refl
-none-seen (suc n) (suc x) = none-seen n x
-
 -- An empty table has seen nothing.
 pub once-start : (n : ℕ) (ks : List ℕ) → onceUnseen (seenIn (replicate n 0)) ks ≡ eachOnce [] ks
 unfolding any
-once-start n ks = once-same (seenIn (replicate n 0)) (λ k. any (eqb k) []) (λ x. ap (λ (v : ℕ). eqb v 1) (none-seen n x)) ks ∙ sym (once-is [] ks)
+once-start n ks = once-same (seenIn (replicate n 0)) (λ k. any (eqb k) []) (λ x. ap (λ (v : ℕ). eqb v 1) (zeros-at n x)) ks ∙ sym (once-is [] ks)
 
 -- The tests after some codes.
 unfoldable afterCodes : (ℕ → Bool) → List ℕ → ℕ → Bool

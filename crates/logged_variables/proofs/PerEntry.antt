@@ -1,29 +1,13 @@
 -- A log unfolds entry by entry.
-use mathlib.Core.Path.{_≡_, refl, ap, sym, _∙_}
+use mathlib.Core.Path.{_≡_, refl, ap}
 use mathlib.Core.List.{List, [], _∷_, _++_}
-use Prim.Native.Nat.{ℕ, suc, _+_, _<_, _≤_}
+use Prim.Native.Nat.{ℕ, _+_, _<_, _≤_}
 use native.Mathlib.Omega.{arith}
 use lib.ListN.{length, getD, drop, length-append, length-drop}
-use lib.Seq.{drop-cons}
+use Rattle.laws.proofs.Lists.{five-next}
 use Rattle.append.specs.Append.{Appended, Appending}
 use Rattle.append.proofs.Laws.{appending-room, appending-next, appending-done}
 use Rattle.logged_variables.specs.PerEntry.{FromEntry, perEntry, ofTag, countTag}
-
-drop-next : (log : List ℕ) (i j : ℕ) → j ≡ suc i → i < length log → drop i log ≡ getD log i 0 ∷ drop j log
-drop-next log i j e h = drop-cons log i 0 h ∙ ap (λ (n : ℕ). getD log i 0 ∷ drop n log) (sym e)
-
-five-next : (log : List ℕ) (i : ℕ) → i + 4 < length log
-    → drop i log ≡ getD log i 0 ∷ getD log (i + 1) 0 ∷ getD log (i + 2) 0 ∷ getD log (i + 3) 0 ∷ getD log (i + 4) 0 ∷ drop (i + 5) log
-five-next log i h =
-    let a = getD log i 0 in
-    let b = getD log (i + 1) 0 in
-    let c = getD log (i + 2) 0 in
-    let d = getD log (i + 3) 0 in
-    drop-next log i (i + 1) (omega arith) (omega arith)
-    ∙ ap (λ (l : List ℕ). a ∷ l) (drop-next log (i + 1) (i + 2) (omega arith) (omega arith))
-    ∙ ap (λ (l : List ℕ). a ∷ b ∷ l) (drop-next log (i + 2) (i + 3) (omega arith) (omega arith))
-    ∙ ap (λ (l : List ℕ). a ∷ b ∷ c ∷ l) (drop-next log (i + 3) (i + 4) (omega arith) (omega arith))
-    ∙ ap (λ (l : List ℕ). a ∷ b ∷ c ∷ d ∷ l) (drop-next log (i + 4) (i + 5) (omega arith) (omega arith))
 
 module _ (make : FromEntry) where
   pub entry-next : (log : List ℕ) (i : ℕ) → i + 4 < length log

@@ -8,13 +8,13 @@ use borrow.Author.Tests.{le-leb, lt-leb}
 use Rattle.definitions.specs.Basics.{any, anyNumbered}
 use Rattle.definitions.specs.ContractFile.{byteAt, twoBytesAt, functionEnd, fieldOf, fieldOwnerOfCode, fieldRecords, functionRecord, functionRecords, nodeRecord, nodeRecords, sectionsOf, nodeOf, fieldsNamed, children}
 use Rattle.definitions.specs.Numbers.{fieldOfDeclaredOwner, namesNothing}
+use Rattle.laws.proofs.Records.{fields-length, node-records-length}
 use Rattle.file.specs.declared.Layout.{Layout}
 use Rattle.file.specs.declared.Node.{Node}
 use Rattle.file.specs.Layout.{IsLayout}
 use Rattle.file.specs.Node.{recordOf, IsNode}
-use Rattle.file.proofs.Laws.{length-nodeRecords}
 use Rattle.file.proofs.Sections.{fields-are, functions-are, nodes-are}
-use Rattle.nodes.proofs.Steps.{fieldRecord, length-fieldRecords}
+use Rattle.nodes.proofs.Steps.{fieldRecord}
 use Rattle.nodes.proofs.Scans.{fields-next, fields-found, functions-next, functions-found, numbered-next, numbered-found}
 use Rattle.names.specs.Naming.{ownerNamesNothing, rootNamesNothing, nodeNamesNothing}
 
@@ -77,6 +77,6 @@ nothing-named file l is =
       fields-are file,
       functions-are file,
       nodes-are file,
-      length-fieldRecords _ file 1,
-      length-nodeRecords _ file _,
+      fields-length _ file 1,
+      node-records-length _ file _,
     )

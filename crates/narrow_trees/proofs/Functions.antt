@@ -1,17 +1,18 @@
 -- A function of a file as it is written: its trees are narrow, its owners have codes, and what is written of it reads back.
-use mathlib.Core.Path.{_≡_, refl, ap, _∙_}
+use mathlib.Core.Path.{_≡_, ap, _∙_}
 use mathlib.Core.Bool.{Bool, true, false, cond}
 use mathlib.Core.List.{List, [], _∷_, _++_, append-nil}
-use Prim.Native.Nat.{ℕ, suc, _+_, _*_, _-_, _<_, _≤_}
+use Prim.Native.Nat.{ℕ, suc, _+_, _-_, _<_, _≤_}
 use native.Mathlib.Omega.{arith}
 use lib.ListN.{length, length-append, length-map}
 use Rattle.definitions.specs.Basics.{flatMap}
-use Rattle.definitions.specs.ContractFile.{Field, Parameter, Function, Scope, NodeRecord, byteAt, nodesAt, parameterRecords, parameterOf}
+use Rattle.definitions.specs.ContractFile.{Field, Parameter, Function, Scope, byteAt, nodesAt, parameterRecords, parameterOf}
 use Rattle.definitions.specs.Rewriting.{BodyExpression, Command, Claim, equals, opensForCaller, always, Constraint, WrittenFunction, privateParameters, openings, heldUnder, withVerify, rewriteStatement, rewriteFunction, Tree, sizes, numberedAll, nodeBytes, commandTree, claimTrees, functionTrees}
+use Rattle.laws.proofs.Records.{parameters-length}
+use Rattle.laws.proofs.Written.{nodes-length, opening-count, sizes-append}
 use Rattle.trees.specs.Trees.{statementIn}
 use Rattle.context.specs.Context.{Context, nodesIn, fieldsIn, parametersIn, scopeIn}
 use Rattle.context.specs.Functions.{rootAt}
-use Rattle.context.proofs.Declarations.{parameters-length}
 use Rattle.events.specs.Events.{variablesOf, variableCount, statementEvents}
 use Rattle.events.proofs.Functions.{function-variables}
 use Rattle.parameter_output.specs.Parameters.{privateCount}
@@ -23,7 +24,7 @@ use Rattle.written_trees.proofs.Narrowness.{AllNarrowTrees, noTree, moreTrees, 
 use Rattle.written_trees.specs.Trees.{Falling}
 use Rattle.written_trees.proofs.Falls.{AllShaped, all-numbered-falls, falling-whole}
 use Rattle.written_trees.proofs.RoundTrip.{functions-shaped}
-use Rattle.written_trees.proofs.Functions.{numbered-append, sizes-append, all-length, function-body-back}
+use Rattle.written_trees.proofs.Functions.{numbered-append, all-length, function-body-back}
 use Rattle.circuits.specs.Circuits.{constraintsFrom}
 use Rattle.constraints.specs.Numbers as numbers
 use Rattle.written_trees.specs.Numbers.{constraintNumbers}
@@ -46,11 +47,6 @@ private-small k (p ∷ ps) h = either (p .private) (private-small (suc k) ps (om
         → Each (λ (j : ℕ). j < 256) (cond t (k ∷ privateParameters (suc k) ps) (privateParameters (suc k) ps))
     either true g = pieces.more k _ (omega arith) g
     either false g = g
-
-opening-count : (ks : List ℕ) (i : ℕ) → length ((openings ks i) .variables) ≡ length ks
-unfolding openings
-opening-count [] i = refl
-opening-count (k ∷ ks) i = ap suc (opening-count ks (suc i))
 
 opening-steps : (ks : List ℕ) (i : ℕ) → i + length ks ≤ 65536 → Each (λ (j : ℕ). j < 256) ks → Each NarrowStep ((openings ks i) .steps)
 unfolding openings
@@ -116,11 +112,6 @@ pub codes-of : (cs : List Constraint) → Each NarrowConstraint cs → AllHaveCo
 codes-of [] h = numbers.none
 codes-of (c ∷ cs) (pieces.more _ _ n h) = numbers.more c cs (claim-coded (c .claim) n) (codes-of cs h)
 
-bytes-length : (nodes : List NodeRecord) → length (flatMap nodeBytes nodes) ≡ 8 * length nodes
-unfolding flatMap
-bytes-length [] = refl
-bytes-length (r ∷ rs) = let e = bytes-length rs in let l = length-append (nodeBytes r) (flatMap nodeBytes rs) in omega arith
-
 module _ (w : WrittenFunction) (narrow : NarrowFunction w) (few : sizes (functionTrees w) ≤ 65535) where
   abbrev trees : List Tree
   trees = functionTrees w
@@ -144,7 +135,7 @@ module _ (w : WrittenFunction) (narrow : NarrowFunction w) (few : sizes (functio
       falling-whole (numberedAll 0 trees) (all-numbered-falls trees shaped 0)
 
   count : countOf bytes ≡ sizes trees
-  count = let l = bytes-length (numberedAll 0 trees) in let k = all-length trees 0 in omega arith
+  count = let l = nodes-length (numberedAll 0 trees) in let k = all-length trees 0 in omega arith
 
   body-back : commandIn (numberedAll 0 trees) (sizes trees - 1) ≡ w .body
   body-back =

@@ -4,27 +4,22 @@ use mathlib.Core.Bool.{true, _&&_}
 use mathlib.Core.List.{List}
 use mathlib.Core.Option.{Option, none}
 use Prim.Native.Nat.{ℕ, _+_, _*_, _<_}
-use native.Mathlib.Omega.{arith}
-use borrow.Author.Tests.{ltb-true}
 use lib.Dec.{leb}
 use Rattle.definitions.specs.Basics.{isZero}
-use Rattle.definitions.specs.ContractFile.{DataType, boolean, uint, address, Owner, everyone, ownedBy, Name, meName, finalName, parameterName, Scope, fieldAt, NodeRecord, nodesAt, nodeRecord, dataTypeOf, ownerOfCode, isOfType, Kind, constantKind, meKind, fieldKind, entryKind, parameterKind, operatorKind, negationKind, revealKind, skipKind, sequenceKind, assignFieldKind, assignEntryKind, requireKind, conditionalKind, noKind, kindOf, constantValue, nodeOfKind, expressionOf, statementOf, statementAt}
+use Rattle.definitions.specs.ContractFile.{Owner, everyone, ownedBy, Name, meName, finalName, parameterName, Scope, fieldAt, NodeRecord, nodesAt, nodeRecord, dataTypeOf, ownerOfCode, isOfType, Kind, constantKind, meKind, fieldKind, entryKind, parameterKind, operatorKind, negationKind, revealKind, skipKind, sequenceKind, assignFieldKind, assignEntryKind, requireKind, conditionalKind, noKind, kindOf, constantValue, nodeOfKind, expressionOf, statementOf, statementAt}
 use Rattle.definitions.specs.Owners.{nameOf, placeOwner}
 use Rattle.definitions.specs.Numbers.{targetInTables, kindInTables}
+use Rattle.laws.proofs.Codes.{type-below}
+use Rattle.laws.proofs.TruthValues.{and-left, and-right}
 use Rattle.trees.specs.Trees.{Keeps}
 use Rattle.trees.proofs.Kept.{statement-kept}
 use Rattle.context.specs.Context.{Context, nodesIn, scopeIn}
-use Rattle.context.proofs.Nodes.{nodes-keep, both-left, both-right}
+use Rattle.context.proofs.Nodes.{nodes-keep}
 use Rattle.event_owners.specs.Listed.{Listed}
 use Rattle.event_owners.proofs.Owners.{NameListed, place-listed, name-listed}
 use Rattle.event_owners.proofs.Files.{target-listed, scope-listed}
 use Rattle.constraints.specs.Numbers.{HasCode}
 use Rattle.narrow_trees.specs.Narrow.{Bytes, NarrowExpression, NarrowStatement, CodedScope}
-
-of-type : (t : DataType) (v : ℕ) → isOfType t v ≡ true → v < 4294967296
-of-type boolean v h = let l = ltb-true v 2 h in omega arith
-of-type uint v h = ltb-true v 4294967296 h
-of-type address v h = let l = ltb-true v 16 h in omega arith
 
 -- A listed owner is told by its code.
 coded : (o : Owner) → Listed o → HasCode o
@@ -36,8 +31,8 @@ coded (ownedBy (parameterName k)) h = tt
 record-keeps : (k : Kind) (r : NodeRecord) → kindInTables k r ≡ true → r .arg < 256 → Keeps NarrowExpression NarrowStatement (nodeOfKind k r)
 unfolding kindInTables nodeOfKind expressionOf statementOf NarrowExpression NarrowStatement
 record-keeps constantKind r h b below part =
-    let inner = both-left (leb (r .arg) 2 && isOfType (dataTypeOf (r .arg)) (constantValue r)) (isZero (r .third)) h in
-    (of-type (dataTypeOf (r .arg)) (constantValue r) (both-right (leb (r .arg) 2) (isOfType (dataTypeOf (r .arg)) (constantValue r)) inner), λ later each. tt)
+    let inner = and-left (leb (r .arg) 2 && isOfType (dataTypeOf (r .arg)) (constantValue r)) (isZero (r .third)) h in
+    (type-below (dataTypeOf (r .arg)) (constantValue r) (and-right (leb (r .arg) 2) (isOfType (dataTypeOf (r .arg)) (constantValue r)) inner), λ later each. tt)
 record-keeps meKind r h b below part = (tt, λ later each. tt)
 record-keeps fieldKind r h b below part = (b, λ later each. tt)
 record-keeps entryKind r h b below part = ((b, part (r .first)), λ later each. tt)
@@ -45,7 +40,7 @@ record-keeps parameterKind r h b below part = (b, λ later each. tt)
 record-keeps operatorKind r h b below part = ((part (r .first), part (r .second)), λ later each. tt)
 record-keeps negationKind r h b below part = (part (r .first), λ later each. tt)
 record-keeps revealKind r h b below part =
-    let target = both-left (targetInTables (r .arg)) _ (both-left _ _ h) in
+    let target = and-left (targetInTables (r .arg)) _ (and-left _ _ h) in
     ((part (r .first), coded (ownerOfCode (r .arg)) (target-listed (r .arg) target)), λ later each. tt)
 record-keeps skipKind r h b below part = (tt, λ later each. tt)
 record-keeps sequenceKind r h b below part = (tt, λ later each. (each (r .first), each (r .second)))

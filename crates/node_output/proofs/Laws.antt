@@ -7,48 +7,15 @@ use lib.ListN.{length, length-append}
 use Rattle.definitions.specs.Basics.{flatMap}
 use Rattle.definitions.specs.ContractFile.{NodeRecord, node}
 use Rattle.definitions.specs.Rewriting.{Tree, leaf, oneChild, twoChildren, threeChildren, setting, size, numbered, nodeBytes}
+use Rattle.laws.proofs.Written.{nodes-length, numbered-length}
 use Rattle.buffer.specs.Buffer.{stored}
 use Rattle.buffer.proofs.Laws.{stored-length, stored-then}
 use Rattle.node_output.specs.Numbering.{treeBytes, Room, Numbered}
-
-pub nodes-length : (rs : List NodeRecord) → length (flatMap nodeBytes rs) ≡ 8 * length rs
-unfolding flatMap
-nodes-length [] = refl
-nodes-length (r ∷ rs) = let h = nodes-length rs in omega (arith, length-append (nodeBytes r) (flatMap nodeBytes rs))
 
 pub nodes-append : (rs qs : List NodeRecord) → flatMap nodeBytes (rs ++ qs) ≡ flatMap nodeBytes rs ++ flatMap nodeBytes qs
 unfolding flatMap
 nodes-append [] qs = refl
 nodes-append (r ∷ rs) qs = rw (nodes-append rs qs) (sym (append-assoc (nodeBytes r) (flatMap nodeBytes rs) (flatMap nodeBytes qs)))
-
-pub numbered-length : (base : ℕ) (tree : Tree) → length (numbered base tree) ≡ size tree
-unfolding numbered size
-numbered-length base (leaf kind arg first second) = refl
-numbered-length base (oneChild kind arg first) =
-    let a = numbered-length base first in
-    omega (arith, length-append (numbered base first) (node kind arg (base + size first - 1) 0 0 ∷ []))
-numbered-length base (twoChildren kind arg first second) =
-    let a = numbered-length base first in
-    let b = numbered-length (base + size first) second in
-    omega (
-      arith,
-      length-append (numbered base first) (numbered (base + size first) second),
-      length-append (numbered base first ++ numbered (base + size first) second) (node kind arg (base + size first - 1) (base + size first + size second - 1) 0 ∷ []),
-    )
-numbered-length base (threeChildren kind first second third) =
-    let a = numbered-length base first in
-    let b = numbered-length (base + size first) second in
-    let c = numbered-length (base + size first + size second) third in
-    omega (
-      arith,
-      length-append (numbered base first) (numbered (base + size first) second),
-      length-append (numbered base first ++ numbered (base + size first) second) (numbered (base + size first + size second) third),
-      length-append (numbered base first ++ numbered (base + size first) second ++ numbered (base + size first + size second) third)
-          (node kind 0 (base + size first - 1) (base + size first + size second - 1) (base + size first + size second + size third - 1) ∷ []),
-    )
-numbered-length base (setting variable value) =
-    let a = numbered-length base value in
-    omega (arith, length-append (numbered base value) (node 22 0 variable (base + size value - 1) 0 ∷ []))
 
 pub bytes-length : (base : ℕ) (tree : Tree) → length (treeBytes base tree) ≡ 8 * size tree
 unfolding treeBytes

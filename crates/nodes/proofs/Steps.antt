@@ -1,11 +1,10 @@
 -- The records of a file, one after another: the first one, and those that follow it.
-use mathlib.Core.Path.{_≡_, refl, ap}
+use mathlib.Core.Path.{_≡_, refl}
 use mathlib.Core.List.{List, [], _∷_}
 use Prim.Native.Nat.{ℕ, zero, suc, _+_, _-_, _<_, _≤_}
 use native.Mathlib.Omega.{arith}
-use lib.ListN.{length}
 use Rattle.definitions.specs.ContractFile.{FieldRecord, ParameterRecord, byteAt, functionEnd, functionRecord, nodeRecord, fieldRecords, parameterRecords, functionRecords, nodeRecords}
-use Rattle.file.proofs.Laws.{force-is}
+use Rattle.laws.proofs.Records.{force-is}
 
 abbrev pub fieldRecord : List ℕ → ℕ → FieldRecord
 fieldRecord file at = record { shape = byteAt file at; type = byteAt file (at + 1); owner = byteAt file (at + 2) }
@@ -57,13 +56,3 @@ module _ (file : List ℕ) (at : ℕ) where
   unfolding nodeRecords
   nodeRecords-end zero h = refl
   nodeRecords-end (suc k) h = absurd (omega arith)
-
-pub length-fieldRecords : (k : ℕ) (file : List ℕ) (at : ℕ) → length (fieldRecords k file at) ≡ k
-unfolding fieldRecords
-length-fieldRecords zero file at = refl
-length-fieldRecords (suc k) file at = ap suc (length-fieldRecords k file (at + 3))
-
-pub length-parameterRecords : (k : ℕ) (file : List ℕ) (at : ℕ) → length (parameterRecords k file at) ≡ k
-unfolding parameterRecords
-length-parameterRecords zero file at = refl
-length-parameterRecords (suc k) file at = ap suc (length-parameterRecords k file (at + 2))

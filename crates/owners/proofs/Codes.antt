@@ -10,7 +10,7 @@ use Rattle.definitions.specs.Basics.{isZero}
 use Rattle.definitions.specs.ContractFile.{Name, meName, finalName, parameterName, Owner, everyone, ownedBy, FieldOwner, toEveryone, toKey, toFinal, isEveryone, FieldRecord, isFinalCode, isParameterCode, ownerOfCode, fieldOwnerOfCode, ownerCode, fieldOwnerCode}
 use Rattle.definitions.specs.Owners.{ownerOfParts, placeOwner}
 use Rattle.definitions.specs.Numbers.{fieldInTables, targetInTables}
-use Rattle.context.proofs.Nodes.{both-left, both-right}
+use Rattle.laws.proofs.TruthValues.{and-left, and-right}
 use Rattle.owners.specs.Codes.{nameCode, partsCode, placeCode}
 
 not-zero : (k n : ℕ) → 0 < k → eqb (k + n) 0 ≡ false
@@ -35,7 +35,7 @@ place-code (toFinal f) key = let e : eqb (16 + f) 2 ≡ false = ne-eqb (16 + f) 
 
 -- A code of the tables is the code of the owner that it stands for.
 final-code : (code : ℕ) → isFinalCode code ≡ true → 16 + (code - 16) ≡ code
-final-code code h = let low : 16 ≤ code = leb-true 16 code (both-left (leb 16 code) _ h) in omega arith
+final-code code h = let low : 16 ≤ code = leb-true 16 code (and-left (leb 16 code) _ h) in omega arith
 
 pub field-code : (shape code : ℕ) → isZero code || isFinalCode code || (eqb code 2 && eqb shape 2) ≡ true → fieldOwnerCode (fieldOwnerOfCode code) ≡ code
 field-code shape code = go (eqb code 0) (eqb code 2) refl refl
@@ -54,7 +54,7 @@ pub field-listed : (r : FieldRecord) → fieldInTables r ≡ true → fieldOwner
 unfolding fieldInTables
 field-listed r h =
     field-code (r .shape) (r .owner)
-    (both-right (leb (r .shape) 2 && leb (r .type) 2) _ (both-left (leb (r .shape) 2 && leb (r .type) 2 && (isZero (r .owner) || isFinalCode (r .owner) || (eqb (r .owner) 2 && eqb (r .shape) 2))) _ h))
+    (and-right (leb (r .shape) 2 && leb (r .type) 2) _ (and-left (leb (r .shape) 2 && leb (r .type) 2 && (isZero (r .owner) || isFinalCode (r .owner) || (eqb (r .owner) 2 && eqb (r .shape) 2))) _ h))
 
 pub target-code : (code : ℕ) → targetInTables code ≡ true → ownerCode (ownerOfCode code) ≡ code
 target-code code = go (eqb code 0) (eqb code 1) (isFinalCode code) refl refl refl
@@ -72,7 +72,7 @@ target-code code = go (eqb code 0) (eqb code 1) (isFinalCode code) refl refl ref
             let zero = eqb-false code 0 a in
             let one = eqb-false code 1 b in
             absurd (omega arith)
-        parameter false e k = let low : 128 ≤ code = leb-true 128 code (both-left (leb 128 code) _ k) in omega arith
+        parameter false e k = let low : 128 ≤ code = leb-true 128 code (and-left (leb 128 code) _ k) in omega arith
 
 -- Code 0 is that of everyone, and of nobody else.
 pub code-everyone : (o : Owner) → 0 ≡ ownerCode o → o ≡ everyone

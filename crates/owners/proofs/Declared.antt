@@ -7,19 +7,13 @@ use Prim.Native.Nat.{ℕ, _+_, _*_, _<_, _≤_}
 use native.Mathlib.Omega.{arith}
 use borrow.Author.Tests.{ne-eqb, eq-eqb}
 use lib.Dec.{eqb}
-use Rattle.definitions.specs.ContractFile.{boolean, uint, address, plainField, mapping, finalName, parameterName, fieldAt, parameterAt, isFinal, sameType, byteAt, fieldCount, dataTypeOf, shapeOf, fieldOf, parameterOf, ownerCode, fieldOwnerCode}
+use Rattle.definitions.specs.ContractFile.{boolean, uint, address, finalName, parameterName, fieldAt, parameterAt, isFinal, sameType, byteAt, fieldCount, dataTypeOf, fieldOf, parameterOf, ownerCode, fieldOwnerCode}
 use Rattle.definitions.specs.Owners.{isPublicAddress, parameterOwner}
+use Rattle.laws.proofs.Codes.{not-final}
 use Rattle.context.specs.Context.{fieldsIn, parametersIn, fieldRecordAt}
 use Rattle.context.proofs.Declarations.{field-declared, field-missing, parameter-declared, parameter-missing}
 use Rattle.owners.specs.Codes.{nameCode, FieldsListed}
 use Rattle.owners.proofs.Codes.{field-listed}
-
-not-final : (code : ℕ) → (code ≡ 1 → ⊥) → isFinal (shapeOf code) ≡ false
-not-final code h = rw (ne-eqb code 1 h) (go (eqb code 0))
-  where
-    go : (b : Bool) → isFinal (cond b plainField mapping) ≡ false
-    go true = refl
-    go false = refl
 
 not-address : (code : ℕ) → code < 2 → sameType (dataTypeOf code) address ≡ false
 not-address code h = go (eqb code 0) (eqb code 1) refl refl

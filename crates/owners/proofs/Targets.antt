@@ -6,12 +6,13 @@ use Prim.Native.Nat.{ℕ, _+_, _*_, _<_}
 use Rattle.definitions.specs.Basics.{isZero}
 use Rattle.definitions.specs.ContractFile.{NodeRecord, nodeCount, nodeRecord, revealKind, kindOf}
 use Rattle.definitions.specs.Numbers.{kindInTables, targetInTables}
+use Rattle.laws.proofs.TruthValues.{and-left}
 use Rattle.context.specs.Context.{Context}
-use Rattle.context.proofs.Nodes.{listed-is, both-left}
+use Rattle.context.proofs.Nodes.{listed-is}
 
 pub target-listed : (file : List ℕ) (functionStart nodesStart : ℕ) (context : Context file functionStart nodesStart) (n : ℕ) (inside : n < nodeCount file) (r : NodeRecord)
     (same : r ≡ nodeRecord file (nodesStart + 2 + 8 * n)) → r .kind ≡ 8 → targetInTables (r .arg) ≡ true
 unfolding kindInTables kindOf
 target-listed file functionStart nodesStart context n inside r same e =
     let h = listed-is file functionStart nodesStart context n inside r same revealKind (rw e) in
-    both-left (targetInTables (r .arg)) (isZero (r .second)) (both-left (targetInTables (r .arg) && isZero (r .second)) (isZero (r .third)) h)
+    and-left (targetInTables (r .arg)) (isZero (r .second)) (and-left (targetInTables (r .arg) && isZero (r .second)) (isZero (r .third)) h)

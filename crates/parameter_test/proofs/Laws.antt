@@ -11,8 +11,9 @@ use lib.Seq.{drop-cons}
 use Rattle.definitions.specs.ContractFile.{Parameter, parameterAt, byteAt, parameterRecords, parameterOf, dataTypeOf}
 use Rattle.definitions.specs.Original.{anyone, only}
 use Rattle.definitions.specs.Ledger.{Content, Form, fits, allFit, publicOf, parameterForm}
+use Rattle.laws.proofs.Records.{parameters-length}
 use Rattle.context.specs.Context.{parametersIn}
-use Rattle.context.proofs.Declarations.{parameters-length, parameter-declared}
+use Rattle.context.proofs.Declarations.{parameter-declared}
 use Rattle.contents.specs.Contents.{contentsOf}
 use Rattle.contents.proofs.Laws.{length-contentsOf}
 use Rattle.readers.specs.declared.Reader.{Reader}

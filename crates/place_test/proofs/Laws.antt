@@ -2,7 +2,7 @@
 use mathlib.Core.Path.{_≡_, refl, ap, ap₂, sym, _∙_}
 use mathlib.Core.Bool.{Bool, true, false, _&&_}
 use mathlib.Core.List.{List, [], _∷_, _++_, map, zipWith}
-use Prim.Native.Nat.{ℕ, zero, suc, _+_, _-_, _<_, _≤_, _/_}
+use Prim.Native.Nat.{ℕ, suc, _+_, _-_, _<_, _≤_, _/_}
 use native.Mathlib.Numerals.{add-one}
 use native.Mathlib.Omega.{arith}
 use lib.Dec.{leb}
@@ -12,6 +12,7 @@ use Rattle.definitions.specs.ContractFile.{DataType, Field, fieldAt, dataTypeOf
 use Rattle.definitions.specs.Original as original
 use Rattle.definitions.specs.Original.{numbersFrom, placeCount, perPlace, placeReader, finalAddress}
 use Rattle.definitions.specs.Ledger.{Content, Form, fits, allFit}
+use Rattle.laws.proofs.Lists.{numbers-length}
 use Rattle.contents.specs.Contents.{contentsOf}
 use Rattle.contents.proofs.Laws.{length-contentsOf}
 use Rattle.readers.specs.declared.Reader.{Reader}
@@ -54,13 +55,8 @@ module _ (fields : List Field) (numbers : List ℕ) (f : ℕ) where
       → formOf code reader ≡ placeForm fields numbers (fieldAt fields f) key
   form-is key code reader t r = λ i. record { type = t i; reader = r i }
 
-  length-numbers : (n count : ℕ) → length (numbersFrom n count) ≡ count
-  unfolding numbersFrom
-  length-numbers n zero = refl
-  length-numbers n (suc count) = ap suc (length-numbers (suc n) count)
-
   forms-long : (count : ℕ) → length (fieldForms fields numbers f 0 count) ≡ count
-  forms-long count = length-map (numbersFrom 0 count) (placeForm fields numbers (fieldAt fields f)) ∙ length-numbers 0 count
+  forms-long count = length-map (numbersFrom 0 count) (placeForm fields numbers (fieldAt fields f)) ∙ numbers-length 0 count
 
   forms-step : (key count : ℕ) → key < count
       → fieldForms fields numbers f key (count - key) ≡ placeForm fields numbers (fieldAt fields f) key ∷ fieldForms fields numbers f (key + 1) (count - (key + 1))

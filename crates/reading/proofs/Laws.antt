@@ -11,9 +11,9 @@ use borrow.Author.Tests.{eqb-true, ltb-false, not-false, ne-eqb}
 use Rattle.definitions.specs.Basics.{any, firstThatHolds}
 use Rattle.definitions.specs.ContractFile.{functionEnd, functionsAt, functionCount, functionRecords, functionsEnd, nodesAt, fileEnd, sectionsOf, sectionPart, contractOf}
 use Rattle.definitions.specs.Numbers.{endsWrongly, countOffLimits, outsideTables, namesNothing, usedOtherThanOnce, tooDeep, wrongSort, contractSentences, checkNumber, orElse, sectionNumber, sectionAnswer}
+use Rattle.laws.proofs.Records.{force-is}
 use Rattle.file.specs.declared.Layout.{Layout}
 use Rattle.file.specs.Layout.{IsLayout}
-use Rattle.file.proofs.Laws.{force-is}
 use Rattle.nodes.proofs.Truth.{either-false}
 use Rattle.counts.proofs.Laws.{limits, hasManyParameters}
 use Rattle.numbers.specs.Settled.{Settled}

@@ -1,7 +1,7 @@
 -- Laws of the report's lines: from the functions' crossings, line by line, and how long they are at most.
 use mathlib.Core.Path.{_≡_, refl, ap, sym, _∙_}
 use mathlib.Core.Bool.{Bool, true, false, cond}
-use mathlib.Core.List.{List, [], _∷_, _++_, map, append-nil, append-assoc}
+use mathlib.Core.List.{List, [], _∷_, _++_, map, append-nil}
 use Prim.Native.Nat.{ℕ, suc, _+_, _*_, _<_, _≤_}
 use native.Mathlib.Numerals.{add-one}
 use native.Mathlib.Omega.{arith}
@@ -10,6 +10,7 @@ use lib.Seq.{take-suc, take-all, length-take-le, getD-take}
 use Rattle.definitions.specs.Basics.{flatMap}
 use Rattle.definitions.specs.Rewriting.{WrittenContract}
 use Rattle.definitions.specs.Report.{Tally, crossings, comesBefore, insert, sorted, decimal, heading, tallyLine, refusedLine, tallies}
+use Rattle.laws.proofs.Lists.{flat-append}
 use Rattle.append.specs.Append.{Appended}
 use Rattle.append.proofs.Laws.{appended-nothing, appended-length, appended-then}
 use Rattle.tallies.specs.Counts.{talliesFrom, tallyOf, orderedTallies}
@@ -20,11 +21,6 @@ use Rattle.report_text.proofs.Digits.{digits-length}
 -- The report of a rewritten contract, from the functions' crossings.
 pub report-is : (c : WrittenContract) → heading ++ flatMap tallyLine (sorted (tallies 0 (c .functions))) ≡ reportLines (map crossings (c .functions))
 report-is c = ap (λ ts. heading ++ flatMap tallyLine (sorted ts)) (tallies-are 0 (c .functions))
-
-flat-append : {A : Type 0} (f : A → List ℕ) (a b : List A) → flatMap f (a ++ b) ≡ flatMap f a ++ flatMap f b
-unfolding flatMap
-flat-append f [] b = refl
-flat-append f (x ∷ a) b = ap (λ ys. f x ++ ys) (flat-append f a b) ∙ sym (append-assoc (f x) (flatMap f a) (flatMap f b))
 
 -- One line more.
 flat-next : {A : Type 0} (f : A → List ℕ) (ts : List A) (i : ℕ) (d : A) → i < length ts → flatMap f (take (suc i) ts) ≡ flatMap f (take i ts) ++ f (getD ts i d)

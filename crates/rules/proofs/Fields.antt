@@ -11,13 +11,13 @@ use lib.Seq.{drop-cons}
 use Rattle.definitions.specs.Basics.{flatMap}
 use Rattle.definitions.specs.ContractFile.{toFinal, sectionsOf, fieldOf, fieldCount, fieldOwnerOfCode}
 use Rattle.definitions.specs.Numbers.{fault, fieldOfDeclaredOwner}
+use Rattle.laws.proofs.Records.{fields-length}
 use Rattle.faults.specs.Faults.{leastFault}
 use Rattle.faults.proofs.Faults.{least-append, least-none, least-bounded, counted-8}
 use Rattle.links.proofs.Names.{above-eqb}
 use Rattle.codes.proofs.Codes.{FieldCode, everyoneCode, keyCode, finalCode, field-code}
 use Rattle.judgements.specs.declared.Declared.{Declared}
 use Rattle.scopes.specs.Scopes.{FieldAt}
-use Rattle.scopes.proofs.Lists.{length-fieldRecords}
 use Rattle.file.proofs.Sections.{fields-are}
 use Rattle.rules.specs.Sections.{fieldsOf, ownerFault}
 
@@ -47,7 +47,7 @@ module _ {A : Type 0} (faultsOf : A → List ℕ) where
       omega arith
 
 pub count-fields : (file : List ℕ) → length (fieldsOf file) ≡ fieldCount file
-count-fields file = length-map ((sectionsOf file) .fields) fieldOf ∙ (ap length (fields-are file) ∙ length-fieldRecords (fieldCount file) file 1)
+count-fields file = length-map ((sectionsOf file) .fields) fieldOf ∙ (ap length (fields-are file) ∙ fields-length (fieldCount file) file 1)
 
 module _ (file : List ℕ) (f : ℕ) (d : Declared) (at : FieldAt file f d) where
   one-fault : (b : Bool) → leastFault (fault b 8 ++ []) ≡ cond b 8 16

@@ -11,9 +11,10 @@ use Rattle.definitions.specs.Basics.{any, flatMap, isZero, firstThatHolds}
 use Rattle.definitions.specs.ContractFile.{byteAt, twoBytesAt, sectionsOf, functionEnd, functionRecord, functionRecords, functionCount, fieldCount, nodeCount, nodesAt, fieldOf, functionOf, contractOf}
 use Rattle.definitions.specs.Owners.{noLinks}
 use Rattle.definitions.specs.Numbers.{functionFaults, fieldFaults, statementFaults, countOffLimits, namesNothing, contractFaults, contractSentences, fieldOfDeclaredOwner}
+use Rattle.laws.proofs.Records.{force-is}
+use Rattle.laws.proofs.TruthValues.{or-left, or-right}
 use Rattle.file.specs.Layout.{IsLayout}
 use Rattle.file.specs.declared.Layout.{Layout}
-use Rattle.file.proofs.Laws.{force-is}
 use Rattle.file.proofs.Sections.{functions-are, count-of-nodes}
 use Rattle.faults.specs.Faults.{leastFault, numberOf}
 use Rattle.faults.proofs.Faults.{least-append, least-sentence}
@@ -21,7 +22,6 @@ use Rattle.links.specs.Names.{linkedBy}
 use Rattle.numbers.specs.Settled.{Settled}
 use Rattle.scopes.specs.Trees.{nodesOf, statementOn}
 use Rattle.scopes.specs.Scopes.{scopeAt}
-use Rattle.scopes.proofs.Lists.{or-left, or-right}
 use Rattle.rules.specs.Sections.{fieldsOf, allFieldsFault, allFunctionsFault, functionFault, FunctionReady}
 use Rattle.rules.proofs.Fields.{flat-cons, flat-none, fault-start}
 

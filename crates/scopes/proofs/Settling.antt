@@ -10,6 +10,8 @@ use lib.ListN.{length, getD, length-map, List·getD-eq-default}
 use Rattle.definitions.specs.Basics.{any, anyNumbered, isZero}
 use Rattle.definitions.specs.ContractFile.{boolean, plainField, toEveryone, fieldAt, parameterAt, shapeCode, dataTypeCode, FieldRecord, ParameterRecord, NodeRecord, byteAt, parameterRecords, fieldCount, nodeCount, sectionsOf, shapeOf, dataTypeOf, fieldOf, parameterOf, isFinalCode, ownerOfCode, Node, unknownNode, nodeOf, nodeAt, children, fieldsNamed, kindOf, expressionParts, statementParts}
 use Rattle.definitions.specs.Numbers.{countOffLimits, outsideTables, parameterInTables, namesNothing, fieldOfDeclaredOwner, fieldInTables, nodeInTables, kindInTables, targetInTables, ownerFits}
+use Rattle.laws.proofs.Records.{field-record, fields-length, parameters-length}
+use Rattle.laws.proofs.TruthValues.{and-left, and-right, not-false-true, or-left, or-right}
 use Rattle.file.proofs.Sections.{fields-are, count-of-nodes}
 use Rattle.links.proofs.Names.{Listed, nobody, caller, final, argument, listed}
 use Rattle.codes.proofs.Codes.{owner-final, owner-argument}
@@ -20,7 +22,7 @@ use Rattle.numbers.specs.Settled.{Settled}
 use Rattle.scopes.specs.Trees.{nodesOf}
 use Rattle.scopes.specs.Scopes.{FieldAt, ParameterAt, scopeAt}
 use Rattle.scopes.specs.declared.Parameters.{Parameters}
-use Rattle.scopes.proofs.Lists.{or-left, or-right, and-left, and-right, not-not, none-at, none-numbered, getD-map, length-fieldRecords, getD-fieldRecords, length-parameterRecords, getD-parameterRecords}
+use Rattle.scopes.proofs.Lists.{none-at, none-numbered, getD-map, getD-parameterRecords}
 
 -- What a number past the last node reads as; no node's number is past it.
 abbrev pub noNode : NodeRecord
@@ -75,7 +77,7 @@ module _ (file : List ℕ) (s : Settled file) where
   few-fields = ltb-false 64 (fieldCount file) (or-left _ _ (or-left _ _ (or-left _ _ (or-left _ _ (s .counts)))))
 
   count-fields : length ((sectionsOf file) .fields) ≡ fieldCount file
-  count-fields = ap length (fields-are file) ∙ length-fieldRecords (fieldCount file) file 1
+  count-fields = ap length (fields-are file) ∙ fields-length (fieldCount file) file 1
 
   field-tables : any (λ r. not (fieldInTables r)) ((sectionsOf file) .fields) ≡ false
   unfolding outsideTables
@@ -95,10 +97,10 @@ module _ (file : List ℕ) (s : Settled file) where
   field-there f d h es et eo =
       let r : FieldRecord = record { shape = byteAt file (1 + 3 * f); type = byteAt file (1 + 3 * f + 1); owner = byteAt file (1 + 3 * f + 2) } in
       let few = few-fields in
-      let at : getD ((sectionsOf file) .fields) f no-field ≡ r = rw (fields-are file) (getD-fieldRecords (fieldCount file) file 1 f no-field h) in
+      let at : getD ((sectionsOf file) .fields) f no-field ≡ r = rw (fields-are file) (field-record (fieldCount file) file 1 f no-field h) in
       let inside : f < length ((sectionsOf file) .fields) = rw count-fields h in
       let listed : fieldInTables r ≡ true =
-      not-not (fieldInTables r) (ap (λ x. not (fieldInTables x)) (sym at) ∙ none-at (λ x. not (fieldInTables x)) ((sectionsOf file) .fields) f no-field inside field-tables) in
+      not-false-true (fieldInTables r) (ap (λ x. not (fieldInTables x)) (sym at) ∙ none-at (λ x. not (fieldInTables x)) ((sectionsOf file) .fields) f no-field inside field-tables) in
       let both = in-tables r f d (omega arith) es et eo listed in
       let is : fieldAt (map fieldOf ((sectionsOf file) .fields)) f ≡ fieldOf r =
       getD-map fieldOf ((sectionsOf file) .fields) f no-field (record { shape = plainField; type = boolean; owner = toEveryone }) inside ∙ ap fieldOf at in
@@ -150,7 +152,7 @@ module _ (file : List ℕ) (s : Settled file) where
   unfolding kindOf kindInTables
   reveal-listed n r h at e =
       let listed : nodeInTables r ≡ true =
-      not-not (nodeInTables r) (ap (λ x. not (nodeInTables x)) (sym at) ∙ none-at (λ x. not (nodeInTables x)) ((sectionsOf file) .nodes) n noNode
+      not-false-true (nodeInTables r) (ap (λ x. not (nodeInTables x)) (sym at) ∙ none-at (λ x. not (nodeInTables x)) ((sectionsOf file) .nodes) n noNode
       (node-inside n h) node-tables) in
       let here : kindInTables (kindOf 8) r ≡ true = rw e at listed in
       and-left (targetInTables (r .arg)) (isZero (r .second)) (and-left (targetInTables (r .arg) && isZero (r .second)) (isZero (r .third)) here)
@@ -165,7 +167,7 @@ module _ (file : List ℕ) (p : Parameters) (k : ℕ) where
   parameter-there g h few et eo =
       let r : ParameterRecord = record { type = byteAt file (p .at + 2 * k); owner = byteAt file (p .at + 2 * k + 1) } in
       let records = parameterRecords (p .count) file (p .at) in
-      let inside : k < length records = rw (length-parameterRecords (p .count) file (p .at)) h in
+      let inside : k < length records = rw (parameters-length (p .count) file (p .at)) h in
       let is : parameterAt (map parameterOf records) k ≡ parameterOf r =
       getD-map parameterOf records k no-parameter (record { type = boolean; private = true }) inside
       ∙ ap parameterOf (getD-parameterRecords (p .count) file (p .at) k no-parameter h) in
@@ -174,7 +176,7 @@ module _ (file : List ℕ) (p : Parameters) (k : ℕ) where
   pub parameter-missing : p .count ≤ k → ParameterAt file p k (record { kind = 0; owner = 1 })
   parameter-missing h =
       let records = parameterRecords (p .count) file (p .at) in
-      let outside : length (map parameterOf records) ≤ k = rw (length-map records parameterOf, length-parameterRecords (p .count) file (p .at)) h in
+      let outside : length (map parameterOf records) ≤ k = rw (length-map records parameterOf, parameters-length (p .count) file (p .at)) h in
       let is : parameterAt (map parameterOf records) k ≡ record { type = boolean; private = true } =
       List·getD-eq-default (map parameterOf records) (record { type = boolean; private = true }) outside in
       record { same = rw is (record { type = refl; private = refl }); present = record { there = λ e. absurd (differ e) } }

@@ -8,7 +8,7 @@ use native.Mathlib.Omega.{arith}
 use borrow.Author.Tests.{eqb-true}
 use lib.ListN.{length, set, take}
 use lib.Seq.{take-suc-set, append-snoc}
-use Rattle.file.proofs.Laws.{force-is}
+use Rattle.laws.proofs.Records.{force-is}
 use Rattle.scripts.specs.Scripts.{fourBytesAt, callCount, callsAt, callEnd, callsEnd, isScript, numbersAt}
 
 calls-step : (k : ℕ) (s : List ℕ) (at : ℕ) → 0 < k → callsEnd k s at ≡ callsEnd (k - 1) s (callEnd s at)

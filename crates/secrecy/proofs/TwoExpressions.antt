@@ -10,10 +10,11 @@ use Rattle.definitions.specs.Owners.{Links, isReader, ownerOf, isPublic}
 use Rattle.definitions.specs.Numbers.{expressionFaults}
 use Rattle.definitions.specs.Original.{position, mayRead, readerOf, operate, operates, negate, value, isWorkedOut, disclosed}
 use Rattle.definitions.specs.Rewriting.{BodyExpression, Circuit, inBody}
+use Rattle.laws.proofs.TruthValues.{and-left, and-right, not-false-true, or-right}
 use Rattle.relations.specs.Acceptance.{FieldsFit, constantsFit}
 use Rattle.relations.specs.Environment.{Environment}
 use Rattle.relations.specs.Secrecy.{Agree, ArgumentsAgree}
-use Rattle.typing.proofs.Basics.{and-left, and-right, and-right-false, or-right-false, not-false-true}
+use Rattle.typing.proofs.Basics.{and-right-false}
 use Rattle.typing.proofs.Faults.{entry-read-fits, operator-fits, negation-fits, reveal-fits}
 use Rattle.typing.proofs.Readers.{field-reader, entry-reader}
 use Rattle.secrecy.proofs.SideBySide.{SideBySide, both-complete, with-outcome, one-after-other, with-test, with-value}
@@ -35,7 +36,7 @@ divisor-public : (scope : Scope) (o : Operator) (left right : Expression) → (i
     → isDivision o ≡ true → isPublic scope right ≡ true
 divisor-public scope o left right h d =
     let private : Bool = not (isPublic scope left) || not (isPublic scope right) in
-    not-false-true (isPublic scope right) (or-right-false (not (isPublic scope left)) (not (isPublic scope right)) (and-right-false (isDivision o) private h d))
+    not-false-true (isPublic scope right) (or-right (not (isPublic scope left)) (not (isPublic scope right)) (and-right-false (isDivision o) private h d))
 
 module _ (scope : Scope) (addressOf : Name → ℕ) (party : ℕ) (arguments arguments′ places places′ : List ℕ) where
   abbrev Alike : Expression → Type 0

@@ -13,11 +13,11 @@ use Rattle.definitions.specs.Numbers.{mayBePut, statementFaults}
 use Rattle.definitions.specs.Original.{position, anyone, mayRead, readerOf, value, placesAfter, completes, disclosedBy}
 use Rattle.definitions.specs.Ledger.{plain, honestVariables}
 use Rattle.definitions.specs.Rewriting.{Command, Guard, under, inBody, inPlace, inBranch, rewriteStatement, single}
+use Rattle.laws.proofs.TruthValues.{and-left, and-right}
 use Rattle.relations.specs.Acceptance.{FieldsFit, constantsFit, constantsFitIn}
 use Rattle.relations.specs.Environment.{Environment}
 use Rattle.relations.specs.Standing.{readersOf}
 use Rattle.relations.specs.Secrecy.{Agree, ArgumentsAgree}
-use Rattle.typing.proofs.Basics.{and-left, and-right}
 use Rattle.typing.proofs.Faults.{sequence-fits, assign-field-fits, assign-entry-fits, require-fits, conditional-fits}
 use Rattle.typing.proofs.Environments.{environment-after}
 use Rattle.typing.proofs.Readers.{assigned-field-reader, assigned-entry-reader}

@@ -8,7 +8,7 @@ use Rattle.definitions.specs.Basics.{isTrue}
 use Rattle.definitions.specs.ContractFile.{everyone}
 use Rattle.definitions.specs.Rewriting.{BodyExpression, Guard, Generator, heldUnder, StatementGenerator, inBranch, inBranches}
 use Rattle.definitions.specs.Ledger.{Content, plain}
-use Rattle.typing.proofs.Basics.{and-right}
+use Rattle.laws.proofs.TruthValues.{and-right}
 use Rattle.simulation.proofs.Truth.{cut-first-of-three, cut-second-of-three, cut-third-of-three, length-with}
 use Rattle.simulation.proofs.Held.{AllHeld, held-append, held-length, all-unset}
 use Rattle.simulation.proofs.Pieces.{Call, stateWith, honest}

@@ -10,10 +10,10 @@ use Rattle.definitions.specs.Owners.{noLinks}
 use Rattle.definitions.specs.Rewriting.{Command, always, Constraint, WrittenFunction, Piece, Passage, rewriteStatement, privateParameters, openings, withVerify, rewriteFunction}
 use Rattle.definitions.specs.Original.{placesAfter, completes}
 use Rattle.definitions.specs.Ledger.{Content, State, constraintHolds, stateAfter, walkCompletes, honestContents, honestVariables}
+use Rattle.laws.proofs.TruthValues.{and-left}
 use Rattle.relations.specs.Acceptance.{AcceptedBody}
 use Rattle.relations.specs.Environment.{Environment}
 use Rattle.relations.specs.Standing.{AllStand, readersOf}
-use Rattle.typing.proofs.Basics.{and-left}
 use Rattle.relations.specs.Standing.{ParametersStand}
 use Rattle.simulation.proofs.Held.{AllHeld, held-append, held-length}
 use Rattle.simulation.proofs.Pieces.{Call, stateWith, honest, Faithful}

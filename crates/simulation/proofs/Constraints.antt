@@ -10,7 +10,7 @@ use Rattle.definitions.specs.Basics.{all}
 use Rattle.definitions.specs.ContractFile.{Scope, Statement, skip, sequence, assignField, assignEntry, require, conditional}
 use Rattle.definitions.specs.Rewriting.{BodyExpression, Command, Claim, Guard, under, Constraint, Generator, kept, inBody, heldUnder, StatementGenerator, single, inSequence, inBranch, inBranches, rewriteStatement}
 use Rattle.definitions.specs.Ledger.{Content, plain, contentAt, isSet, claimHolds, constraintHolds}
-use Rattle.typing.proofs.Basics.{and-left, and-right}
+use Rattle.laws.proofs.TruthValues.{and-left, and-right}
 use Rattle.simulation.proofs.Truth.{or-of-right, all-append}
 use Rattle.simulation.proofs.Pieces.{Call, claimsHold}
 

@@ -10,15 +10,16 @@ use Rattle.definitions.specs.Numbers.{expressionFaults}
 use Rattle.definitions.specs.Rewriting.{BodyExpression, Circuit, Generator, kept, onePart, twoParts, operatorInCircuit, inBody, inCircuit}
 use Rattle.definitions.specs.Original.{position, readerOf, operate, operates, negate, value, isWorkedOut}
 use Rattle.definitions.specs.Ledger.{Content, plain, plainNumber, contentAt, contentOf, isWalked, circuitValue}
+use Rattle.laws.proofs.Codes.{everyone-is}
+use Rattle.laws.proofs.TruthValues.{and-left, and-right}
 use Rattle.relations.specs.Acceptance.{FieldsFit, constantsFit}
 use Rattle.relations.specs.Environment.{Environment}
 use Rattle.relations.specs.Standing.{Stands, AllStand, readersOf}
-use Rattle.typing.proofs.Basics.{and-left, and-right}
 use Rattle.typing.proofs.Faults.{entry-read-fits, parameter-read-fits, OperatorFits, operator-fits, negation-fits, reveal-fits}
 use Rattle.typing.proofs.Values.{value-typed}
 use Rattle.typing.proofs.Readers.{field-reader, entry-reader}
 use Rattle.relations.specs.Standing.{ParametersStand}
-use Rattle.simulation.proofs.Standing.{plain-stands, everyone-is, stands-for-everyone, public-parts, private-parts}
+use Rattle.simulation.proofs.Standing.{plain-stands, stands-for-everyone, public-parts, private-parts}
 use Rattle.simulation.proofs.Pieces.{Call, faithful-when, kept-faithful, onePart-faithful, twoParts-faithful}
 use Rattle.simulation.proofs.Variables.{originalValue, BodyFaithful, CircuitFaithful, supplying-faithful, reading-faithful}
 

@@ -22,10 +22,6 @@ content-is-of (only x) call index number = rw (eq-eqb x x refl, eq-eqb number nu
 pub stands-opens : (x : ℕ) {content : Content} {number : ℕ} → Stands (only x) content number → opensFor x content ≡ true
 stands-opens x h = rw (h .is) (eq-eqb x x refl)
 
-pub everyone-is : (o : Owner) → isEveryone o ≡ true → o ≡ everyone
-everyone-is everyone e = refl
-everyone-is (ownedBy n) e = absurd (false≢true e)
-
 pub stands-for-everyone : (addressOf : Name → ℕ) (o : Owner) {content : Content} {number : ℕ} → isEveryone o ≡ true
     → Stands (readerOf addressOf o) content number → content ≡ plain number
 stands-for-everyone addressOf everyone e h = h .is

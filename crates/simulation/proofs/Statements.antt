@@ -12,14 +12,15 @@ use Rattle.definitions.specs.Numbers.{mayBePut, expressionFaults, statementFaul
 use Rattle.definitions.specs.Rewriting.{Command, Guard, under, kept, onePart, twoParts, supplying, inBody, inCircuit, inPlace, rewriteStatement, single}
 use Rattle.definitions.specs.Original.{position, only, readerOf, isWorkedOut, placesAfter, completes}
 use Rattle.definitions.specs.Ledger.{Content, plainNumber, stateAfter, walkCompletes, honestContents, honestVariables}
+use Rattle.laws.proofs.Codes.{everyone-is}
+use Rattle.laws.proofs.TruthValues.{and-left, and-right}
 use Rattle.relations.specs.Acceptance.{constantsFit, constantsFitIn}
 use Rattle.relations.specs.Standing.{Stands, AllStand, readersOf}
-use Rattle.typing.proofs.Basics.{and-left, and-right}
 use Rattle.typing.proofs.Faults.{sequence-fits, assign-field-fits, assign-entry-fits, require-fits, conditional-fits}
 use Rattle.typing.proofs.Values.{value-typed}
 use Rattle.typing.proofs.Environments.{environment-after}
 use Rattle.typing.proofs.Readers.{assigned-field-reader, assigned-entry-reader}
-use Rattle.simulation.proofs.Standing.{everyone-is, all-stand-written}
+use Rattle.simulation.proofs.Standing.{all-stand-written}
 use Rattle.simulation.proofs.Pieces.{Call, faithful-when, faithful-for, kept-faithful, onePart-faithful, twoParts-faithful}
 use Rattle.simulation.proofs.Variables.{originalValue, BodyFaithful, supplying-faithful}
 use Rattle.simulation.proofs.Expressions.{CallStands, body-faithful, circuit-faithful}

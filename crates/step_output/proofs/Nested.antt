@@ -1,25 +1,20 @@
 -- Steps before a rest: room for each of the three runs, and the runs together.
 use mathlib.Core.Path.{_≡_, refl, ap, ap₂, sym, _∙_}
-use mathlib.Core.List.{List, [], _∷_, _++_, append-assoc}
+use mathlib.Core.List.{List, [], _++_, append-assoc}
 use Prim.Native.Nat.{ℕ, _+_, _*_, _-_, _≤_}
 use native.Mathlib.Omega.{arith}
 use lib.ListN.{length, take, drop, length-append}
 use lib.Seq.{take-at}
 use Rattle.definitions.specs.Basics.{flatMap}
-use Rattle.definitions.specs.Rewriting.{Command, Step, stepsBefore, Tree, size, sizes, numbered, numberedAll, nodeBytes, commandTree}
+use Rattle.definitions.specs.Rewriting.{Command, Step, stepsBefore, size, sizes, numbered, numberedAll, nodeBytes, commandTree}
+use Rattle.laws.proofs.Written.{all-length, nodes-length}
 use Rattle.buffer.specs.Buffer.{stored}
 use Rattle.buffer.proofs.Laws.{stored-length}
 use Rattle.node_output.specs.Numbering.{treeBytes, Room, Numbered}
-use Rattle.node_output.proofs.Laws.{nodes-append, nodes-length, bytes-length, size-positive, run-then, numbered-keeps, numbered-length}
+use Rattle.node_output.proofs.Laws.{nodes-append, bytes-length, size-positive, run-then, numbered-keeps}
 use Rattle.step_output.specs.declared.Steps.{Steps}
 use Rattle.step_output.specs.Steps.{stepTrees, stepRoots, closers, StepsRoom, StepsPut}
 use Rattle.step_output.proofs.Nesting.{roots-length, nested-size, nested-nodes}
-
-all-length : (base : ℕ) (trees : List Tree) → length (numberedAll base trees) ≡ sizes trees
-unfolding numberedAll sizes
-all-length base [] = refl
-all-length base (t ∷ trees) =
-    length-append (numbered base t) (numberedAll (base + size t) trees) ∙ ap₂ _+_ (numbered-length base t) (all-length (base + size t) trees)
 
 pub steps-length : (base : ℕ) (steps : List Step) → length (flatMap nodeBytes (numberedAll base (stepTrees steps))) ≡ 8 * sizes (stepTrees steps)
 steps-length base steps = nodes-length (numberedAll base (stepTrees steps)) ∙ ap (λ (n : ℕ). 8 * n) (all-length base (stepTrees steps))

@@ -1,6 +1,6 @@
 -- The parameters of an honest call have the forms that a ledger's own test asks, all of them or the public ones alone.
 use mathlib.Core.Path.{_≡_, refl}
-use mathlib.Core.Bool.{Bool, true, false, _&&_, cond}
+use mathlib.Core.Bool.{Bool, true, false, cond}
 use mathlib.Core.List.{List, [], _∷_, map}
 use Prim.Native.Nat.{ℕ, suc}
 use native.Mathlib.Omega.{arith}
@@ -8,6 +8,7 @@ use lib.ListN.{length, getD}
 use Rattle.definitions.specs.ContractFile.{Parameter, parameterAt, isOfType}
 use Rattle.definitions.specs.Original.{anyone, only}
 use Rattle.definitions.specs.Ledger.{Content, contentFor, Form, fits, allFit, parameterForm, publicOf, honestParameters}
+use Rattle.laws.proofs.TruthValues.{and-both}
 use Rattle.typing.proofs.Forms.{stands-fits}
 
 module _ (caller call : ℕ) where
@@ -17,9 +18,6 @@ module _ (caller call : ℕ) where
       let reader = cond (p .private) (only caller) anyone in
       stands-fits (p .type) reader (contentFor reader call k v) v (record { call = call; index = k; is = refl }) typed
 
-  both : (a b : Bool) → a ≡ true → b ≡ true → (a && b) ≡ true
-  both a b h k = rw (h, k)
-
   pub parameters-fit : (k : ℕ) (ps : List Parameter) (vs : List ℕ) → length vs ≡ length ps
       → ((j : ℕ) → isOfType ((parameterAt ps j) .type) (getD vs j 0) ≡ true)
       → allFit fits (map (parameterForm caller) ps) (honestParameters caller call k ps vs) ≡ true
@@ -27,7 +25,7 @@ module _ (caller call : ℕ) where
   parameters-fit k [] vs e typed = refl
   parameters-fit k (p ∷ ps) [] e typed = absurd (omega arith)
   parameters-fit k (p ∷ ps) (v ∷ vs) e typed =
-      both _ _ (parameter-fits k p v (typed 0)) (parameters-fit (suc k) ps vs (omega arith) (λ j. typed (suc j)))
+      and-both _ _ (parameter-fits k p v (typed 0)) (parameters-fit (suc k) ps vs (omega arith) (λ j. typed (suc j)))
 
   pub public-parameters-fit : (k : ℕ) (ps : List Parameter) (vs : List ℕ) → length vs ≡ length ps
       → ((j : ℕ) → isOfType ((parameterAt ps j) .type) (getD vs j 0) ≡ true)

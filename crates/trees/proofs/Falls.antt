@@ -1,6 +1,6 @@
 -- A file whose numbers name something, number 4, has nodes that fall from parent to child.
 use mathlib.Core.Path.{_≡_, refl}
-use mathlib.Core.Bool.{Bool, true, false, _||_, true≢false}
+use mathlib.Core.Bool.{Bool, true, false, _||_}
 use mathlib.Core.List.{List, [], _∷_, map}
 use Prim.Native.Nat.{ℕ, zero, suc, _+_}
 use native.Mathlib.Omega.{arith}
@@ -10,16 +10,9 @@ use lib.ListN.{length}
 use Rattle.definitions.specs.Basics.{all, any, anyNumbered}
 use Rattle.definitions.specs.ContractFile.{NodeRecord, Sections, fieldOf, nodeOf, nodeAt, children, fieldsNamed, expressionParts, statementParts}
 use Rattle.definitions.specs.Numbers.{namesNothing, fieldOfDeclaredOwner}
+use Rattle.laws.proofs.TruthValues.{or-left, or-right}
 use Rattle.trees.specs.Trees.{Falling}
 use Rattle.trees.proofs.Unfolding.{nodes-read}
-
-or-left : (a b : Bool) → (a || b) ≡ false → a ≡ false
-or-left true b h = h
-or-left false b h = refl
-
-or-right : (a b : Bool) → (a || b) ≡ false → b ≡ false
-or-right true b h = absurd (true≢false h)
-or-right false b h = h
 
 none-above : (n : ℕ) (xs : List ℕ) → any (leb n) xs ≡ false → all (λ x. ltb x n) xs ≡ true
 unfolding any all

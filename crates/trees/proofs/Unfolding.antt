@@ -1,24 +1,17 @@
 -- The tree of a node unfolds into its children's trees: more levels than a node's number change nothing.
 use mathlib.Core.Path.{_≡_, refl, ap, ap₂}
-use mathlib.Core.Bool.{Bool, true, false, _&&_, false≢true}
+use mathlib.Core.Bool.{true}
 use mathlib.Core.List.{List, [], _∷_, map}
 use Prim.Native.Nat.{ℕ, zero, suc, _<_}
 use native.Mathlib.Omega.{arith}
 use lib.Dec.{ltb, ltb→lt}
 use Rattle.definitions.specs.Basics.{all}
 use Rattle.definitions.specs.ContractFile.{Expression, Statement, NodeRecord, node, ownerOfCode, operatorOf, Kind, constantKind, meKind, fieldKind, entryKind, parameterKind, operatorKind, negationKind, revealKind, skipKind, sequenceKind, assignFieldKind, assignEntryKind, requireKind, conditionalKind, noKind, kindOf, Node, nodeOfKind, nodeOf, nodeAt, expressionParts, statementParts, children, expressionOf, expressionAt, statementOf, statementAt}
+use Rattle.laws.proofs.TruthValues.{and-left, and-right}
 use Rattle.trees.specs.Trees.{expressionIn, statementIn, IsRead, Falling}
 
 below-is : (m n : ℕ) → ltb m n ≡ true → m < n
 below-is m n e = ltb→lt m n (rw e tt)
-
-left : (a b : Bool) → a && b ≡ true → a ≡ true
-left true b e = refl
-left false b e = e
-
-right : (a b : Bool) → a && b ≡ true → b ≡ true
-right true b e = e
-right false b e = absurd (false≢true e)
 
 -- Every node of a file's table is read from a record, the one for a number past the end from a record of no kind.
 pub nodes-read : (rs : List NodeRecord) (n : ℕ) → IsRead (nodeAt (map nodeOf rs) n)
@@ -35,14 +28,14 @@ module _ (n : ℕ) (f g : ℕ → Expression) (same : (m : ℕ) → m < n → f 
   expression-same constantKind r h = refl
   expression-same meKind r h = refl
   expression-same fieldKind r h = refl
-  expression-same entryKind r h = ap (Expression.entry (r .arg)) (same (r .first) (below-is (r .first) n (left _ _ h)))
+  expression-same entryKind r h = ap (Expression.entry (r .arg)) (same (r .first) (below-is (r .first) n (and-left _ _ h)))
   expression-same parameterKind r h = refl
   expression-same operatorKind r h =
-      ap₂ (Expression.operator (operatorOf (r .arg))) (same (r .first) (below-is (r .first) n (left _ _ h)))
-      (same (r .second) (below-is (r .second) n (left _ _ (right (ltb (r .first) n) _ h))))
-  expression-same negationKind r h = ap Expression.negation (same (r .first) (below-is (r .first) n (left _ _ h)))
+      ap₂ (Expression.operator (operatorOf (r .arg))) (same (r .first) (below-is (r .first) n (and-left _ _ h)))
+      (same (r .second) (below-is (r .second) n (and-left _ _ (and-right (ltb (r .first) n) _ h))))
+  expression-same negationKind r h = ap Expression.negation (same (r .first) (below-is (r .first) n (and-left _ _ h)))
   expression-same revealKind r h =
-      ap (λ (e : Expression). Expression.reveal e (ownerOfCode (r .arg))) (same (r .first) (below-is (r .first) n (left _ _ h)))
+      ap (λ (e : Expression). Expression.reveal e (ownerOfCode (r .arg))) (same (r .first) (below-is (r .first) n (and-left _ _ h)))
   expression-same skipKind r h = refl
   expression-same sequenceKind r h = refl
   expression-same assignFieldKind r h = refl
@@ -68,17 +61,17 @@ module _ (n : ℕ) (f g : ℕ → Expression) (same : (m : ℕ) → m < n → f 
     statement-same revealKind r h = refl
     statement-same skipKind r h = refl
     statement-same sequenceKind r h =
-        ap₂ Statement.sequence (alike (r .first) (below-is (r .first) n (left _ _ h)))
-        (alike (r .second) (below-is (r .second) n (left _ _ (right (ltb (r .first) n) _ h))))
-    statement-same assignFieldKind r h = ap (Statement.assignField (r .arg)) (same (r .first) (below-is (r .first) n (left _ _ h)))
+        ap₂ Statement.sequence (alike (r .first) (below-is (r .first) n (and-left _ _ h)))
+        (alike (r .second) (below-is (r .second) n (and-left _ _ (and-right (ltb (r .first) n) _ h))))
+    statement-same assignFieldKind r h = ap (Statement.assignField (r .arg)) (same (r .first) (below-is (r .first) n (and-left _ _ h)))
     statement-same assignEntryKind r h =
-        ap₂ (Statement.assignEntry (r .arg)) (same (r .first) (below-is (r .first) n (left _ _ h)))
-        (same (r .second) (below-is (r .second) n (left _ _ (right (ltb (r .first) n) _ h))))
-    statement-same requireKind r h = ap Statement.require (same (r .first) (below-is (r .first) n (left _ _ h)))
+        ap₂ (Statement.assignEntry (r .arg)) (same (r .first) (below-is (r .first) n (and-left _ _ h)))
+        (same (r .second) (below-is (r .second) n (and-left _ _ (and-right (ltb (r .first) n) _ h))))
+    statement-same requireKind r h = ap Statement.require (same (r .first) (below-is (r .first) n (and-left _ _ h)))
     statement-same conditionalKind r h =
-        let later = right (ltb (r .first) n) _ h in
-        λ i. Statement.conditional (same (r .first) (below-is (r .first) n (left _ _ h)) i) (alike (r .second) (below-is (r .second) n (left _ _ later)) i)
-        (alike (r .third) (below-is (r .third) n (left _ _ (right (ltb (r .second) n) _ later))) i)
+        let later = and-right (ltb (r .first) n) _ h in
+        λ i. Statement.conditional (same (r .first) (below-is (r .first) n (and-left _ _ h)) i) (alike (r .second) (below-is (r .second) n (and-left _ _ later)) i)
+        (alike (r .third) (below-is (r .third) n (and-left _ _ (and-right (ltb (r .second) n) _ later))) i)
     statement-same noKind r h = refl
 
     statement-same-of : (x : Node) → IsRead x → all (λ child. ltb child n) (children x) ≡ true → statementOf x f s ≡ statementOf x g t

@@ -7,8 +7,9 @@ use lib.ListN.{getD}
 use Rattle.definitions.specs.Basics.{any, flatMap}
 use Rattle.definitions.specs.ContractFile.{toFinal, skip, Field, Contract, fieldAt, functionAt, scopeOf, isFinal, FunctionRecord, sectionsOf, fieldOf, Node, nodeOf, functionOf, contractOf, contractIn}
 use Rattle.definitions.specs.Numbers.{fault, fieldInTables, parameterInTables, nodeInTables, outsideTables, statementFaults, fieldOfDeclaredOwner, fieldFaults, functionFaults, contractFaults, checkNumber}
+use Rattle.laws.proofs.TruthValues.{or-left, or-right}
 use Rattle.relations.specs.Acceptance.{FieldsFit, AcceptedBody, constantsFitIn}
-use Rattle.typing.proofs.Basics.{append-left-empty, append-right-empty, or-left-false, or-right-false, fault-none-not}
+use Rattle.typing.proofs.Basics.{append-left-empty, append-right-empty, fault-none-not}
 use Rattle.typing.proofs.Places.{noField}
 use Rattle.numbers.proofs.Sentences.{no-sentence-holds, accepted-settled}
 use Rattle.typing.proofs.FaultNumbers.{contract-faultless}
@@ -39,11 +40,11 @@ module _ (file : List ℕ) (clear : checkNumber file ≡ 0) where
 
   fields-in-tables : fieldsOff ≡ false
   unfolding outsideTables
-  fields-in-tables = or-left-false fieldsOff parametersOff (or-left-false (fieldsOff || parametersOff) nodesOff in-tables)
+  fields-in-tables = or-left fieldsOff parametersOff (or-left (fieldsOff || parametersOff) nodesOff in-tables)
 
   nodes-in-tables : nodesOff ≡ false
   unfolding outsideTables
-  nodes-in-tables = or-right-false (fieldsOff || parametersOff) nodesOff in-tables
+  nodes-in-tables = or-right (fieldsOff || parametersOff) nodesOff in-tables
 
   abbrev contract : Contract
   contract = contractIn file

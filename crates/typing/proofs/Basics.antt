@@ -1,40 +1,17 @@
 -- Laws of truth values, lists and numbers that the theorems on typing share.
 use mathlib.Core.Path.{_≡_, refl, sym, _∙_}
-use mathlib.Core.Bool.{Bool, true, false, _&&_, _||_, not, true≢false, false≢true}
+use mathlib.Core.Bool.{Bool, true, false, _&&_, not, true≢false, false≢true}
 use mathlib.Core.List.{List, [], _∷_, _++_}
 use Prim.Native.Nat.{ℕ, _<_}
 use native.Mathlib.Omega.{arith}
 use borrow.Author.Tests.{ltb-true}
 use Rattle.definitions.specs.ContractFile.{address, isOfType}
 use Rattle.definitions.specs.Numbers.{fault}
-
-pub and-left : (a b : Bool) → (a && b) ≡ true → a ≡ true
-and-left true b h = refl
-and-left false b h = h
-
-pub and-right : (a b : Bool) → (a && b) ≡ true → b ≡ true
-and-right true b h = h
-and-right false b h = absurd (false≢true h)
-
-pub and-both : (a b : Bool) → a ≡ true → b ≡ true → (a && b) ≡ true
-and-both true b p q = q
-and-both false b p q = p
+use Rattle.laws.proofs.TruthValues.{not-false-true}
 
 pub and-right-false : (a b : Bool) → (a && b) ≡ false → a ≡ true → b ≡ false
 and-right-false true b h p = h
 and-right-false false b h p = absurd (false≢true p)
-
-pub or-left-false : (a b : Bool) → (a || b) ≡ false → a ≡ false
-or-left-false true b h = h
-or-left-false false b h = refl
-
-pub or-right-false : (a b : Bool) → (a || b) ≡ false → b ≡ false
-or-right-false true b h = absurd (true≢false h)
-or-right-false false b h = h
-
-pub not-false-true : (b : Bool) → not b ≡ false → b ≡ true
-not-false-true true h = refl
-not-false-true false h = sym h
 
 pub not-true-false : (b : Bool) → not b ≡ true → b ≡ false
 not-true-false true h = sym h

@@ -12,9 +12,10 @@ use Rattle.definitions.specs.ContractFile.{address, Name, meName, finalName, pa
 use Rattle.definitions.specs.Owners.{isPublicAddress, parameterOwner}
 use Rattle.definitions.specs.Original.{addressIn, finalAddress, anyone, only, readerOf, placeReaders}
 use Rattle.definitions.specs.Ledger.{Ledger, plainNumber, openedNumber, contentFor, contentAt, isWellFormed, notCallable, argumentsOff, functionOfLedger, callNumber, honestParameters, honestParametersOf}
+use Rattle.laws.proofs.TruthValues.{and-right, not-false-true, or-left, or-right}
 use Rattle.relations.specs.Environment.{Environment}
 use Rattle.relations.specs.Standing.{Stands, AllStand, readersOf}
-use Rattle.typing.proofs.Basics.{and-right, or-left-false, or-right-false, not-false-true, not-true-false}
+use Rattle.typing.proofs.Basics.{not-true-false}
 use Rattle.numbers.proofs.Sentences.{none-holds}
 use Rattle.typing.proofs.Forms.{plain-at}
 use Rattle.typing.proofs.Contents.{readers-in-call}
@@ -28,9 +29,9 @@ arguments-typed [] [] e h k = refl
 arguments-typed [] (v ∷ vs) e h k = absurd (omega arith)
 arguments-typed (p ∷ ps) [] e h k = absurd (omega arith)
 arguments-typed (p ∷ ps) (v ∷ vs) e h zero =
-    not-false-true (isOfType (p .type) v) (or-left-false (not (isOfType (p .type) v)) (any not (zipWith (λ p v. isOfType (p .type) v) ps vs)) h)
+    not-false-true (isOfType (p .type) v) (or-left (not (isOfType (p .type) v)) (any not (zipWith (λ p v. isOfType (p .type) v) ps vs)) h)
 arguments-typed (p ∷ ps) (v ∷ vs) e h (suc k) =
-    arguments-typed ps vs (omega arith) (or-right-false (not (isOfType (p .type) v)) (any not (zipWith (λ p v. isOfType (p .type) v) ps vs)) h) k
+    arguments-typed ps vs (omega arith) (or-right (not (isOfType (p .type) v)) (any not (zipWith (λ p v. isOfType (p .type) v) ps vs)) h) k
 
 pub honest-parameter-at : (caller call n : ℕ) (ps : List Parameter) (vs : List ℕ) → length vs ≡ length ps → (k : ℕ) → k < length ps
     → contentAt (honestParameters caller call n ps vs) k ≡ contentFor (cond ((parameterAt ps k) .private) (only caller) anyone) call (n + k) (getD vs k 0)
@@ -84,21 +85,21 @@ module _ (l : Ledger) (function caller : ℕ) (arguments : List ℕ) (clear : ca
   pub call-well-formed : isWellFormed l ≡ true
   call-well-formed =
       not-false-true (isWellFormed l)
-      (or-left-false (not (isWellFormed l)) (ltb 15 caller)
-      (or-left-false (not (isWellFormed l) || ltb 15 caller) (leb (length ((contractIn (l .file)) .functions)) function) callable))
+      (or-left (not (isWellFormed l)) (ltb 15 caller)
+      (or-left (not (isWellFormed l) || ltb 15 caller) (leb (length ((contractIn (l .file)) .functions)) function) callable))
 
   pub caller-below : caller < 16
   caller-below =
       let b : caller ≤ 15 =
       ltb-false 15 caller
-      (or-right-false (not (isWellFormed l)) (ltb 15 caller)
-      (or-left-false (not (isWellFormed l) || ltb 15 caller) (leb (length ((contractIn (l .file)) .functions)) function) callable)) in
+      (or-right (not (isWellFormed l)) (ltb 15 caller)
+      (or-left (not (isWellFormed l) || ltb 15 caller) (leb (length ((contractIn (l .file)) .functions)) function) callable)) in
       omega arith
 
   pub function-exists : function < length ((contractIn (l .file)) .functions)
   function-exists =
       leb-false (length ((contractIn (l .file)) .functions)) function
-      (or-right-false (not (isWellFormed l) || ltb 15 caller) (leb (length ((contractIn (l .file)) .functions)) function) callable)
+      (or-right (not (isWellFormed l) || ltb 15 caller) (leb (length ((contractIn (l .file)) .functions)) function) callable)
 
   abbrev countOff : Bool
   countOff = not (eqb (length arguments) (length parameters))
@@ -111,10 +112,10 @@ module _ (l : Ledger) (function caller : ℕ) (arguments : List ℕ) (clear : ca
   arguments-fit = no-sentence-of-call 1
 
   pub argument-count : length arguments ≡ length ((functionOfLedger l function) .parameters)
-  argument-count = eqb-true (length arguments) (length parameters) (not-false-true (eqb (length arguments) (length parameters)) (or-left-false countOff typesOff arguments-fit))
+  argument-count = eqb-true (length arguments) (length parameters) (not-false-true (eqb (length arguments) (length parameters)) (or-left countOff typesOff arguments-fit))
 
   pub argument-typed : (k : ℕ) → isOfType ((parameterAt ((functionOfLedger l function) .parameters) k) .type) (getD arguments k 0) ≡ true
-  argument-typed = arguments-typed parameters arguments argument-count (or-right-false countOff typesOff arguments-fit)
+  argument-typed = arguments-typed parameters arguments argument-count (or-right countOff typesOff arguments-fit)
 
   -- The parameters that the honest call has stand for the arguments.
   pub honest-parameters-stand : (addressOf : Name → ℕ) → addressOf meName ≡ caller → (k : ℕ) → k < length ((functionOfLedger l function) .parameters)

@@ -13,10 +13,11 @@ use Rattle.definitions.specs.ContractFile.{DataType, boolean, uint, address, Sh
 use Rattle.definitions.specs.Numbers.{checkNumber, orElse}
 use Rattle.definitions.specs.Original.{numbersFrom, placeCount, perPlace, finalAddress, Reader, anyone, placeReader, placeReaders, deployedNumbers}
 use Rattle.definitions.specs.Ledger.{Content, plainNumber, contentFor, finalsOff, deployNumber, deployed, fits, allFit, isWellFormed}
+use Rattle.laws.proofs.Lists.{zeros-at}
+use Rattle.laws.proofs.TruthValues.{and-both, or-else-first, or-left, or-right}
 use Rattle.relations.specs.Environment.{placeTypes}
 use Rattle.relations.specs.Acceptance.{FieldsFit}
 use Rattle.relations.specs.Standing.{AllStand}
-use Rattle.typing.proofs.Basics.{and-both, or-left-false, or-right-false}
 use Rattle.typing.proofs.Places.{getD-numbersFrom, first-place, length-field-places}
 use Rattle.typing.proofs.Forms.{length-zipWith, getD-zipWith}
 use Rattle.numbers.proofs.Sentences.{none-holds}
@@ -81,11 +82,6 @@ zero-typed boolean = refl
 zero-typed uint = refl
 zero-typed address = refl
 
-zeros-at : (n p : ℕ) → _≡_ {A = ℕ} (getD (replicate n 0) p 0) 0
-zeros-at zero p = refl
-zeros-at (suc n) zero = refl
-zeros-at (suc n) (suc p) = zeros-at n p
-
 field-typed : (d : Field) (addresses : List ℕ) → (isFinal (d .shape) ≡ true → d .type ≡ address) → getD addresses 0 0 < 16
     → AreTyped (map (λ key. d .type) (numbersFrom 0 (placeCount d))) (placesOfField d addresses)
 field-typed d addresses final below = go (isFinal (d .shape)) refl
@@ -140,10 +136,6 @@ deployed-stand fields addresses =
     same : length readers ≡ length numbers
     same = sym (length-deployed (λ d key. placeReader (finalAddress fields numbers) (d .owner) key) fields addresses)
 
-or-else-first : (a b : ℕ) → orElse a b ≡ 0 → a ≡ 0
-or-else-first zero b h = refl
-or-else-first (suc a) b h = h
-
 or-else-second : (a b : ℕ) → orElse a b ≡ 0 → b ≡ 0
 or-else-second zero b h = h
 or-else-second (suc a) b h = absurd (omega arith)
@@ -152,9 +144,9 @@ none-above : (addresses : List ℕ) → any (ltb 15) addresses ≡ false → (i 
 unfolding any
 none-above [] h i = omega arith
 none-above (x ∷ xs) h zero =
-    let b : x ≤ 15 = ltb-false 15 x (or-left-false (ltb 15 x) (any (ltb 15) xs) h) in
+    let b : x ≤ 15 = ltb-false 15 x (or-left (ltb 15 x) (any (ltb 15) xs) h) in
     omega arith
-none-above (x ∷ xs) h (suc i) = none-above xs (or-right-false (ltb 15 x) (any (ltb 15) xs) h) i
+none-above (x ∷ xs) h (suc i) = none-above xs (or-right (ltb 15 x) (any (ltb 15) xs) h) i
 
 -- A deployment that is not refused.
 module _ (file addresses : List ℕ) (clear : deployNumber file addresses ≡ 0) where
@@ -172,7 +164,7 @@ module _ (file addresses : List ℕ) (clear : deployNumber file addresses ≡ 0)
 
   pub addresses-below : (i : ℕ) → getD addresses i 0 < 16
   addresses-below =
-      none-above addresses (or-right-false (not (eqb (length addresses) (countIf (λ d. isFinal (d .shape)) fields))) (any (ltb 15) addresses) finals-given)
+      none-above addresses (or-right (not (eqb (length addresses) (countIf (λ d. isFinal (d .shape)) fields))) (any (ltb 15) addresses) finals-given)
 
   pub deployed-fields-fit : FieldsFit fields
   deployed-fields-fit = fields-fit file deploys-accepted

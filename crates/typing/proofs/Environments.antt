@@ -12,9 +12,9 @@ use Rattle.definitions.specs.ContractFile.{boolean, Name, Statement, skip, sequ
 use Rattle.definitions.specs.Owners.{Links, linksAfter}
 use Rattle.definitions.specs.Numbers.{statementFaults}
 use Rattle.definitions.specs.Original.{placeCount, position, value, placesAfter}
+use Rattle.laws.proofs.TruthValues.{and-left, and-right}
 use Rattle.relations.specs.Environment.{Environment, placeTypes}
 use Rattle.relations.specs.Acceptance.{constantsFit, constantsFitIn}
-use Rattle.typing.proofs.Basics.{and-left, and-right}
 use Rattle.typing.proofs.Places.{at-place, first-place, final-place-apart, plain-not-final, mapping-not-final}
 use Rattle.typing.proofs.Faults.{sequence-fits, assign-field-fits, assign-entry-fits, conditional-fits}
 use Rattle.typing.proofs.Values.{value-typed, key-in-range}

@@ -11,7 +11,8 @@ use Rattle.definitions.specs.Basics.{any, flatMap, isZero}
 use Rattle.definitions.specs.ContractFile.{DataType, boolean, address, Owner, Expression, constant, me, field, entry, parameter, operator, negation, reveal, Statement, skip, sequence, assignField, assignEntry, require, conditional, Field, Contract, Scope, fieldAt, sameType, shapeCode, isFinal, isMapping, isDivision, operandsFit, typeOf}
 use Rattle.definitions.specs.Owners.{Links, noLinks, isReader, placeOwner, nameOf, ownerOf, isPublic, linksAfter}
 use Rattle.definitions.specs.Numbers.{fault, mayBePut, isTagged, isNone, ownerFits, entryFaults, readFault, expressionFaults, conditionFaults, valueFaults, statementFaults, fieldOfDeclaredOwner, fieldFaults, functionFaults, contractFaults, contractSentences}
-use Rattle.typing.proofs.Basics.{or-left-false, contradiction}
+use Rattle.laws.proofs.TruthValues.{or-left}
+use Rattle.typing.proofs.Basics.{contradiction}
 
 abbrev pub treeNumbers : List ℕ
 treeNumbers = 8 ∷ 9 ∷ 10 ∷ 11 ∷ 12 ∷ 13 ∷ 14 ∷ 15 ∷ []
@@ -40,7 +41,7 @@ not-known x xs [] h off = false≢true h
 not-known x xs (n ∷ numbers) h off = go (eqb x n) refl h (λ later. not-known x xs numbers later (λ j. off (suc j)))
   where
     go : (b : Bool) → eqb x n ≡ b → (b || any (eqb x) numbers) ≡ true → (any (eqb x) numbers ≡ true → ⊥) → ⊥
-    go true e h later = contradiction (eqb n x) (eq-eqb n x (sym (eqb-true x n e))) (or-left-false (eqb n x) (any (eqb n) xs) (off 0))
+    go true e h later = contradiction (eqb n x) (eq-eqb n x (sym (eqb-true x n e))) (or-left (eqb n x) (any (eqb n) xs) (off 0))
     go false e h later = later h
 
 pub none-known : (xs : List ℕ) → Known xs → ((j : ℕ) → getD (map (λ n. any (eqb n) xs) treeNumbers) j false ≡ false) → xs ≡ []

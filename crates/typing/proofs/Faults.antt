@@ -10,7 +10,8 @@ use borrow.Author.Tests.{leb-false}
 use Rattle.definitions.specs.ContractFile.{DataType, boolean, uint, address, Owner, Operator, Expression, field, entry, parameter, operator, negation, reveal, Statement, sequence, assignField, assignEntry, require, conditional, Scope, fieldAt, sameType, shapeCode, isMapping, isDivision, operandsFit, typeOf}
 use Rattle.definitions.specs.Owners.{Links, isReader, placeOwner, nameOf, ownerOf, isPublic, linksAfter}
 use Rattle.definitions.specs.Numbers.{fault, mayBePut, isTagged, isNone, ownerFits, entryFaults, readFault, expressionFaults, conditionFaults, valueFaults, statementFaults}
-use Rattle.typing.proofs.Basics.{and-right-false, or-left-false, or-right-false, not-false-true, two-empty, three-empty, four-empty, fault-none, fault-none-not}
+use Rattle.laws.proofs.TruthValues.{not-false-true, or-left, or-right}
+use Rattle.typing.proofs.Basics.{and-right-false, two-empty, three-empty, four-empty, fault-none, fault-none-not}
 use Rattle.definitions.specs.Basics.{isZero}
 
 pub same-type : (a b : DataType) → sameType a b ≡ true → a ≡ b
@@ -43,8 +44,8 @@ module _ (scope : Scope) where
       record {
         mapping = fault-none-not (isMapping ((fieldAt (scope .fields) f) .shape)) 8 (empty .0);
         address = same-type (typeOf scope key) DataType.address (fault-none-not (sameType (typeOf scope key) DataType.address) 9 (empty .1));
-        public = not-false-true (isPublic scope key) (or-left-false (not (isPublic scope key)) unnamed holds);
-        named = and-right-false (isTagged ((fieldAt (scope .fields) f) .owner)) (isNone (nameOf scope key)) (or-right-false (not (isPublic scope key)) unnamed holds);
+        public = not-false-true (isPublic scope key) (or-left (not (isPublic scope key)) unnamed holds);
+        named = and-right-false (isTagged ((fieldAt (scope .fields) f) .owner)) (isNone (nameOf scope key)) (or-right (not (isPublic scope key)) unnamed holds);
       }
 
   module _ (linked : Links) where

@@ -10,8 +10,8 @@ use lib.ListN.{length, getD, List·getD-map}
 use Rattle.definitions.specs.ContractFile.{DataType, boolean, isOfType}
 use Rattle.definitions.specs.Original.{Reader, anyone, only}
 use Rattle.definitions.specs.Ledger.{Content, plain, cell, plainNumber, openedNumber, contentAt, Form, fits, allFit}
+use Rattle.laws.proofs.TruthValues.{and-both, and-left, and-right}
 use Rattle.relations.specs.Standing.{Stands}
-use Rattle.typing.proofs.Basics.{and-left, and-right, and-both}
 
 abbrev pub form : DataType → Reader → Form
 form t r = record { type = t; reader = r }

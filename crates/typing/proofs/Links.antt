@@ -9,8 +9,8 @@ use Rattle.definitions.specs.Basics.{bit, isTrue}
 use Rattle.definitions.specs.ContractFile.{Name, meName, finalName, parameterName, sameName, plus, minus, times, divide, remainder, less, lessOrEqual, equal, unequal, conjunction, disjunction, Expression, constant, me, field, entry, parameter, operator, negation, reveal, Scope}
 use Rattle.definitions.specs.Owners.{Links, noLinks, withLink, withLinkOf, nameOf, linksOfCondition}
 use Rattle.definitions.specs.Original.{value}
+use Rattle.laws.proofs.TruthValues.{and-left, and-right}
 use Rattle.relations.specs.Environment.{Environment}
-use Rattle.typing.proofs.Basics.{and-left, and-right}
 use Rattle.typing.proofs.Values.{name-address}
 use borrow.Author.Tests.{eqb-true}
 

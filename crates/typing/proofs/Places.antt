@@ -9,15 +9,11 @@ use lib.Seq.{getD-append-add}
 use Rattle.definitions.specs.ContractFile.{boolean, Shape, plainField, finalField, mapping, toEveryone, Field, fieldAt, shapeCode, isFinal, isMapping}
 use Rattle.definitions.specs.Original.{numbersFrom, placeCount, perPlace, position}
 use Rattle.definitions.specs.Basics.{isZero}
+use Rattle.laws.proofs.Lists.{numbers-length}
 
 -- The field that a number past the last one reads as.
 abbrev pub noField : Field
 noField = record { shape = plainField; type = boolean; owner = toEveryone }
-
-pub length-numbersFrom : (n count : ℕ) → length (numbersFrom n count) ≡ count
-unfolding numbersFrom
-length-numbersFrom n zero = refl
-length-numbersFrom n (suc count) = ap suc (length-numbersFrom (suc n) count)
 
 pub getD-numbersFrom : {A : Type 0} (ask : ℕ → A) (n count i : ℕ) (e : A) → i < count → getD (map ask (numbersFrom n count)) i e ≡ ask (n + i)
 unfolding numbersFrom
@@ -32,7 +28,7 @@ module _ {A : Type 0} (ask : Field → ℕ → A) where
   placesOf d = map (ask d) (numbersFrom 0 (placeCount d))
 
   pub length-field-places : (d : Field) → length (placesOf d) ≡ placeCount d
-  length-field-places d = length-map (numbersFrom 0 (placeCount d)) (ask d) ∙ length-numbersFrom 0 (placeCount d)
+  length-field-places d = length-map (numbersFrom 0 (placeCount d)) (ask d) ∙ numbers-length 0 (placeCount d)
 
   pub at-place : (fields : List Field) (f key : ℕ) → key < placeCount (fieldAt fields f)
       → getD (perPlace ask fields) (position fields f key) (ask noField 0) ≡ ask (fieldAt fields f) key

@@ -8,10 +8,10 @@ use lib.Dec.{eqb, leb}
 use Rattle.definitions.specs.Basics.{any, isZero}
 use Rattle.definitions.specs.ContractFile.{DataType, address, plainField, finalField, mapping, toEveryone, toKey, toFinal, Expression, Statement, Field, fieldAt, isFinal, isMapping, FieldRecord, NodeRecord, dataTypeOf, shapeOf, fieldOwnerOfCode, isFinalCode, fieldOf, Kind, constantKind, meKind, fieldKind, entryKind, parameterKind, operatorKind, negationKind, revealKind, skipKind, sequenceKind, assignFieldKind, assignEntryKind, requireKind, conditionalKind, noKind, kindOf, constantValue, nodeOfKind, nodeOf, nodeAt, expressionOf, statementOf, statementAt, isOfType}
 use Rattle.definitions.specs.Numbers.{fieldInTables, kindInTables, nodeInTables, isTagged}
+use Rattle.laws.proofs.TruthValues.{and-both, and-left, and-right, not-false-true, or-left, or-right}
 use Rattle.trees.specs.Trees.{Keeps}
 use Rattle.trees.proofs.Kept.{unknown-keeps, statement-kept}
 use Rattle.relations.specs.Acceptance.{constantsFit, constantsFitIn}
-use Rattle.typing.proofs.Basics.{and-left, and-right, and-both, or-left-false, or-right-false, not-false-true}
 use Rattle.typing.proofs.Places.{noField}
 
 -- Of a tree, that its constants fit.
@@ -53,8 +53,8 @@ kind-fits noKind r h below part = (refl, λ later each. refl)
 nodes-fit : (rs : List NodeRecord) → any (λ r. not (nodeInTables r)) rs ≡ false → (n : ℕ) → Keeps Fits FitsIn (nodeAt (map nodeOf rs) n)
 unfolding any constantsFit constantsFitIn
 nodes-fit [] h n = unknown-keeps Fits FitsIn refl refl
-nodes-fit (r ∷ rs) h zero = kind-fits (kindOf (r .kind)) r (not-false-true (nodeInTables r) (or-left-false (not (nodeInTables r)) (any (λ r. not (nodeInTables r)) rs) h))
-nodes-fit (r ∷ rs) h (suc n) = nodes-fit rs (or-right-false (not (nodeInTables r)) (any (λ r. not (nodeInTables r)) rs) h) n
+nodes-fit (r ∷ rs) h zero = kind-fits (kindOf (r .kind)) r (not-false-true (nodeInTables r) (or-left (not (nodeInTables r)) (any (λ r. not (nodeInTables r)) rs) h))
+nodes-fit (r ∷ rs) h (suc n) = nodes-fit rs (or-right (not (nodeInTables r)) (any (λ r. not (nodeInTables r)) rs) h) n
 
 pub statement-constants : (rs : List NodeRecord) → any (λ r. not (nodeInTables r)) rs ≡ false → (levels n : ℕ) → FitsIn (statementAt levels (map nodeOf rs) n)
 unfolding constantsFit constantsFitIn
@@ -119,5 +119,5 @@ pub each-field-fits : (rs : List FieldRecord) → any (λ r. not (fieldInTables 
 unfolding any
 each-field-fits [] h f = no-field-fits
 each-field-fits (r ∷ rs) h zero =
-    field-fits r (not-false-true (fieldInTables r) (or-left-false (not (fieldInTables r)) (any (λ r. not (fieldInTables r)) rs) h))
-each-field-fits (r ∷ rs) h (suc f) = each-field-fits rs (or-right-false (not (fieldInTables r)) (any (λ r. not (fieldInTables r)) rs) h) f
+    field-fits r (not-false-true (fieldInTables r) (or-left (not (fieldInTables r)) (any (λ r. not (fieldInTables r)) rs) h))
+each-field-fits (r ∷ rs) h (suc f) = each-field-fits rs (or-right (not (fieldInTables r)) (any (λ r. not (fieldInTables r)) rs) h) f

@@ -14,9 +14,10 @@ use Rattle.definitions.specs.ContractFile.{DataType, boolean, uint, address, Na
 use Rattle.definitions.specs.Owners.{Links, nameOf, isPublicAddress}
 use Rattle.definitions.specs.Numbers.{expressionFaults, statementFaults}
 use Rattle.definitions.specs.Original.{placeCount, position, operate, value}
+use Rattle.laws.proofs.TruthValues.{and-left}
 use Rattle.relations.specs.Environment.{Environment}
 use Rattle.relations.specs.Acceptance.{constantsFit, constantsFitIn}
-use Rattle.typing.proofs.Basics.{and-left, address-below}
+use Rattle.typing.proofs.Basics.{address-below}
 use Rattle.typing.proofs.Places.{at-place, first-place, mapping-place}
 use Rattle.typing.proofs.Faults.{same-type, EntryFits, entry-read-fits, operator-fits, reveal-fits, assign-entry-fits}
 

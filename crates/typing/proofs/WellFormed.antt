@@ -10,10 +10,10 @@ use Rattle.definitions.specs.ContractFile.{boolean, Field, fieldAt, functionAt,
 use Rattle.definitions.specs.Numbers.{checkNumber}
 use Rattle.definitions.specs.Original.{finalAddress, placeReaders}
 use Rattle.definitions.specs.Ledger.{Ledger, plainNumber, openedNumber, isBeforeCalls, isAfterCall, isWellFormed, fits, allFit}
+use Rattle.laws.proofs.TruthValues.{and-left, and-right}
 use Rattle.relations.specs.Environment.{placeTypes}
 use Rattle.relations.specs.Acceptance.{FieldsFit, AcceptedBody}
 use Rattle.relations.specs.Standing.{AllStand}
-use Rattle.typing.proofs.Basics.{and-left, and-right}
 use Rattle.typing.proofs.Acceptance.{fields-fit, accepted}
 use Rattle.typing.proofs.Contents.{plain-readers, fitting-length, fitting-stand, fitting-typed, final-plain, formsOf}
 

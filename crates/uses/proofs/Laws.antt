@@ -10,16 +10,10 @@ use lib.Seq.{getD-set-same, getD-set-other}
 use borrow.Author.Tests.{eqb-true, eqb-false}
 use Rattle.definitions.specs.Basics.{countIf}
 use Rattle.definitions.specs.ContractFile.{NodeRecord, nodeOf, children}
+use Rattle.laws.proofs.Lists.{count-append}
 use Rattle.nodes.specs.Children.{childCount}
 use Rattle.nodes.proofs.ByCount.{no-children, one-child, two-children, three-children}
 use Rattle.uses.specs.Counting.{Room, Counted}
-
-countIf-append : (test : ℕ → Bool) (xs ys : List ℕ) → countIf test (xs ++ ys) ≡ countIf test xs + countIf test ys
-unfolding countIf
-countIf-append test [] ys = omega arith
-countIf-append test (x ∷ xs) ys =
-    let e = countIf-append test xs ys in
-    omega arith
 
 countIf-length : (test : ℕ → Bool) (xs : List ℕ) → countIf test xs ≤ length xs
 unfolding countIf
@@ -40,7 +34,7 @@ counted-none counts = record { each = λ n h. omega arith; long = refl }
 pub counted-more : (a b c : List ℕ) (xs ys : List ℕ) → Counted a b xs → Counted b c ys → Counted a c (xs ++ ys)
 counted-more a b c xs ys p q =
     record {
-      each = λ n h. (let e = p .each n h in let f = q .each n h in let g = countIf-append (eqb n) xs ys in omega arith);
+      each = λ n h. (let e = p .each n h in let f = q .each n h in let g = count-append (eqb n) xs ys in omega arith);
       long = q .long
           ∙ p .long;
     }

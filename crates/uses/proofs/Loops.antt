@@ -11,11 +11,11 @@ use borrow.Author.Tests.{eq-eqb, ne-eqb}
 use Rattle.definitions.specs.Basics.{anyNumbered, countIf, flatMap}
 use Rattle.definitions.specs.ContractFile.{FunctionRecord, NodeRecord, twoBytesAt, functionEnd, functionRecord, functionRecords, nodeRecord, nodeRecords, sectionsOf, nodeOf, children}
 use Rattle.definitions.specs.Numbers.{usesOf, usedOtherThanOnce}
+use Rattle.laws.proofs.Records.{force-is}
 use Rattle.file.specs.declared.Layout.{Layout}
 use Rattle.file.specs.declared.Node.{Node}
 use Rattle.file.specs.Layout.{IsLayout}
 use Rattle.file.specs.Node.{recordOf, IsNode}
-use Rattle.file.proofs.Laws.{force-is}
 use Rattle.file.proofs.Sections.{functions-are, nodes-are, count-of-nodes}
 use Rattle.nodes.specs.Children.{childCount}
 use Rattle.nodes.proofs.Children.{children-are}

@@ -1,23 +1,10 @@
 -- The codes of / and % are 3 and 4.
 use mathlib.Core.Path.{_≡_, refl}
 use mathlib.Core.Bool.{Bool, true, false, _&&_}
-use Prim.Native.Nat.{ℕ, zero, suc}
+use Prim.Native.Nat.{ℕ}
 use Rattle.definitions.specs.ContractFile.{Expression, Scope, isDivision, operatorOf}
 use Rattle.definitions.specs.Owners.{isPublic}
-
-pub other-operator : (code : ℕ) → (code ≡ 3 → ⊥) → (code ≡ 4 → ⊥) → isDivision (operatorOf code) ≡ false
-other-operator zero h k = refl
-other-operator (suc zero) h k = refl
-other-operator (suc (suc zero)) h k = refl
-other-operator (suc (suc (suc zero))) h k = absurd (h refl)
-other-operator (suc (suc (suc (suc zero)))) h k = absurd (k refl)
-other-operator (suc (suc (suc (suc (suc zero))))) h k = refl
-other-operator (suc (suc (suc (suc (suc (suc zero)))))) h k = refl
-other-operator (suc (suc (suc (suc (suc (suc (suc zero))))))) h k = refl
-other-operator (suc (suc (suc (suc (suc (suc (suc (suc zero)))))))) h k = refl
-other-operator (suc (suc (suc (suc (suc (suc (suc (suc (suc zero))))))))) h k = refl
-other-operator (suc (suc (suc (suc (suc (suc (suc (suc (suc (suc zero)))))))))) h k = refl
-other-operator (suc (suc (suc (suc (suc (suc (suc (suc (suc (suc (suc n))))))))))) h k = refl
+use Rattle.laws.proofs.Codes.{other-operator}
 
 -- A public division, by the operator's code.
 module _ (public : Bool) (code : ℕ) where

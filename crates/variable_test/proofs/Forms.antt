@@ -11,6 +11,8 @@ use Rattle.definitions.specs.ContractFile.{boolean, meName, finalName, paramete
 use Rattle.definitions.specs.Rewriting.{Variable, always, privateParameters, openings, rewriteStatement, rewriteFunction}
 use Rattle.definitions.specs.Original.{anyone, readerOf}
 use Rattle.definitions.specs.Ledger.{Content, Form, allFit}
+use Rattle.laws.proofs.Lists.{map-append}
+use Rattle.laws.proofs.Written.{opening-count}
 use Rattle.trees.specs.Trees.{expressionIn, statementIn}
 use Rattle.context.specs.Context.{Context, nodesIn, parametersIn, scopeIn}
 use Rattle.context.specs.Functions.{rootAt}
@@ -62,11 +64,6 @@ module _ (file : List ℕ) (at : ℕ) (addresses : List ℕ) where
   opening-told [] i = refl
   opening-told (k ∷ ks) i = ap (λ (l : List Form). openingForm (parametersIn file at) (getD addresses 1 0) k ∷ l) (opening-told ks (suc i))
 
-  opening-count : (ks : List ℕ) (i : ℕ) → length ((openings ks i) .variables) ≡ length ks
-  unfolding openings
-  opening-count [] i = refl
-  opening-count (k ∷ ks) i = ap suc (opening-count ks (suc i))
-
   private-is : length private ≡ privateIn file at
   unfolding privateCount parametersIn
   private-is = refl
@@ -77,10 +74,6 @@ module _ (file : List ℕ) (at : ℕ) (addresses : List ℕ) where
       let body = statementIn (nodesIn file) (rootAt file at) in
       ap (λ (i : ℕ). (openings private 0) .variables ++ (rewriteStatement (scopeIn file at) body always i) .variables) (opening-count private 0 ∙ private-is)
       ∙ ap (λ (vs : List Variable). (openings private 0) .variables ++ vs) (sym ((statement-made (scopeIn file at) body always (privateIn file at)) .variables))
-
-  map-append : {A B : Type 0} (f : A → B) (xs ys : List A) → map f (xs ++ ys) ≡ map f xs ++ map f ys
-  map-append f [] ys = refl
-  map-append f (x ∷ xs) ys = ap (λ (l : List _). f x ∷ l) (map-append f xs ys)
 
   module _ (numbers : List ℕ) (entries : Entries (nodesIn file) (eventsIn file at) numbers) (context : Context file at (nodesAt file)) where
     forms-are : map formOfVariable ((writtenIn file at) .variables) ≡ openingForms (parametersIn file at) (getD addresses 1 0) 0 ++ loggedForms file at addresses numbers

@@ -2,15 +2,15 @@
 use mathlib.Core.Path.{_≡_, refl, ap, sym, _∙_}
 use mathlib.Core.Bool.{Bool, true, false, cond}
 use mathlib.Core.List.{List, [], _∷_}
-use Prim.Native.Nat.{ℕ, suc, _+_, _/_, _<_, _≤_}
+use Prim.Native.Nat.{ℕ, _+_, _/_, _<_, _≤_}
 use native.Mathlib.Omega.{arith}
 use borrow.Author.Tests.{eq-eqb, ne-eqb}
 use lib.Dec.{eqb, leb}
 use lib.ListN.{length, drop, getD, length-drop, length-map, List·getD-eq-default}
-use lib.Seq.{drop-cons}
 use Rattle.definitions.specs.ContractFile.{DataType, boolean, Expression, twoBytesAt, nodeCount, sectionsOf, dataTypeOf, Node, unknownNode, nodeOf, nodeAt, expressionOf, typeOf}
 use Rattle.definitions.specs.Original.{anyone, only}
 use Rattle.definitions.specs.Ledger.{Content, Form, allFit}
+use Rattle.laws.proofs.Lists.{five-next}
 use Rattle.trees.specs.Trees.{expressionIn}
 use Rattle.trees.proofs.Unfolding.{expression-unfolds}
 use Rattle.file.proofs.Sections.{count-of-nodes}
@@ -54,22 +54,6 @@ module _ (file : List ℕ) (at start tag n : ℕ) (context : Context file at sta
   pub past-typed : (tag ≡ 3 → ⊥) → nodeCount file ≤ n → dataTypeOf 2 ≡ typeDue
   unfolding typeOf
   past-typed t h = rw (ne-eqb tag 3 t, past-is-me h)
-
-drop-next : (log : List ℕ) (i j : ℕ) → j ≡ suc i → i < length log → drop i log ≡ getD log i 0 ∷ drop j log
-drop-next log i j e h = drop-cons log i 0 h ∙ ap (λ (n : ℕ). getD log i 0 ∷ drop n log) (sym e)
-
-five-next : (log : List ℕ) (i : ℕ) → i + 4 < length log
-    → drop i log ≡ getD log i 0 ∷ getD log (i + 1) 0 ∷ getD log (i + 2) 0 ∷ getD log (i + 3) 0 ∷ getD log (i + 4) 0 ∷ drop (i + 5) log
-five-next log i h =
-    let a = getD log i 0 in
-    let b = getD log (i + 1) 0 in
-    let c = getD log (i + 2) 0 in
-    let d = getD log (i + 3) 0 in
-    drop-next log i (i + 1) (omega arith) (omega arith)
-    ∙ ap (λ (l : List ℕ). a ∷ l) (drop-next log (i + 1) (i + 2) (omega arith) (omega arith))
-    ∙ ap (λ (l : List ℕ). a ∷ b ∷ l) (drop-next log (i + 2) (i + 3) (omega arith) (omega arith))
-    ∙ ap (λ (l : List ℕ). a ∷ b ∷ c ∷ l) (drop-next log (i + 3) (i + 4) (omega arith) (omega arith))
-    ∙ ap (λ (l : List ℕ). a ∷ b ∷ c ∷ d ∷ l) (drop-next log (i + 4) (i + 5) (omega arith) (omega arith))
 
 module _ (file : List ℕ) (at : ℕ) (addresses log : List ℕ) (i : ℕ) where
   abbrev formsLeft : List Form

@@ -12,8 +12,9 @@ use Rattle.definitions.specs.ContractFile.{Parameter, parameterAt, byteAt, para
 use Rattle.definitions.specs.Original.{only}
 use Rattle.definitions.specs.Ledger.{Content, Form}
 use Rattle.definitions.specs.Rewriting.{privateParameters}
+use Rattle.laws.proofs.Records.{parameters-length}
 use Rattle.context.specs.Context.{parametersIn}
-use Rattle.context.proofs.Declarations.{parameters-length, parameter-declared}
+use Rattle.context.proofs.Declarations.{parameter-declared}
 use Rattle.readers.specs.declared.Reader.{Reader}
 use Rattle.readers.specs.Readers.{readerOfCode, formOf}
 use Rattle.forms_test.specs.Forms.{fitsOrZero, fitsAt, frontFits}

@@ -8,6 +8,7 @@ use lib.ListN.{length, length-append}
 use Rattle.definitions.specs.Basics.{flatMap}
 use Rattle.definitions.specs.ContractFile.{NodeRecord}
 use Rattle.definitions.specs.Rewriting.{Command, WrittenFunction, Tree, size, sizes, numbered, numberedAll, commandTree, claimTrees, functionTrees}
+use Rattle.laws.proofs.Written.{sizes-append}
 use Rattle.written_trees.specs.Trees.{commandOf, commandIn}
 use Rattle.written_trees.proofs.Numbering.{size-positive, numbered-length, reads-back}
 use Rattle.written_trees.proofs.RoundTrip.{command-shaped, command-said}
@@ -19,11 +20,6 @@ numbered-append (t ∷ ts) us n =
     ap (λ (l : List NodeRecord). numbered n t ++ l) (numbered-append ts us (n + size t))
     ∙ sym (append-assoc (numbered n t) (numberedAll (n + size t) ts) (numberedAll (n + size t + sizes ts) us))
     ∙ ap (λ (k : ℕ). (numbered n t ++ numberedAll (n + size t) ts) ++ numberedAll k us) (add-assoc n (size t) (sizes ts))
-
-pub sizes-append : (ts us : List Tree) → sizes (ts ++ us) ≡ sizes ts + sizes us
-unfolding sizes
-sizes-append [] us = omega arith
-sizes-append (t ∷ ts) us = let e = sizes-append ts us in omega arith
 
 pub all-length : (ts : List Tree) (n : ℕ) → length (numberedAll n ts) ≡ sizes ts
 unfolding numberedAll sizes

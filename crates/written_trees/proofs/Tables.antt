@@ -9,7 +9,9 @@ use Rattle.definitions.specs.Basics.{flatMap}
 use lib.Seq.{getD-append-add}
 use Rattle.definitions.specs.ContractFile.{NodeRecord, byteAt, twoBytesAt, nodeRecord, nodeRecords, node}
 use Rattle.definitions.specs.Rewriting.{nodeBytes}
-use Rattle.file.proofs.Laws.{length-nodeRecords, getD-nodeRecords}
+use Rattle.laws.proofs.Records.{node-records-length}
+use Rattle.laws.proofs.Written.{nodes-length}
+use Rattle.file.proofs.Laws.{getD-nodeRecords}
 use Rattle.written_trees.specs.Trees.{recordAt}
 use Rattle.written_trees.specs.Table.{countOf, tableOf}
 
@@ -20,7 +22,7 @@ node-there bytes n h = rw zero-add at (getD-nodeRecords (countOf bytes) bytes 0 
 pub node-past : (bytes : List ℕ) (n : ℕ) → countOf bytes ≤ n → recordAt (tableOf bytes) n ≡ node 0 0 0 0 0
 unfolding tableOf
 node-past bytes n h =
-    let l = length-nodeRecords (countOf bytes) bytes 0 in
+    let l = node-records-length (countOf bytes) bytes 0 in
     List·getD-eq-default (nodeRecords (countOf bytes) bytes 0) (node 0 0 0 0 0) (omega arith)
 
 -- A node whose parts are numbers of one and of two bytes.
@@ -80,14 +82,9 @@ records-back (r ∷ rs) (more _ _ h hs) before after at e =
     (ap (λ (l : List ℕ). nodeRecords (length rs) l (at + 8)) (whole ∙ bytes-more before r (flatMap nodeBytes rs ++ after))
     ∙ records-back rs hs (before ++ nodeBytes r) after (at + 8) next)
 
-bytes-length : (nodes : List NodeRecord) → length (flatMap nodeBytes nodes) ≡ 8 * length nodes
-unfolding flatMap
-bytes-length [] = refl
-bytes-length (r ∷ rs) = let e = bytes-length rs in let l = length-append (nodeBytes r) (flatMap nodeBytes rs) in omega arith
-
 -- A table that is written to bytes reads back.
 pub table-back : (nodes : List NodeRecord) → AllNarrow nodes → tableOf (flatMap nodeBytes nodes) ≡ nodes
 unfolding tableOf
 table-back nodes h =
-    let count : countOf (flatMap nodeBytes nodes) ≡ length nodes = let l = bytes-length nodes in omega arith in
+    let count : countOf (flatMap nodeBytes nodes) ≡ length nodes = let l = nodes-length nodes in omega arith in
     rw count (ap (λ (l : List ℕ). nodeRecords (length nodes) l 0) (sym (append-nil (flatMap nodeBytes nodes))) ∙ records-back nodes h [] [] 0 refl)

@@ -5,8 +5,9 @@ use lib.ListN.{length}
 use native.Mathlib.Omega.{arith}
 use borrow.Author.Needs.{needs}
 use borrow.Rule.Slice.PartMut.{putMid, take-put}
+use Rattle.laws.proofs.Records.{kind-as}
 use Rattle.body_output.proofs.Logged.{others-simple}
-use Rattle.body_output.proofs.Sequences.{kind-as, parts-less, first-ready, second-room, second-ready, parent-ready, sequence-written}
+use Rattle.body_output.proofs.Sequences.{parts-less, first-ready, second-room, second-ready, parent-ready, sequence-written}
 use Rattle.body_output.proofs.Branches.{leaf-room, guard-room, inside-ready, branch-parent, branch-written, branches-less, then-ready, else-room, else-ready, branches-parent, branches-written}
 use Rattle.body_output.proofs.Conditionals.{condition-ready, condition-fits, branches-ready, close-room, conditional-written}
 use Prim.Native.Nat.{ℕ, _<_}

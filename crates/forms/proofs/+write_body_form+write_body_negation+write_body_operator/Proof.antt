@@ -2,9 +2,9 @@
 use mathlib.Core.Path.{sym, _∙_}
 use Prim.Native.Nat.{_+_, _*_}
 use native.Mathlib.Omega.{arith}
+use Rattle.laws.proofs.Records.{kind-as}
 use Rattle.context.proofs.Nodes.{key-below, operands-below, part-below}
 use Rattle.node_output.proofs.Laws.{room-as, room-any, room-one, room-left, room-right, room-above-one, room-above-two, numbered-as, numbered-leaf, numbered-one, numbered-two}
-use Rattle.forms.proofs.Listed.{kind-as}
 use Rattle.forms.proofs.BodyNodes.{constant-body, field-body, entry-body, parameter-body, reveal-body, other-body, entry-count, operator-body, operator-count, supplied-operator-body, negation-body, negation-count, supplied-negation-body}
 use Prim.Native.Nat.{ℕ, _<_}
 use borrow.Fn.Kinds.{In}

@@ -2,9 +2,9 @@
 use mathlib.Core.Path.{refl, sym, _∙_}
 use Prim.Native.Nat.{_+_, _*_}
 use native.Mathlib.Omega.{arith}
+use Rattle.laws.proofs.Records.{kind-as}
 use Rattle.context.proofs.Nodes.{key-below, operands-below, part-below, revealed-below}
 use Rattle.node_output.proofs.Laws.{room-as, room-any, room-one, room-left, room-right, room-above-one, room-above-two, numbered-as, numbered-leaf, numbered-one, numbered-two}
-use Rattle.forms.proofs.Listed.{kind-as}
 use Rattle.forms.proofs.CircuitNodes.{constant-circuit, field-circuit, entry-circuit, parameter-circuit, division-circuit, operator-circuit, negation-circuit, reveal-circuit, other-circuit, entry-variables, division-variables, operator-variables, negation-variables, reveal-variables}
 use Prim.Native.Nat.{ℕ, _<_}
 use borrow.Fn.Kinds.{In}

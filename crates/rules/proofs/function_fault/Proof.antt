@@ -1,6 +1,6 @@
 -- `rules::function_fault` meets its contract.
+use Rattle.laws.proofs.Records.{parameters-length}
 use Rattle.rules.proofs.Functions.{root-is, function-fault-is}
-use Rattle.scopes.proofs.Lists.{length-parameterRecords}
 use Rattle.definitions.specs.ContractFile.{byteAt}
 use Prim.Native.Nat.{_+_}
 use native.Mathlib.Omega.{arith}
@@ -37,7 +37,7 @@ judge-statement-requires : tie.Need-judge-statement-requires
 judge-statement-requires c κs =
     let s = c .before .before .before .before in
     let ready = s .pre in
-    let few = sym (length-parameterRecords (byteAt (s .args .file .now) (s .args .at)) (s .args .file .now) (s .args .at + 1)) in
+    let few = sym (parameters-length (byteAt (s .args .file .now) (s .args .at)) (s .args .file .now) (s .args .at + 1)) in
     let root = root-is (s .args .file .now) (s .args .at) (c .before .before .byte-at .result) (c .before .two-bytes-at .result)
     (c .before .before .byte-at .ensures .0) (c .before .two-bytes-at .ensures .0) in
     let h = ready .root in

@@ -1,9 +1,9 @@
 -- `statement_forms::write_entry_form` meets its contract.
 use mathlib.Core.Path.{sym, _∙_}
 use native.Mathlib.Omega.{arith}
+use Rattle.laws.proofs.Records.{kind-as}
 use Rattle.context.proofs.Statements.{key-and-value-below}
 use Rattle.node_output.proofs.Laws.{room-as, room-left, room-right, room-above-two, numbered-as, numbered-two}
-use Rattle.forms.proofs.Listed.{kind-as}
 use Rattle.statement_forms.proofs.Nodes.{entry-form, entry-count}
 use Rattle.statement_forms.proofs.write_entry_form.Statement.{statement}
 use Rattle.statement_forms.proofs.write_entry_form.Tie as tie

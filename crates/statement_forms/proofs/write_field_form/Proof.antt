@@ -1,9 +1,9 @@
 -- `statement_forms::write_field_form` meets its contract.
 use mathlib.Core.Path.{sym, _∙_}
 use native.Mathlib.Omega.{arith}
+use Rattle.laws.proofs.Records.{kind-as}
 use Rattle.context.proofs.Statements.{value-below}
 use Rattle.node_output.proofs.Laws.{room-as, room-one, room-above-one, numbered-as, numbered-one}
-use Rattle.forms.proofs.Listed.{kind-as}
 use Rattle.statement_forms.proofs.Nodes.{field-form, field-count}
 use Rattle.statement_forms.proofs.write_field_form.Statement.{statement}
 use Rattle.statement_forms.proofs.write_field_form.Tie as tie

@@ -1,8 +1,8 @@
 -- `statement_forms::write_statement_form` meets its contract.
 use native.Mathlib.Omega.{arith}
+use Rattle.laws.proofs.Records.{kind-as}
 use Rattle.context.proofs.Statements.{sequence-is, conditional-is, still-is}
 use Rattle.node_output.proofs.Laws.{room-any, numbered-as, numbered-leaf}
-use Rattle.forms.proofs.Listed.{kind-as}
 use Rattle.statement_forms.proofs.Statements.{form-of-sequence, form-of-conditional, form-of-skip}
 use Rattle.statement_forms.proofs.write_statement_form.Statement.{statement}
 use Rattle.statement_forms.proofs.write_statement_form.Tie as tie

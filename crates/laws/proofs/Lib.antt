@@ -1,0 +1,5 @@
+pub mod TruthValues
+pub mod Lists
+pub mod Codes
+pub mod Records
+pub mod Written
