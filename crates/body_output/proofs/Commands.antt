@@ -5,12 +5,13 @@ use native.Mathlib.Numerals.{add-one}
 use lib.ListN.{length, length-append}
 use Rattle.definitions.specs.ContractFile.{boolean, Expression, Statement, Scope}
 use Rattle.definitions.specs.Rewriting.{BodyExpression, Command, Guard, always, under, stepsBefore, inBody, single, inSequence, inBranch, inBranches, rewriteStatement}
+use Rattle.events.proofs.Appended.{variable-count-append}
 use Rattle.events.specs.Events.{variablesOf, variableCount, stepsOf, inTurn, bodyEvents, branchEvents, statementEvents}
 use Rattle.events.proofs.Pieces.{body-made}
 use Rattle.events.proofs.Singles.{conditional-command}
 use Rattle.events.proofs.Statements.{statement-made}
 use Rattle.body_output.specs.Parts.{commandOf, eventsOf, branchCommand, branchEventCount, branchVariableCount}
-use Rattle.body_output.proofs.Guards.{count-append, statement-alike}
+use Rattle.body_output.proofs.Guards.{statement-alike}
 
 module _ (scope : Scope) where
   counted : (s : Statement) (g : Guard) (i : ℕ) → length ((rewriteStatement scope s g i) .variables) ≡ variableCount (eventsOf scope s i)
@@ -44,7 +45,7 @@ module _ (scope : Scope) where
       → variableCount (eventsOf scope (Statement.sequence first second) i)
       ≡ variableCount (eventsOf scope first i) + variableCount (eventsOf scope second (i + variableCount (eventsOf scope first i)))
   unfolding statementEvents inTurn
-  sequence-variables first second i = count-append (eventsOf scope first i) _
+  sequence-variables first second i = variable-count-append (eventsOf scope first i) _
 
   -- A branch, whose guard is variable j.
   branch-command : (s : Statement) (j : ℕ) → (inBranch (rewriteStatement scope s) j) .command ≡ branchCommand scope s j
@@ -103,8 +104,8 @@ module _ (scope : Scope) where
         ≡ variableCount (bodyEvents scope always condition i) + (branchVariableCount scope then first + branchVariableCount scope else second)
     unfolding statementEvents inTurn
     branching-variables =
-        count-append (bodyEvents scope always condition i) _
+        variable-count-append (bodyEvents scope always condition i) _
         ∙ ap (λ (n : ℕ). variableCount (bodyEvents scope always condition i) + n)
-        (count-append (branchEvents (statementEvents scope then) first) _
+        (variable-count-append (branchEvents (statementEvents scope then) first) _
         ∙ ap₂ _+_ (branch-variables then first)
         (ap (λ (n : ℕ). variableCount (branchEvents (statementEvents scope else) (first + n))) (branch-variables then first) ∙ branch-variables else second))

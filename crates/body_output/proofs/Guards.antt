@@ -1,7 +1,7 @@
 -- How many events there are, and how many variables they make, depends neither on the guard nor on the number of the first variable.
 use mathlib.Core.Path.{_≡_, refl, ap, ap₂, sym, _∙_}
 use mathlib.Core.Bool.{Bool, true, false, _&&_, cond}
-use mathlib.Core.List.{List, [], _∷_, _++_}
+use mathlib.Core.List.{List, [], _∷_}
 use mathlib.Core.Option.{none}
 use Prim.Native.Nat.{ℕ, suc, _+_, _≤_}
 use native.Mathlib.Omega.{arith}
@@ -9,11 +9,8 @@ use lib.ListN.{length, length-append}
 use Rattle.definitions.specs.ContractFile.{meName, Owner, everyone, ownedBy, Expression, Statement, Scope, fieldAt, isDivision}
 use Rattle.definitions.specs.Owners.{isPublic, nameOf, placeOwner}
 use Rattle.definitions.specs.Rewriting.{Guard, under}
+use Rattle.events.proofs.Appended.{variable-count-append}
 use Rattle.events.specs.Events.{Event, suppliedEvent, claimedEvent, readEvent, guardEvent, variablesOf, variableCount, stepsOf, Events, noEvents, inTurn, supplyEvents, readEvents, bodyEvents, circuitEvents, placeEvents, branchEvents, statementEvents}
-use Rattle.events.proofs.Appended.{variables-append}
-
-pub count-append : (first second : List Event) → variableCount (first ++ second) ≡ variableCount first + variableCount second
-count-append first second = ap length (variables-append first second) ∙ length-append (variablesOf first) (variablesOf second)
 
 -- There are no more steps than events.
 pub steps-few : (scope : Scope) (events : List Event) → length (stepsOf scope events) ≤ length events
@@ -37,7 +34,7 @@ unfolding inTurn
 turn-alike a b c d h k =
     record {
       lengths = λ i j. length-append (a i) _ ∙ ap₂ _+_ (h .lengths i j) (k .lengths _ _) ∙ sym (length-append (c j) _);
-      variables = λ i j. count-append (a i) _ ∙ ap₂ _+_ (h .variables i j) (k .variables _ _) ∙ sym (count-append (c j) _);
+      variables = λ i j. variable-count-append (a i) _ ∙ ap₂ _+_ (h .variables i j) (k .variables _ _) ∙ sym (variable-count-append (c j) _);
     }
 
 supply-alike : (g k : Guard) (o : Owner) (e : Expression) (a b : Events) → Alike a b → Alike (supplyEvents g o e a) (supplyEvents k o e b)
@@ -45,7 +42,7 @@ unfolding supplyEvents variablesOf
 supply-alike g k o e a b h =
     record {
       lengths = λ i j. ap suc (length-append (a (suc i)) _ ∙ ap (λ (n : ℕ). n + 1) (h .lengths (suc i) (suc j)) ∙ sym (length-append (b (suc j)) _));
-      variables = λ i j. ap suc (count-append (a (suc i)) _ ∙ ap (λ (n : ℕ). n + 0) (h .variables (suc i) (suc j)) ∙ sym (count-append (b (suc j)) _));
+      variables = λ i j. ap suc (variable-count-append (a (suc i)) _ ∙ ap (λ (n : ℕ). n + 0) (h .variables (suc i) (suc j)) ∙ sym (variable-count-append (b (suc j)) _));
     }
 
 read-alike : (o : Owner) (e : Expression) (a b : Events) → Alike a b → Alike (readEvents o e a) (readEvents o e b)
@@ -53,7 +50,7 @@ unfolding readEvents variablesOf
 read-alike o e a b h =
     record {
       lengths = λ i j. length-append (a i) _ ∙ ap (λ (n : ℕ). n + 1) (h .lengths i j) ∙ sym (length-append (b j) _);
-      variables = λ i j. count-append (a i) _ ∙ ap (λ (n : ℕ). n + 1) (h .variables i j) ∙ sym (count-append (b j) _);
+      variables = λ i j. variable-count-append (a i) _ ∙ ap (λ (n : ℕ). n + 1) (h .variables i j) ∙ sym (variable-count-append (b j) _);
     }
 
 either-alike : (b : Bool) (x y z w : Events) → Alike x z → Alike y w → Alike (cond b x y) (cond b z w)

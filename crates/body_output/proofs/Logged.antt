@@ -6,9 +6,9 @@ use Prim.Native.Nat.{ℕ, _+_, _*_, _/_, _<_, _≤_}
 use native.Mathlib.Omega.{arith}
 use borrow.Author.Tests.{eqb-true, eqb-false}
 use lib.Dec.{eqb}
-use lib.ListN.{length, length-map}
-use Rattle.definitions.specs.ContractFile.{Statement, Scope, NodeRecord, nodeCount, sectionsOf, nodeOf}
-use Rattle.file.proofs.Sections.{count-of-nodes}
+use lib.ListN.{length}
+use Rattle.definitions.specs.ContractFile.{Statement, Scope, NodeRecord, nodeCount}
+use Rattle.context.proofs.Nodes.{nodes-counted}
 use Rattle.definitions.specs.Rewriting.{Guard, always, single, rewriteStatement, commandTree}
 use Rattle.trees.specs.Trees.{expressionIn, statementIn}
 use Rattle.context.specs.Context.{Context, nodesIn, scopeIn}
@@ -41,10 +41,6 @@ use Rattle.statement_output.proofs.Rewritten.{isSimple, single-rewritten}
 use Rattle.body_output.specs.Parts.{statementTree, eventsAt, conditionSteps, recordAt}
 use Rattle.body_output.specs.Bodies.{StatementReady, StatementWritten, ConditionReady, ConditionWritten}
 use Rattle.body_output.proofs.Guards.{steps-few}
-
-nodes-counted : (file : List ℕ) → length (nodesIn file) ≡ nodeCount file
-unfolding nodesIn
-nodes-counted file = omega (arith, length-map ((sectionsOf file) .nodes) nodeOf, count-of-nodes file)
 
 abbrev start : ℕ → Position
 start i = record { at = 0; variable = i }

@@ -41,3 +41,8 @@ module _ (held : List ℕ) (at : ℕ) where
       ∙ drop-append-add behind (drop (at + length first) held) (length second) ∙ drop-drop (length second) (at + length first) held
       ∙ ap (λ (n : ℕ). drop n held) (add-assoc at (length first) (length second) ∙ ap (λ (n : ℕ). at + n) (sym (length-append first second))) in
       rw (take-at behind (drop (at + length first) held) (at + length first) front, rest, append-assoc (take at held) first second)
+
+-- What is stored from the start on is what stands at the front.
+pub front-stored : (held after values : List ℕ) (n : ℕ) → after ≡ stored held 0 values → n ≡ length values → take n after ≡ values
+unfolding stored
+front-stored held after values n e l = rw e (take-at values (drop (0 + length values) held) n (sym l))

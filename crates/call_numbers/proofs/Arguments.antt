@@ -5,22 +5,16 @@ use mathlib.Core.List.{List, [], _∷_, zipWith}
 use Prim.Native.Nat.{ℕ, suc, _+_, _*_, _<_, _≤_}
 use native.Mathlib.Numerals.{add-one}
 use borrow.Author.Tests.{eq-eqb, ne-eqb}
-use lib.ListN.{length, getD, drop, length-map, drop-of-length-le}
+use lib.ListN.{length, getD, drop, drop-of-length-le}
 use lib.Seq.{drop-cons}
 use Rattle.definitions.specs.Basics.{any}
-use Rattle.definitions.specs.ContractFile.{Parameter, Function, boolean, parameterAt, isOfType, byteAt, dataTypeOf, functionCount, parameterRecords, parameterOf}
+use Rattle.definitions.specs.ContractFile.{Parameter, Function, boolean, parameterAt, isOfType, byteAt, dataTypeOf, functionCount, parameterOf}
 use Rattle.definitions.specs.Ledger.{Ledger, argumentsOff}
-use Rattle.laws.proofs.Records.{parameters-length}
 use Rattle.context.specs.Context.{parametersIn}
 use Rattle.context.specs.Functions.{functionStart}
 use Rattle.context.proofs.Declarations.{parameter-declared}
 use Rattle.context.proofs.Functions.{function-in}
 use Rattle.call_numbers.specs.Arguments.{anyOutside, argumentsOffFor}
-
-pub parameters-count : (file : List ℕ) (at : ℕ) → length (parametersIn file at) ≡ byteAt file at
-unfolding parametersIn
-parameters-count file at =
-    length-map (parameterRecords (byteAt file at) file (at + 1)) parameterOf ∙ parameters-length (byteAt file at) file (at + 1)
 
 -- The arguments of a call are off as those of the function at its place are.
 pub arguments-off-are : (l : Ledger) (function caller : ℕ) (arguments : List ℕ) → function < functionCount (l .file)

@@ -10,11 +10,11 @@ use lib.ListN.{length, getD, take, set}
 use Rattle.definitions.specs.ContractFile.{Parameter, parameterAt, byteAt, parameterOf}
 use Rattle.definitions.specs.Original.{Reader, anyone, only}
 use Rattle.definitions.specs.Ledger.{Content, plain, contentFor, honestParameters}
+use Rattle.context.proofs.Declarations.{parameters-count}
 use Rattle.contents.specs.Contents.{contentsOf}
 use Rattle.contents.proofs.Laws.{length-contentsOf}
 use Rattle.context.specs.Context.{parametersIn}
 use Rattle.context.proofs.Declarations.{parameter-declared}
-use Rattle.call_numbers.proofs.Arguments.{parameters-count}
 use Rattle.call_numbers.proofs.Filling.{filled-more, filled-whole}
 use Rattle.call_parameters.specs.Parameters.{isPrivate, readerFor, ParametersRoom}
 

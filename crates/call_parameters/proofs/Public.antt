@@ -9,10 +9,10 @@ use lib.ListN.{length, take, drop, set, drop-of-length-le}
 use lib.Seq.{drop-cons, take-suc-set}
 use Rattle.definitions.specs.ContractFile.{Parameter, boolean, parameterAt, byteAt}
 use Rattle.definitions.specs.Ledger.{Content, plain, contentAt, publicOf}
+use Rattle.context.proofs.Declarations.{parameters-count}
 use Rattle.contents.specs.Contents.{contentsOf, contentOfFive}
 use Rattle.contents.proofs.Laws.{length-contentsOf}
 use Rattle.context.specs.Context.{parametersIn}
-use Rattle.call_numbers.proofs.Arguments.{parameters-count}
 use Rattle.call_parameters.specs.Parameters.{isPrivate, PublicRoom, PublicPut, Picked}
 
 -- The first contents are those of the first fives.

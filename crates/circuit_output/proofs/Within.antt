@@ -5,15 +5,15 @@ use mathlib.Core.List.{List, [], _∷_, _++_}
 use mathlib.Core.Option.{none}
 use Prim.Native.Nat.{ℕ, suc, _+_, _≤_}
 use native.Mathlib.Omega.{arith}
-use lib.ListN.{length, length-append}
+use lib.ListN.{length}
 use Rattle.definitions.specs.ContractFile.{meName, Owner, everyone, ownedBy, Operator, Expression, Statement, Scope, fieldAt, isDivision}
 use Rattle.definitions.specs.Owners.{nameOf, placeOwner, isPublic}
 use Rattle.definitions.specs.Rewriting.{Guard, under}
+use Rattle.events.proofs.Appended.{variable-count-append}
 use Rattle.variable_counts.specs.Counts.{circuitCount}
 use Rattle.variable_counts.proofs.Counts.{circuit-makes}
 use Rattle.variable_counts.proofs.Steps.{circuit-negation, circuit-reveal}
 use Rattle.events.specs.Events.{Event, suppliedEvent, claimedEvent, readEvent, guardEvent, variablesOf, variableCount, Events, noEvents, inTurn, supplyEvents, readEvents, operatorEvents, bodyEvents, circuitEvents, placeEvents, branchEvents, statementEvents}
-use Rattle.events.proofs.Appended.{variables-append}
 use Rattle.events.proofs.Pieces.{circuit-made}
 use Rattle.circuit_output.specs.ClaimsWithin.{ClaimsWithin}
 
@@ -34,9 +34,6 @@ module _ (scope : Scope) where
   within-append m (readEvent s j o e ∷ events) second a b = within-append m events second a b
   within-append m (guardEvent i ∷ events) second a b = within-append m events second a b
 
-  count-append : (first second : List Event) → variableCount (first ++ second) ≡ variableCount first + variableCount second
-  count-append first second = ap length (variables-append first second) ∙ length-append (variablesOf first) (variablesOf second)
-
   pub record Within (events : Events) : Type 0 where
     pub claims : (i : ℕ) → ClaimsWithin scope (i + variableCount (events i)) (events i)
 
@@ -50,7 +47,7 @@ module _ (scope : Scope) where
       record {
         claims = λ i.
             let j = i + variableCount (a i) in
-            let total = count-append (a i) (b j) in
+            let total = variable-count-append (a i) (b j) in
             within-append (i + variableCount (a i ++ b j)) (a i) (b j) (within-more j (i + variableCount (a i ++ b j)) (a i) (omega arith) (x .claims i))
             (within-more (j + variableCount (b j)) (i + variableCount (a i ++ b j)) (b j) (omega arith) (y .claims j));
       }
@@ -62,7 +59,7 @@ module _ (scope : Scope) where
       record {
         claims = λ i.
             let c = circuit (suc i) in
-            let total = count-append c (claimedEvent g i o e ∷ []) in
+            let total = variable-count-append c (claimedEvent g i o e ∷ []) in
             let own = counted (suc i) in
             within-append (i + suc (variableCount (c ++ (claimedEvent g i o e ∷ [])))) c (claimedEvent g i o e ∷ [])
             (within-more (suc i + variableCount c) (i + suc (variableCount (c ++ (claimedEvent g i o e ∷ [])))) c (omega arith) (x .claims (suc i))) (omega arith, tt);
@@ -75,7 +72,7 @@ module _ (scope : Scope) where
         claims = λ i.
             let p = parts i in
             let own = readEvent i (i + variableCount p) o e ∷ [] in
-            let total = count-append p own in
+            let total = variable-count-append p own in
             within-append (i + variableCount (p ++ own)) p own (within-more (i + variableCount p) (i + variableCount (p ++ own)) p (omega arith) (x .claims i)) tt;
       }
 

@@ -1,10 +1,10 @@
 -- A field and a parameter of the scope, by their number: as the bytes at its place say, or what stands for none.
-use mathlib.Core.Path.{_≡_}
+use mathlib.Core.Path.{_≡_, _∙_}
 use mathlib.Core.Bool.{true}
 use mathlib.Core.List.{List, map}
 use Prim.Native.Nat.{ℕ, zero, suc, _+_, _*_, _<_, _≤_}
 use native.Mathlib.Omega.{arith}
-use lib.ListN.{getD, length-map, List·getD-eq-default}
+use lib.ListN.{getD, length-map, List·getD-eq-default, length}
 use Rattle.definitions.specs.ContractFile.{Field, Parameter, fieldAt, parameterAt, plainField, boolean, toEveryone, byteAt, fieldCount, fieldRecords, parameterRecords, fieldOf, parameterOf}
 use Rattle.laws.proofs.Records.{fields-length, parameters-length}
 use Rattle.file.proofs.Sections.{fields-are}
@@ -47,3 +47,7 @@ module _ (file : List ℕ) (at k : ℕ) where
   parameter-missing h =
       List·getD-eq-default (map parameterOf (parameterRecords (byteAt file at) file (at + 1))) _
       (omega (arith, length-map (parameterRecords (byteAt file at) file (at + 1)) parameterOf, parameters-length (byteAt file at) file (at + 1)))
+
+pub parameters-count : (file : List ℕ) (at : ℕ) → length (parametersIn file at) ≡ byteAt file at
+unfolding parametersIn
+parameters-count file at = length-map (parameterRecords (byteAt file at) file (at + 1)) parameterOf ∙ parameters-length (byteAt file at) file (at + 1)

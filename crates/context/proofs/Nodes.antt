@@ -6,7 +6,7 @@ use Prim.Native.Nat.{ℕ, _+_, _*_, _<_, _≤_}
 use native.Mathlib.Omega.{arith}
 use borrow.Author.Tests.{ne-eqb, ltb-true, ltb-false}
 use lib.Dec.{eqb, ltb}
-use lib.ListN.{getD, length-map, List·getD-map, List·getD-eq-default}
+use lib.ListN.{getD, length-map, List·getD-map, List·getD-eq-default, length}
 use Rattle.definitions.specs.Basics.{all}
 use Rattle.definitions.specs.ContractFile.{Expression, Statement, NodeRecord, nodesAt, nodeCount, nodeRecord, sectionsOf, dataTypeOf, ownerOfCode, operatorOf, Kind, constantKind, meKind, fieldKind, entryKind, parameterKind, operatorKind, negationKind, revealKind, skipKind, sequenceKind, assignFieldKind, assignEntryKind, requireKind, conditionalKind, noKind, kindOf, Node, unknownNode, nodeOfKind, nodeOf, nodeAt, children, expressionParts, statementParts, expressionOf}
 use Rattle.definitions.specs.Numbers.{kindInTables}
@@ -92,9 +92,12 @@ node-read file n inside =
     ap (getD (map nodeOf ((sectionsOf file) .nodes)) n) (sym nothing-unknown) ∙ List·getD-map nodeOf ((sectionsOf file) .nodes) n nothingAt
     ∙ ap nodeOf (node-of file n nothingAt inside)
 
-node-past : (file : List ℕ) (n : ℕ) → nodeCount file ≤ n → nodeAt (nodesIn file) n ≡ unknownNode
+pub nodes-counted : (file : List ℕ) → length (nodesIn file) ≡ nodeCount file
 unfolding nodesIn
-node-past file n h = List·getD-eq-default (map nodeOf ((sectionsOf file) .nodes)) unknownNode (omega (arith, length-map ((sectionsOf file) .nodes) nodeOf, count-of-nodes file))
+nodes-counted file = length-map ((sectionsOf file) .nodes) nodeOf ∙ count-of-nodes file
+
+pub node-past : (file : List ℕ) (n : ℕ) → nodeCount file ≤ n → nodeAt (nodesIn file) n ≡ unknownNode
+node-past file n h = List·getD-eq-default (nodesIn file) unknownNode (omega (arith, nodes-counted file))
 
 -- What the nodes of a file keep, its whole table keeps.
 pub nodes-keep : (P : Expression → Type 0) (Q : Statement → Type 0) → P Expression.me → Q Statement.skip → (file : List ℕ)

@@ -6,9 +6,8 @@ use Prim.Native.Nat.{ℕ, zero, suc, _+_, _<_, _≤_}
 use native.Mathlib.Numerals.{add-one}
 use native.Mathlib.Omega.{arith}
 use lib.ListN.{length, getD, set, take, drop, replicate, length-append, length-map, length-replicate}
-use lib.Seq.{getD-drop, take-at, take-suc, take-suc-set, take-all}
+use lib.Seq.{getD-drop, take-suc, take-suc-set, take-all}
 use Rattle.laws.proofs.Lists.{numbers-length}
-use Rattle.buffer.specs.Buffer.{stored}
 use Rattle.definitions.specs.ContractFile.{Field, Shape, plainField, finalField, mapping, isFinal, isMapping, contractOf, fieldCount, contractIn}
 use Rattle.definitions.specs.Original.{numbersFrom, placeCount, perPlace, deployedNumbers}
 use Rattle.context.specs.Context.{fieldsIn}
@@ -76,11 +75,6 @@ bytes-deployed (d ∷ ds) addresses h =
         → Bytes (cond b (getD addresses 0 0 ∷ deployedNumbers ds (drop 1 addresses)) (replicate (placeCount d) 0 ++ deployedNumbers ds addresses))
     go less more true = bytes-first (getD addresses 0 0) (deployedNumbers ds (drop 1 addresses)) (h 0) less
     go less more false = bytes-append (replicate (placeCount d) 0) (deployedNumbers ds addresses) (bytes-zeros (placeCount d)) more
-
--- What is written at the front is what stands there.
-pub front-stands : (before after written : List ℕ) (count : ℕ) → after ≡ stored before 0 written → count ≡ length written → take count after ≡ written
-unfolding stored
-front-stands before after written count e n = rw (e, n) (take-at written (drop (0 + length written) before) (length written) refl)
 
 -- One byte more is copied.
 pub copy-next : (file bytes : List ℕ) (i : ℕ) → i < length file → i < length bytes → take i bytes ≡ take i file → take (i + 1) (set bytes i (getD file i 0)) ≡ take (i + 1) file

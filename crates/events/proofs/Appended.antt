@@ -1,10 +1,11 @@
 -- What events make, of one list of events behind another.
-use mathlib.Core.Path.{_≡_, refl, ap}
+use mathlib.Core.Path.{_≡_, refl, ap, _∙_}
 use mathlib.Core.List.{List, [], _∷_, _++_}
-use Prim.Native.Nat.{suc}
+use Prim.Native.Nat.{suc, _+_}
+use lib.ListN.{length, length-append}
 use Rattle.definitions.specs.ContractFile.{Scope}
 use Rattle.definitions.specs.Rewriting.{Variable, supplied, readFrom, guard, equals, Claim, Guard, Constraint, Step, inBody, inCircuit, heldUnder}
-use Rattle.events.specs.Events.{Event, suppliedEvent, claimedEvent, readEvent, guardEvent, variablesOf, stepsOf, constraintsOf}
+use Rattle.events.specs.Events.{Event, suppliedEvent, claimedEvent, readEvent, guardEvent, variablesOf, stepsOf, constraintsOf, variableCount}
 
 pub variables-append : (first second : List Event) → variablesOf (first ++ second) ≡ variablesOf first ++ variablesOf second
 unfolding variablesOf
@@ -13,6 +14,9 @@ variables-append (suppliedEvent i o e ∷ first) second = ap (λ (l : List Varia
 variables-append (claimedEvent g i o e ∷ first) second = variables-append first second
 variables-append (readEvent s j o e ∷ first) second = ap (λ (l : List Variable). readFrom o e ∷ l) (variables-append first second)
 variables-append (guardEvent i ∷ first) second = ap (λ (l : List Variable). guard ∷ l) (variables-append first second)
+
+pub variable-count-append : (first second : List Event) → variableCount (first ++ second) ≡ variableCount first + variableCount second
+variable-count-append first second = ap length (variables-append first second) ∙ length-append (variablesOf first) (variablesOf second)
 
 pub steps-append : (scope : Scope) (first second : List Event) → stepsOf scope (first ++ second) ≡ stepsOf scope first ++ stepsOf scope second
 unfolding stepsOf

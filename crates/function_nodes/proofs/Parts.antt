@@ -4,14 +4,12 @@ use mathlib.Core.Bool.{Bool, true, false, cond}
 use mathlib.Core.List.{List, [], _∷_, _++_}
 use Prim.Native.Nat.{ℕ, suc, _+_, _*_, _≤_}
 use native.Mathlib.Omega.{arith}
-use lib.ListN.{length, length-map}
+use lib.ListN.{length}
 use Rattle.definitions.specs.Basics.{flatMap}
-use Rattle.definitions.specs.ContractFile.{Parameter, Scope, byteAt, nodesAt, nodeCount, parameterRecords, parameterOf, sectionsOf, nodeOf}
+use Rattle.definitions.specs.ContractFile.{Parameter, Scope, nodesAt}
 use Rattle.definitions.specs.Rewriting.{always, Constraint, WrittenFunction, privateParameters, openings, heldUnder, Tree, size, sizes, numberedAll, nodeBytes, commandTree, claimTrees, functionTrees}
-use Rattle.laws.proofs.Records.{parameters-length}
 use Rattle.laws.proofs.Written.{opening-count, sizes-append}
 use Rattle.trees.specs.Trees.{statementIn}
-use Rattle.file.proofs.Sections.{count-of-nodes}
 use Rattle.buffer.specs.Buffer.{stored}
 use Rattle.buffer.proofs.Laws.{stored-length}
 use Rattle.context.specs.Context.{Context, nodesIn, fieldsIn, parametersIn, scopeIn}
@@ -29,6 +27,8 @@ use Rattle.circuit_output.proofs.Claimable.{claimable}
 use Rattle.circuit_output.proofs.Within.{statement-within, claims-few}
 use Rattle.function_nodes.specs.Functions.{openingNumbers, circuitTrees, FunctionLogged, ConstraintsReady, ConstraintsPut}
 use Rattle.function_nodes.proofs.Openings.{numbers-length, opening-numbers, opening-trees, opening-claims}
+use Rattle.context.proofs.Declarations.{parameters-count}
+use Rattle.context.proofs.Nodes.{nodes-counted}
 
 private-few : (k : ℕ) (ps : List Parameter) → length (privateParameters k ps) ≤ length ps
 unfolding privateParameters
@@ -84,16 +84,8 @@ module _ (file : List ℕ) (at : ℕ) where
   unfolding sizes
   sizes-are = let e = sizes-append (circuitTrees written) (commandTree (written .body) ∷ []) in omega arith
 
-  parameters-count : length (parametersIn file at) ≡ byteAt file at
-  unfolding parametersIn
-  parameters-count = length-map (parameterRecords (byteAt file at) file (at + 1)) parameterOf ∙ parameters-length (byteAt file at) file (at + 1)
-
-  nodes-count : length (nodesIn file) ≡ nodeCount file
-  unfolding nodesIn
-  nodes-count = length-map ((sectionsOf file) .nodes) nodeOf ∙ count-of-nodes file
-
   pub few-private : FunctionRoom file at 0 0 → privateIn file at ≤ 8
-  few-private room = omega (arith, private-few 0 (parametersIn file at), private-is, parameters-count, room .context .fewParameters)
+  few-private room = omega (arith, private-few 0 (parametersIn file at), private-is, parameters-count file at, room .context .fewParameters)
 
   pub constraints-bound : FunctionRoom file at 0 0 → length (written .constraints) ≤ 1544
   constraints-bound room = omega (arith, count-is, few-private room, constraints-few (scopeIn file at) (eventsIn file at), room .events)
@@ -118,7 +110,7 @@ module _ (file : List ℕ) (at : ℕ) where
         let body = statementIn (nodesIn file) (rootAt file at) in
         let few = claims-few (scopeIn file at) (statementEvents (scopeIn file at) body always) (privateIn file at) (statement-within (scopeIn file at) body always)
         (omega (arith, logged .room .variables)) in
-        rw (logged .count) (claimable file at nodes-count log (eventsIn file at) (logged .numbers) (logged .told) 0 (logged .held) few)
+        rw (logged .count) (claimable file at (nodes-counted file) log (eventsIn file at) (logged .numbers) (logged .told) 0 (logged .held) few)
 
     pub private-space : (numbers : List ℕ) → 4 * (entries + 8) ≤ length numbers → (private ≤ 8) × (4 * private ≤ length numbers)
     private-space numbers space =

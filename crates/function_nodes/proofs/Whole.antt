@@ -1,14 +1,15 @@
 -- The circuits' nodes and then the body's are the function's.
 use mathlib.Core.Path.{_≡_, ap, sym, _∙_}
 use mathlib.Core.Bool.{Bool}
-use mathlib.Core.List.{List, [], _∷_, _++_, append-nil}
+use mathlib.Core.List.{List, [], _∷_, _++_}
 use Prim.Native.Nat.{ℕ, _+_, _*_, _≤_}
 use native.Mathlib.Nat.{zero-add}
 use native.Mathlib.Omega.{arith}
 use lib.Dec.{ltb}
 use lib.ListN.{length}
 use Rattle.definitions.specs.Basics.{flatMap}
-use Rattle.definitions.specs.Rewriting.{WrittenFunction, Tree, sizes, numbered, numberedAll, nodeBytes, commandTree, functionTrees}
+use Rattle.definitions.specs.Rewriting.{WrittenFunction, sizes, numberedAll, nodeBytes, commandTree, functionTrees}
+use Rattle.node_output.proofs.Laws.{one-tree}
 use Rattle.laws.proofs.Written.{nodes-length}
 use Rattle.buffer.specs.Buffer.{stored}
 use Rattle.buffer.proofs.Laws.{stored-length}
@@ -23,10 +24,6 @@ use Rattle.function_nodes.proofs.Parts.{sizes-are, room-context, constr
 
 circuit-bytes : (w : WrittenFunction) → length (flatMap nodeBytes (numberedAll 0 (circuitTrees w))) ≡ 8 * sizes (circuitTrees w)
 circuit-bytes w = nodes-length (numberedAll 0 (circuitTrees w)) ∙ ap (λ (n : ℕ). 8 * n) (all-length (circuitTrees w) 0)
-
-one-tree : (n : ℕ) (t : Tree) → flatMap nodeBytes (numberedAll n (t ∷ [])) ≡ treeBytes n t
-unfolding numberedAll treeBytes
-one-tree n t = ap (flatMap nodeBytes) (append-nil (numbered n t))
 
 function-bytes : (w : WrittenFunction)
     → flatMap nodeBytes (numberedAll 0 (circuitTrees w)) ++ treeBytes (sizes (circuitTrees w)) (commandTree (w .body)) ≡ flatMap nodeBytes (numberedAll 0 (functionTrees w))

@@ -1,13 +1,14 @@
 -- A function's circuits, then its body: the nodes of both together, and room for the body and the heading.
 use mathlib.Core.Path.{_≡_, ap, sym, _∙_}
 use mathlib.Core.Bool.{Bool}
-use mathlib.Core.List.{List, [], _∷_, _++_, append-nil}
+use mathlib.Core.List.{List, [], _∷_, _++_}
 use Prim.Native.Nat.{ℕ, _+_, _*_, _≤_}
 use native.Mathlib.Omega.{arith}
 use lib.Dec.{ltb}
 use lib.ListN.{length}
 use Rattle.definitions.specs.Basics.{flatMap}
-use Rattle.definitions.specs.Rewriting.{Tree, size, sizes, numbered, numberedAll, nodeBytes, commandTree, functionTrees, functionBytes}
+use Rattle.definitions.specs.Rewriting.{Tree, size, sizes, numberedAll, nodeBytes, commandTree, functionTrees, functionBytes}
+use Rattle.node_output.proofs.Laws.{one-tree}
 use Rattle.laws.proofs.Written.{nodes-length}
 use Rattle.buffer.specs.Buffer.{stored}
 use Rattle.buffer.proofs.Laws.{stored-length}
@@ -23,16 +24,12 @@ use Rattle.function_output.specs.Writing.{circuitsIn, CircuitsReady, Cir
 use Rattle.function_output.proofs.Written.{constraints-few, constraints-counted, trees-are, trees-counted}
 use Rattle.function_output.proofs.Logs.{context-at}
 
-last-bytes : (n : ℕ) (t : Tree) → flatMap nodeBytes (numberedAll n (t ∷ [])) ≡ treeBytes n t
-unfolding numberedAll treeBytes
-last-bytes n t = ap (flatMap nodeBytes) (append-nil (numbered n t))
-
 -- The bytes of trees with one more behind them.
 bytes-then : (ts : List Tree) (t : Tree) (n : ℕ)
     → flatMap nodeBytes (numberedAll n (ts ++ (t ∷ []))) ≡ flatMap nodeBytes (numberedAll n ts) ++ treeBytes (n + sizes ts) t
 bytes-then ts t n =
     ap (flatMap nodeBytes) (numbered-append ts (t ∷ []) n) ∙ nodes-append (numberedAll n ts) (numberedAll (n + sizes ts) (t ∷ []))
-    ∙ ap (λ (l : List ℕ). flatMap nodeBytes (numberedAll n ts) ++ l) (last-bytes (n + sizes ts) t)
+    ∙ ap (λ (l : List ℕ). flatMap nodeBytes (numberedAll n ts) ++ l) (one-tree (n + sizes ts) t)
 
 trees-length : (ts : List Tree) (n : ℕ) → length (flatMap nodeBytes (numberedAll n ts)) ≡ 8 * sizes ts
 trees-length ts n = nodes-length (numberedAll n ts) ∙ ap (λ (k : ℕ). 8 * k) (all-length ts n)

@@ -8,6 +8,7 @@ use lib.Seq.{take-append-seam}
 use Rattle.definitions.specs.Basics.{flatMap}
 use Rattle.definitions.specs.ContractFile.{nodesAt}
 use Rattle.definitions.specs.Rewriting.{always, Tree, sizes, numberedAll, nodeBytes, constraintBytes}
+use Rattle.context.proofs.Nodes.{nodes-counted}
 use Rattle.trees.specs.Trees.{statementIn}
 use Rattle.buffer.specs.Buffer.{stored}
 use Rattle.buffer.proofs.Laws.{stored-length}
@@ -31,7 +32,7 @@ use Rattle.circuit_output.proofs.Within.{statement-within, claims-few}
 use Rattle.circuit_output.proofs.Claimable.{claimable}
 use Rattle.function_room.specs.Functions.{privateIn, eventsIn, FunctionRoom}
 use Rattle.function_output.specs.Writing.{constraintsIn, circuitsIn, CircuitsReady, CircuitsWritten}
-use Rattle.function_output.proofs.Written.{nodes-counted, constraints-few, trees-counted}
+use Rattle.function_output.proofs.Written.{constraints-few, trees-counted}
 
 pub take-stored : (held values : List ℕ) (n : ℕ) → n ≡ length values → take n (stored held 0 values) ≡ values
 unfolding stored

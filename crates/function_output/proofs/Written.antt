@@ -3,12 +3,11 @@ use mathlib.Core.Path.{_≡_, refl, ap, _∙_}
 use mathlib.Core.List.{List, [], _∷_, _++_}
 use Prim.Native.Nat.{ℕ, suc, _+_, _≤_}
 use native.Mathlib.Omega.{arith}
-use lib.ListN.{length, length-append, length-map}
+use lib.ListN.{length, length-append}
 use Rattle.definitions.specs.Basics.{flatMap}
-use Rattle.definitions.specs.ContractFile.{Scope, nodeCount, sectionsOf, nodeOf}
+use Rattle.definitions.specs.ContractFile.{Scope}
 use Rattle.definitions.specs.Rewriting.{always, Constraint, heldUnder, privateParameters, openings, Tree, size, sizes, commandTree, claimTrees, functionTrees}
 use Rattle.laws.proofs.Written.{claim-count, opening-count, sizes-append}
-use Rattle.file.proofs.Sections.{count-of-nodes}
 use Rattle.trees.specs.Trees.{statementIn}
 use Rattle.context.specs.Context.{nodesIn, fieldsIn, parametersIn, scopeIn}
 use Rattle.context.specs.Functions.{rootAt}
@@ -17,10 +16,6 @@ use Rattle.events.proofs.Functions.{function-constraints}
 use Rattle.parameter_output.specs.Parameters.{privateCount}
 use Rattle.function_room.specs.Functions.{functionIn, writtenIn, privateIn}
 use Rattle.function_output.specs.Writing.{constraintsIn, circuitsIn}
-
-pub nodes-counted : (file : List ℕ) → length (nodesIn file) ≡ nodeCount file
-unfolding nodesIn
-nodes-counted file = omega (arith, length-map ((sectionsOf file) .nodes) nodeOf, count-of-nodes file)
 
 -- An event makes one constraint or none.
 pub constraints-few : (scope : Scope) (events : List Event) → length (constraintsOf scope events) ≤ length events

@@ -1,14 +1,14 @@
 -- Each function of an accepted file can be written, behind those before it and alone.
-use mathlib.Core.Path.{_≡_, ap, _∙_}
+use mathlib.Core.Path.{_≡_, ap}
 use mathlib.Core.Bool.{Bool, true, false, cond}
 use mathlib.Core.List.{List, [], _∷_}
 use Prim.Native.Nat.{ℕ, zero, suc, _+_, _*_, _-_, _<_, _≤_}
 use native.Mathlib.Omega.{arith}
-use lib.ListN.{length, length-map}
-use Rattle.definitions.specs.ContractFile.{Statement, Parameter, Function, functionAt, byteAt, functionCount, nodesAt, nodeCount, parameterRecords, parameterOf, sectionsOf, contractOf}
+use lib.ListN.{length}
+use Rattle.definitions.specs.ContractFile.{Statement, Parameter, Function, functionAt, byteAt, functionCount, nodesAt, nodeCount, sectionsOf, contractOf}
 use Rattle.definitions.specs.Numbers.{checkNumber}
 use Rattle.definitions.specs.Rewriting.{always, privateParameters}
-use Rattle.laws.proofs.Records.{parameters-length}
+use Rattle.context.proofs.Declarations.{parameters-count}
 use Rattle.file.proofs.Sections.{count-of-nodes}
 use Rattle.numbers.specs.Settled.{Settled}
 use Rattle.numbers.proofs.Sentences.{accepted-settled}
@@ -46,13 +46,9 @@ private-few k (p ∷ ps) = go (p .private) (private-few (suc k) ps)
     go true h = omega arith
     go false h = omega arith
 
-parameters-counted : (file : List ℕ) (at : ℕ) → length (parametersIn file at) ≡ byteAt file at
-unfolding parametersIn
-parameters-counted file at = length-map (parameterRecords (byteAt file at) file (at + 1)) parameterOf ∙ parameters-length (byteAt file at) file (at + 1)
-
 private-within : (file : List ℕ) (at : ℕ) → privateIn file at ≤ byteAt file at
 unfolding privateCount parametersIn
-private-within file at = omega (arith, private-few 0 (parametersIn file at), parameters-counted file at)
+private-within file at = omega (arith, private-few 0 (parametersIn file at), parameters-count file at)
 
 -- What stands before a later function is no less than what stands before and in an earlier one.
 module _ (file : List ℕ) where
@@ -127,7 +123,7 @@ module _ (file : List ℕ) (accepted : checkNumber file ≡ 0) where
 
     pub function-room-alone : FunctionRoom file start 0 0
     function-room-alone =
-        let few = parameters-counted file start in
+        let few = parameters-count file start in
         let weight = rewritten-weight (fieldsIn file) 0 (functionIn file start) (omega (arith, function-context .fewParameters)) in
         record {
           context = function-context;

@@ -1,18 +1,13 @@
 -- What stands at the front of lent memory once it is stored there, and a function's constraints as flat numbers.
-use mathlib.Core.Path.{_≡_, refl, sym}
+use mathlib.Core.Path.{_≡_, refl}
 use mathlib.Core.List.{List, [], _∷_}
 use Prim.Native.Nat.{ℕ, _+_, _*_, _-_, _<_, _≤_}
 use native.Mathlib.Omega.{arith}
-use lib.ListN.{length, take, drop, length-append}
-use lib.Seq.{take-at, length-take-le}
+use lib.ListN.{length, take, length-append}
+use lib.Seq.{length-take-le}
 use Rattle.definitions.specs.Rewriting.{Claim, equals, opensForCaller, Constraint, sizes, claimTrees, guardNumber}
-use Rattle.buffer.specs.Buffer.{stored}
 use Rattle.written_trees.specs.Table.{countOf}
 use Rattle.written_trees.specs.Numbers.{claimNumbers, constraintNumbers}
-
-pub front-is : (held after values : List ℕ) (n : ℕ) → after ≡ stored held 0 values → n ≡ length values → take n after ≡ values
-unfolding stored
-front-is held after values n e l = rw e (take-at values (drop (0 + length values) held) n (sym l))
 
 pub last-below : (nodes : List ℕ) (count : ℕ) → 0 < count → 8 * count ≤ length nodes → count - 1 < countOf (take (8 * count) nodes)
 last-below nodes count some bytes = let l = length-take-le (8 * count) nodes bytes in omega arith

@@ -8,6 +8,7 @@ use lib.ListN.{length, take}
 use Rattle.definitions.specs.ContractFile.{byteAt}
 use Rattle.definitions.specs.Rewriting.{WrittenFunction, sizes, numberedAll, commandTree, functionTrees}
 use Rattle.definitions.specs.Ledger as ledger
+use Rattle.buffer.proofs.Laws.{front-stored}
 use Rattle.laws.proofs.Written.{nodes-length}
 use Rattle.buffer.proofs.Laws.{stored-length}
 use Rattle.context.specs.Context.{Context, nodesIn, fieldsIn}
@@ -33,7 +34,7 @@ use Rattle.function_nodes.specs.declared.Extent.{Extent}
 use Rattle.function_nodes.specs.Functions.{FunctionReady, FunctionPut}
 use Rattle.function_nodes.proofs.Parts.{sizes-are, constraints-bound}
 use Rattle.function_walk.specs.Walks.{LastReady, WalkReady}
-use Rattle.function_walk.proofs.Fronts.{front-is, numbers-length}
+use Rattle.function_walk.proofs.Fronts.{numbers-length}
 
 pub private-counted : (file : List ℕ) (at count private : ℕ) → count ≡ byteAt file at → private ≡ privateCount count file (at + 1) → private ≡ privateIn file at
 private-counted file at count private e h = h ∙ ap (λ (n : ℕ). privateCount n file (at + 1)) e
@@ -92,11 +93,11 @@ module _ (file : List ℕ) (at nodesStart : ℕ) (log numbers scratch roots node
     node-count = nodes-length (numberedAll 0 (functionTrees function)) ∙ ap (λ (n : ℕ). 8 * n) (all-length (functionTrees function) 0)
 
     nodes-front : take (8 * r .nodes) nodesAfter ≡ functionNodes function
-    nodes-front = front-is nodes nodesAfter (functionNodes function) (8 * r .nodes) (put .contents) (omega (arith, put .nodes, node-count))
+    nodes-front = front-stored nodes nodesAfter (functionNodes function) (8 * r .nodes) (put .contents) (omega (arith, put .nodes, node-count))
 
     numbers-front : take (4 * r .constraints) numbersAfter ≡ constraintNumbers 0 (function .constraints)
     numbers-front =
-        front-is numbers numbersAfter (constraintNumbers 0 (function .constraints)) (4 * r .constraints) (put .noted)
+        front-stored numbers numbersAfter (constraintNumbers 0 (function .constraints)) (4 * r .constraints) (put .noted)
         (omega (arith, put .constraints, numbers-length 0 (function .constraints)))
 
     nodes-kept : length nodesAfter ≡ length nodes

@@ -8,6 +8,8 @@ use Rattle.definitions.specs.ContractFile.{Function, byteAt, functionCount, nod
 use Rattle.definitions.specs.Numbers.{checkNumber}
 use Rattle.definitions.specs.Original.{addressIn}
 use Rattle.definitions.specs.Ledger.{Content, Ledger, openedNumber, callWith, honestParameters, honestParametersOf, honestVariablesOf}
+use Rattle.buffer.proofs.Laws.{front-stored}
+use Rattle.context.proofs.Declarations.{parameters-count}
 use Rattle.typing.proofs.WellFormed.{ledger-accepted}
 use Rattle.typing.proofs.CallEnvironment.{calls-left, call-well-formed, function-exists, argument-count}
 use Rattle.context.specs.Context.{nodesIn, parametersIn, scopeIn}
@@ -23,11 +25,9 @@ use Rattle.circuits.specs.Circuits.{addressFrom}
 use Rattle.function_room.specs.Functions.{privateIn, eventsIn, FunctionRoom}
 use Rattle.function_room.proofs.Room.{function-room-alone}
 use Rattle.logged_steps.proofs.Readings.{entries-length}
-use Rattle.function_walk.proofs.Fronts.{front-is}
 use Rattle.addresses.specs.Addresses.{AddressRoom}
 use Rattle.call_numbers.specs.Numbers.{Numbered}
 use Rattle.call_numbers.proofs.Numbers.{numbers-whole}
-use Rattle.call_numbers.proofs.Arguments.{parameters-count}
 use Rattle.call_parameters.specs.Parameters.{ParametersRoom}
 use Rattle.call_variables.specs.Slots.{slotsOf, SlotsRoom, SlotsPut}
 use Rattle.call_variables.specs.Variables.{codesOf, contentsOfCodes, VariablesRoom}
@@ -58,7 +58,7 @@ module _ (file : List ℕ) (at nodesStart private : ℕ) (log : List ℕ) (room 
   log-put after end logged =
       let events : Logged (nodesIn file) log after (startingAt (privateIn file at)) end (eventsIn file at) = rw (room .privateIs) at logged in
       let front : take (end .at) after ≡ events .numbers =
-      front-is log after (events .numbers) (end .at) (events .held) (omega (arith, events .next, entries-length (nodesIn file) (eventsIn file at) (events .numbers) (events .entries))) in
+      front-stored log after (events .numbers) (end .at) (events .held) (omega (arith, events .next, entries-length (nodesIn file) (eventsIn file at) (events .numbers) (events .entries))) in
       record { entries = rw front (events .entries); fits = omega (arith, events .next, room .room .events) }
 
 -- A call that is not refused can be worked out.

@@ -5,16 +5,16 @@ use mathlib.Core.List.{List, [], _∷_, _++_}
 use mathlib.Core.Option.{none}
 use Prim.Native.Nat.{ℕ, suc, _+_, _≤_}
 use native.Mathlib.Omega.{arith}
-use lib.ListN.{length, length-append}
+use lib.ListN.{length}
 use Rattle.definitions.specs.ContractFile.{meName, Owner, everyone, ownedBy, Operator, Expression, Statement, Scope, fieldAt, isDivision}
 use Rattle.definitions.specs.Owners.{nameOf, placeOwner, isPublic}
 use Rattle.definitions.specs.Rewriting.{Guard, under}
+use Rattle.events.proofs.Appended.{variable-count-append}
 use Rattle.laws.proofs.TruthValues.{and-left}
 use Rattle.variable_counts.specs.Counts.{bodyCount}
 use Rattle.variable_counts.proofs.Counts.{body-makes}
 use Rattle.variable_counts.proofs.Steps.{body-field, body-parameter, body-entry, body-operator}
 use Rattle.events.specs.Events.{Event, suppliedEvent, claimedEvent, readEvent, guardEvent, variablesOf, variableCount, Events, noEvents, inTurn, supplyEvents, readEvents, operatorEvents, bodyEvents, circuitEvents, placeEvents, branchEvents, statementEvents}
-use Rattle.events.proofs.Appended.{variables-append}
 use Rattle.events.proofs.Pieces.{body-made}
 use Rattle.logged_steps.specs.Held.{ReadsWithin}
 
@@ -35,9 +35,6 @@ module _ (scope : Scope) where
   within-append m (readEvent s j o e ∷ events) second a b = (a .0, within-append m events second (a .1) b)
   within-append m (guardEvent i ∷ events) second a b = within-append m events second a b
 
-  count-append : (first second : List Event) → variableCount (first ++ second) ≡ variableCount first + variableCount second
-  count-append first second = ap length (variables-append first second) ∙ length-append (variablesOf first) (variablesOf second)
-
   pub record Within (events : Events) : Type 0 where
     pub reads : (i : ℕ) → ReadsWithin scope (i + variableCount (events i)) (events i)
 
@@ -55,7 +52,7 @@ module _ (scope : Scope) where
       record {
         reads = λ i.
             let j = i + variableCount (a i) in
-            let total = count-append (a i) (b j) in
+            let total = variable-count-append (a i) (b j) in
             within-append (i + variableCount (a i ++ b j)) (a i) (b j) (within-more j (i + variableCount (a i ++ b j)) (a i) (omega arith) (x .reads i))
             (within-more (j + variableCount (b j)) (i + variableCount (a i ++ b j)) (b j) (omega arith) (y .reads j));
       }
@@ -66,7 +63,7 @@ module _ (scope : Scope) where
       record {
         reads = λ i.
             let c = circuit (suc i) in
-            let total = count-append c (claimedEvent g i o e ∷ []) in
+            let total = variable-count-append c (claimedEvent g i o e ∷ []) in
             within-append (i + suc (variableCount (c ++ (claimedEvent g i o e ∷ [])))) c (claimedEvent g i o e ∷ [])
             (within-more (suc i + variableCount c) (i + suc (variableCount (c ++ (claimedEvent g i o e ∷ [])))) c (omega arith) (x .reads (suc i))) tt;
       }
@@ -78,7 +75,7 @@ module _ (scope : Scope) where
         reads = λ i.
             let p = parts i in
             let own = readEvent i (i + variableCount p) o e ∷ [] in
-            let total = count-append p own in
+            let total = variable-count-append p own in
             let same = counted i in
             within-append (i + variableCount (p ++ own)) p own (within-more (i + variableCount p) (i + variableCount (p ++ own)) p (omega arith) (x .reads i)) (omega arith, tt);
       }
@@ -99,7 +96,7 @@ module _ (scope : Scope) where
         let e = Expression.operator o left right in
         either-within (isPublic scope e && isDivision o) _ _
         (λ h. read-within everyone e _ (turn-within _ _ a b)
-        (λ i. count-append (bodyEvents scope g left i) (bodyEvents scope g right (i + variableCount (bodyEvents scope g left i)))
+        (λ i. variable-count-append (bodyEvents scope g left i) (bodyEvents scope g right (i + variableCount (bodyEvents scope g left i)))
         ∙ ap₂ _+_ (counted-body left i) (counted-body right (i + variableCount (bodyEvents scope g left i)))
         ∙ body-operator scope e o left right refl (and-left (isPublic scope e) (isDivision o) h)))
         (λ h. turn-within _ _ c d)

@@ -4,11 +4,10 @@ use mathlib.Core.Bool.{Bool, true, false, cond}
 use mathlib.Core.List.{List, [], _∷_, _++_, append-nil}
 use Prim.Native.Nat.{ℕ, suc, _+_, _-_, _<_, _≤_}
 use native.Mathlib.Omega.{arith}
-use lib.ListN.{length, length-append, length-map}
+use lib.ListN.{length, length-append}
 use Rattle.definitions.specs.Basics.{flatMap}
-use Rattle.definitions.specs.ContractFile.{Field, Parameter, Function, Scope, byteAt, nodesAt, parameterRecords, parameterOf}
+use Rattle.definitions.specs.ContractFile.{Field, Parameter, Function, Scope, nodesAt}
 use Rattle.definitions.specs.Rewriting.{BodyExpression, Command, Claim, equals, opensForCaller, always, Constraint, WrittenFunction, privateParameters, openings, heldUnder, withVerify, rewriteStatement, rewriteFunction, Tree, sizes, numberedAll, nodeBytes, commandTree, claimTrees, functionTrees}
-use Rattle.laws.proofs.Records.{parameters-length}
 use Rattle.laws.proofs.Written.{nodes-length, opening-count, sizes-append}
 use Rattle.trees.specs.Trees.{statementIn}
 use Rattle.context.specs.Context.{Context, nodesIn, fieldsIn, parametersIn, scopeIn}
@@ -36,6 +35,7 @@ use Rattle.narrow_trees.proofs.Pieces.{Each, each-append, NarrowCommand
 use Rattle.narrow_trees.proofs.Rewritten as rewritten
 use Rattle.narrow_trees.proofs.Rewritten.{parameter-body, steps-command, verified-command, NarrowConstraint, held-narrow}
 use Rattle.narrow_trees.proofs.Nodes as files
+use Rattle.context.proofs.Declarations.{parameters-count}
 
 -- Private parameters are among the first 256, so that one byte holds their numbers.
 private-small : (k : ℕ) (ps : List Parameter) → k + length ps ≤ 256 → Each (λ (j : ℕ). j < 256) (privateParameters k ps)
@@ -172,15 +172,11 @@ module _ (file : List ℕ) (at : ℕ) where
       ap length (function-variables (fieldsIn file) (functionIn file at)) ∙ length-append (opening .variables) (variablesOf (events (length (opening .variables))))
       ∙ ap (λ (i : ℕ). i + variableCount (events i)) opening-variables
 
-  parameters-count : length (parametersIn file at) ≡ byteAt file at
-  unfolding parametersIn
-  parameters-count = length-map (parameterRecords (byteAt file at) file (at + 1)) parameterOf ∙ parameters-length (byteAt file at) file (at + 1)
-
   pub function-is-narrow : Context file at (nodesAt file) → Bytes file → privateIn file at + variableCount (eventsIn file at) ≤ 65536 → NarrowFunction (writtenIn file at)
   function-is-narrow context bytes few =
       let counted = variables-are in
       function-narrow (fieldsIn file) (functionIn file at) (files.scope-coded file at context)
-      (files.statement-narrow file at context bytes (suc (rootAt file at)) (rootAt file at)) (omega (arith, parameters-count, context .fewParameters)) (omega arith)
+      (files.statement-narrow file at context bytes (suc (rootAt file at)) (rootAt file at)) (omega (arith, parameters-count file at, context .fewParameters)) (omega arith)
 
 -- "A call walks the function's written body": what is written of a function reads back.
 pub function-back : (file : List ℕ) (at from base : ℕ) → Bytes file → FunctionRoom file at from base → WrittenBack (writtenIn file at)

@@ -1,12 +1,12 @@
 -- A tree's nodes follow from its children's: room for the parts, and the parts with the parent's node behind them.
 use mathlib.Core.Path.{_≡_, refl, ap, sym, _∙_}
-use mathlib.Core.List.{List, [], _∷_, _++_, append-assoc}
+use mathlib.Core.List.{List, [], _∷_, _++_, append-nil, append-assoc}
 use Prim.Native.Nat.{ℕ, _+_, _*_, _-_, _≤_}
 use native.Mathlib.Omega.{arith}
 use lib.ListN.{length, length-append}
 use Rattle.definitions.specs.Basics.{flatMap}
 use Rattle.definitions.specs.ContractFile.{NodeRecord, node}
-use Rattle.definitions.specs.Rewriting.{Tree, leaf, oneChild, twoChildren, threeChildren, setting, size, numbered, nodeBytes}
+use Rattle.definitions.specs.Rewriting.{Tree, leaf, oneChild, twoChildren, threeChildren, setting, size, numbered, numberedAll, nodeBytes}
 use Rattle.laws.proofs.Written.{nodes-length, numbered-length}
 use Rattle.buffer.specs.Buffer.{stored}
 use Rattle.buffer.proofs.Laws.{stored-length, stored-then}
@@ -20,6 +20,10 @@ nodes-append (r ∷ rs) qs = rw (nodes-append rs qs) (sym (append-assoc (nodeByt
 pub bytes-length : (base : ℕ) (tree : Tree) → length (treeBytes base tree) ≡ 8 * size tree
 unfolding treeBytes
 bytes-length base tree = nodes-length (numbered base tree) ∙ ap (λ (n : ℕ). 8 * n) (numbered-length base tree)
+
+pub one-tree : (n : ℕ) (t : Tree) → flatMap nodeBytes (numberedAll n (t ∷ [])) ≡ treeBytes n t
+unfolding numberedAll treeBytes
+one-tree n t = ap (flatMap nodeBytes) (append-nil (numbered n t))
 
 pub size-positive : (tree : Tree) → 1 ≤ size tree
 unfolding size

@@ -6,12 +6,11 @@ use Prim.Native.Nat.{ℕ, suc, _+_, _*_, _<_, _≤_, _/_}
 use native.Mathlib.Numerals.{add-one}
 use borrow.Author.Tests.{eq-eqb, ne-eqb}
 use lib.Dec.{eqb, leb}
-use lib.ListN.{length, drop, length-map, drop-of-length-le}
+use lib.ListN.{length, drop, drop-of-length-le}
 use lib.Seq.{drop-cons}
-use Rattle.definitions.specs.ContractFile.{Parameter, parameterAt, byteAt, parameterRecords, parameterOf, dataTypeOf}
+use Rattle.definitions.specs.ContractFile.{Parameter, parameterAt, byteAt, parameterOf, dataTypeOf}
 use Rattle.definitions.specs.Original.{anyone, only}
 use Rattle.definitions.specs.Ledger.{Content, Form, fits, allFit, publicOf, parameterForm}
-use Rattle.laws.proofs.Records.{parameters-length}
 use Rattle.context.specs.Context.{parametersIn}
 use Rattle.context.proofs.Declarations.{parameter-declared}
 use Rattle.contents.specs.Contents.{contentsOf}
@@ -33,10 +32,6 @@ reader-public owner caller e = rw (eq-eqb owner 0 e)
 
 pub reader-private : (owner caller : ℕ) → (owner ≡ 0 → ⊥) → only caller ≡ cond (not (eqb owner 0)) (only caller) anyone
 reader-private owner caller n = rw (ne-eqb owner 0 n)
-
-pub parameters-count : (file : List ℕ) (at : ℕ) → length (parametersIn file at) ≡ byteAt file at
-unfolding parametersIn
-parameters-count file at = length-map (parameterRecords (byteAt file at) file (at + 1)) parameterOf ∙ parameters-length (byteAt file at) file (at + 1)
 
 pub private-is : (file : List ℕ) (at k owner : ℕ) → k < byteAt file at → owner ≡ byteAt file (at + 1 + 2 * k + 1) → (parameterAt (parametersIn file at) k) .private ≡ not (eqb owner 0)
 unfolding parameterOf

@@ -6,14 +6,14 @@ use Prim.Native.Nat.{ℕ, _+_, _/_, _<_, _≤_}
 use native.Mathlib.Omega.{arith}
 use borrow.Author.Tests.{eq-eqb, ne-eqb}
 use lib.Dec.{eqb, leb}
-use lib.ListN.{length, drop, getD, length-drop, length-map, List·getD-eq-default}
-use Rattle.definitions.specs.ContractFile.{DataType, boolean, Expression, twoBytesAt, nodeCount, sectionsOf, dataTypeOf, Node, unknownNode, nodeOf, nodeAt, expressionOf, typeOf}
+use lib.ListN.{length, drop, getD, length-drop}
+use Rattle.definitions.specs.ContractFile.{DataType, boolean, Expression, twoBytesAt, nodeCount, dataTypeOf, Node, expressionOf, typeOf}
 use Rattle.definitions.specs.Original.{anyone, only}
 use Rattle.definitions.specs.Ledger.{Content, Form, allFit}
+use Rattle.context.proofs.Nodes.{node-past}
 use Rattle.laws.proofs.Lists.{five-next}
 use Rattle.trees.specs.Trees.{expressionIn}
 use Rattle.trees.proofs.Unfolding.{expression-unfolds}
-use Rattle.file.proofs.Sections.{count-of-nodes}
 use Rattle.context.specs.Context.{Context, nodesIn, scopeIn}
 use Rattle.contents.specs.Contents.{contentsOf}
 use Rattle.contents.proofs.Laws.{length-contentsOf}
@@ -28,11 +28,6 @@ read-by-all addresses code e = rw (eq-eqb code 0 e)
 
 pub read-by-one : (addresses : List ℕ) (code a : ℕ) → (code ≡ 0 → ⊥) → a ≡ getD addresses code 0 → only a ≡ codeReader addresses code
 read-by-one addresses code a n e = rw (ne-eqb code 0 n, e)
-
--- A node that is not there reads as me, which is an address.
-node-past : (file : List ℕ) (n : ℕ) → nodeCount file ≤ n → nodeAt (nodesIn file) n ≡ unknownNode
-unfolding nodesIn
-node-past file n h = List·getD-eq-default (nodesIn file) unknownNode (omega (arith, length-map ((sectionsOf file) .nodes) nodeOf, count-of-nodes file))
 
 module _ (file : List ℕ) (at start tag n : ℕ) (context : Context file at start) where
   abbrev typeDue : DataType

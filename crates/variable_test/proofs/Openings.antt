@@ -6,13 +6,12 @@ use Prim.Native.Nat.{ℕ, suc, _+_, _*_, _<_, _≤_}
 use native.Mathlib.Numerals.{add-one}
 use borrow.Author.Tests.{eq-eqb, ne-eqb}
 use lib.Dec.{eqb}
-use lib.ListN.{length, drop, length-map, drop-of-length-le}
+use lib.ListN.{length, drop, drop-of-length-le}
 use lib.Seq.{drop-cons}
-use Rattle.definitions.specs.ContractFile.{Parameter, parameterAt, byteAt, parameterRecords, parameterOf, dataTypeOf}
+use Rattle.definitions.specs.ContractFile.{Parameter, parameterAt, byteAt, parameterOf, dataTypeOf}
 use Rattle.definitions.specs.Original.{only}
 use Rattle.definitions.specs.Ledger.{Content, Form}
 use Rattle.definitions.specs.Rewriting.{privateParameters}
-use Rattle.laws.proofs.Records.{parameters-length}
 use Rattle.context.specs.Context.{parametersIn}
 use Rattle.context.proofs.Declarations.{parameter-declared}
 use Rattle.readers.specs.declared.Reader.{Reader}
@@ -20,10 +19,6 @@ use Rattle.readers.specs.Readers.{readerOfCode, formOf}
 use Rattle.forms_test.specs.Forms.{fitsOrZero, fitsAt, frontFits}
 use Rattle.forms_test.proofs.Laws.{front-next, front-stops, front-none}
 use Rattle.variable_test.specs.Variables.{openingForm, openingForms}
-
-pub parameters-count : (file : List ℕ) (at : ℕ) → length (parametersIn file at) ≡ byteAt file at
-unfolding parametersIn
-parameters-count file at = length-map (parameterRecords (byteAt file at) file (at + 1)) parameterOf ∙ parameters-length (byteAt file at) file (at + 1)
 
 private-byte : (file : List ℕ) (at k : ℕ) → k < byteAt file at → (parameterAt (parametersIn file at) k) .private ≡ not (eqb (byteAt file (at + 1 + 2 * k + 1)) 0)
 unfolding parameterOf

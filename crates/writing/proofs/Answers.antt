@@ -6,8 +6,7 @@ use Prim.Native.Nat.{ℕ, zero, suc, _+_, _<_, _≤_}
 use native.Mathlib.Omega.{arith}
 use borrow.Author.Tests.{lt-ltb, le-ltb, ltb-false, ne-eqb}
 use lib.Dec.{eqb, ltb}
-use lib.ListN.{length, take, drop, length-append}
-use lib.Seq.{take-at}
+use lib.ListN.{length, drop, length-append}
 use Rattle.definitions.specs.Basics.{twoBytes, firstThatHolds}
 use Rattle.definitions.specs.Numbers.{checkNumber, orElse}
 use Rattle.definitions.specs.Rewriting.{writtenFile, writeNumber, writtenLength, outputAfterWriting}
@@ -58,11 +57,6 @@ accepted file whole held after number long z w a = go (ltb (length held) (length
     go : (short : Bool) → ltb (length held) (length whole) ≡ short → Promised file held after number long
     go true e = (rw (z, w) (a .number), (rw (z, w, e) (rw e at (a .long)), rw (z, w, e) (rw e at (a .output))))
     go false e = (rw (z, w) (a .number), (rw (z, w, e) (rw e at (a .long)), rw (z, w, e) (rw e at (a .output))))
-
--- A buffer's front, where values are stored from its start on.
-pub front-stored : (held after values : List ℕ) (n : ℕ) → after ≡ stored held 0 values → n ≡ length values → take n after ≡ values
-unfolding stored
-front-stored held after values n e l = ap (take n) e ∙ take-at values (drop (0 + length values) held) n (sym l)
 
 pub accepted-parts : (file headings nodes front back held after : List ℕ) (count number long : ℕ) → checkNumber file ≡ 0
     → writtenFile file ≡ headings ++ twoBytes count ++ nodes → front ≡ headings → back ≡ nodes → HandedOut (front ++ twoBytes count ++ back) held after number long

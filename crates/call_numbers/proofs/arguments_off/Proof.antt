@@ -4,9 +4,10 @@ use Prim.Native.Nat.{_-_, _≤_}
 use native.Mathlib.Omega.{arith}
 use lib.ListN.{length, drop}
 use Rattle.definitions.specs.ContractFile.{byteAt}
+use Rattle.context.proofs.Declarations.{parameters-count}
 use Rattle.context.specs.Context.{parametersIn}
 use Rattle.call_numbers.specs.Arguments.{anyOutside}
-use Rattle.call_numbers.proofs.Arguments.{parameters-count, typed, off-count, off-types, off-none, off-next, off-found}
+use Rattle.call_numbers.proofs.Arguments.{typed, off-count, off-types, off-none, off-next, off-found}
 use borrow.Author.Needs.{needs}
 use Rattle.call_numbers.proofs.arguments_off.Statement.{statement}
 use Rattle.call_numbers.proofs.arguments_off.Tie as tie

@@ -6,10 +6,11 @@ use native.Mathlib.Omega.{arith}
 use lib.ListN.{length, drop}
 use borrow.Author.Needs.{needs}
 use Rattle.definitions.specs.Ledger.{Form, fits, allFit}
+use Rattle.context.proofs.Declarations.{parameters-count}
 use Rattle.context.specs.Context.{parametersIn}
 use Rattle.contents.specs.Contents.{contentsOf}
 use Rattle.parameter_test.specs.Parameters.{formsOfParameters, shownForms}
-use Rattle.parameter_test.proofs.Laws.{parameters-count, private-is, shown-forms, hidden-next, shown-next, shown-stops, parameters-done}
+use Rattle.parameter_test.proofs.Laws.{private-is, shown-forms, hidden-next, shown-next, shown-stops, parameters-done}
 use Rattle.parameter_test.proofs.parameters_fit.Statement.{statement}
 use Rattle.parameter_test.proofs.parameters_fit.Tie as tie
 

@@ -4,11 +4,12 @@ use Prim.Native.Nat.{_-_, _<_, _≤_}
 use native.Mathlib.Omega.{arith}
 use lib.ListN.{length, getD, drop}
 use borrow.Author.Needs.{needs}
+use Rattle.context.proofs.Declarations.{parameters-count}
 use Rattle.context.specs.Context.{parametersIn}
 use Rattle.contents.specs.Contents.{contentsOf}
 use Rattle.forms_test.specs.Forms.{fitsOrZero, frontFits}
 use Rattle.variable_test.specs.Variables.{openingForms}
-use Rattle.variable_test.proofs.Openings.{parameters-count, is-public, is-private, public-next, private-next, private-stops, openings-done}
+use Rattle.variable_test.proofs.Openings.{is-public, is-private, public-next, private-next, private-stops, openings-done}
 use Rattle.variable_test.proofs.openings_fit.Statement.{statement}
 use Rattle.variable_test.proofs.openings_fit.Tie as tie
 

@@ -2,7 +2,8 @@
 use mathlib.Core.Path.{ap, sym, _∙_}
 use native.Mathlib.Omega.{arith}
 use lib.ListN.{length}
-use Rattle.writing.proofs.Answers.{front-stored, accepted-parts}
+use Rattle.buffer.proofs.Laws.{front-stored}
+use Rattle.writing.proofs.Answers.{accepted-parts}
 use Rattle.file_output.proofs.Parts.{parts-fit, parts-make, nodes-long}
 use borrow.Author.Needs.{needs}
 use Rattle.writing.proofs.write_accepted.Statement.{statement}
