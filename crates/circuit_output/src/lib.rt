@@ -17,7 +17,7 @@ pub struct Circuits {
 }
 
 // A claim's guard, variable, owner code and root.
-fn put_four(numbers: &mut [u16], noted: usize, guard: u16, variable: u16, owner: u16, root: u16)
+pub fn put_four(numbers: &mut [u16], noted: usize, guard: u16, variable: u16, owner: u16, root: u16)
     requires { ⌜ noted + 4 ≤ length (now numbers) ⌝ }
     ensures { λ _. ⌜ now (numbers .exit) ≡ stored (now (numbers .entry)) noted (four guard variable owner root) ⌝ }
 {

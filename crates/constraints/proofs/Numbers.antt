@@ -1,7 +1,7 @@
 -- A function's constraints, written to flat numbers beside their circuits' nodes, read back.
 use mathlib.Core.Path.{_≡_, refl, ap, ap₂, sym, _∙_}
 use mathlib.Core.List.{List, [], _∷_, _++_, append-assoc, append-nil}
-use Prim.Native.Nat.{ℕ, suc, _+_, _*_, _-_, _/_, _<_, _≤_}
+use Prim.Native.Nat.{ℕ, suc, _+_, _-_, _/_, _<_, _≤_}
 use native.Mathlib.Nat.{add-zero}
 use native.Mathlib.Omega.{arith}
 use borrow.Author.Tests.{ne-eqb, lt-ltb, le-ltb, le-leb}
@@ -14,8 +14,9 @@ use Rattle.written_trees.specs.Trees.{circuitIn}
 use Rattle.written_trees.proofs.Numbering.{size-positive, numbered-length}
 use Rattle.written_trees.proofs.RoundTrip.{circuit-is-back}
 use Rattle.circuits.specs.Circuits.{guardFrom, claimFrom, constraintFrom, constraintsAt, constraintsFrom}
-use Rattle.written_trees.specs.Numbers.{claimNumbers, constraintNumbers}
+use Rattle.written_trees.specs.Numbers.{constraintNumbers}
 use Rattle.constraints.specs.Numbers.{HasCode, ClaimHasCode, AllHaveCodes, more}
+use Rattle.written_trees.proofs.Numbers.{constraint-numbers-length}
 
 pub code-back : (o : Owner) → HasCode o → ownerOfCode (ownerCode o) ≡ o
 code-back everyone h = refl
@@ -118,20 +119,6 @@ module _ (nodes after : List NodeRecord) (later : List ℕ) where
   all-read [] h n = λ before e l k earlier at f. refl
   all-read (c ∷ cs) (more _ _ h hs) n = reads-next n (c .guard) cs (λ m. all-read cs hs m) (c .claim) h
 
-numbers-length : (cs : List Constraint) (n : ℕ) → length (constraintNumbers n cs) ≡ 4 * length cs
-unfolding constraintNumbers
-numbers-length [] n = refl
-numbers-length (c ∷ cs) n =
-    let m = n + sizes (claimTrees (c .claim)) in
-    let tail = numbers-length cs m in
-    let three = claim-length n (c .claim) in
-    let whole = length-append (guardNumber (c .guard) ∷ claimNumbers n (c .claim)) (constraintNumbers m cs) in
-    omega arith
-  where
-    claim-length : (n : ℕ) (claim : Claim) → length (claimNumbers n claim) ≡ 3
-    claim-length n (equals i o circuit) = refl
-    claim-length n (opensForCaller i) = refl
-
 -- "per function circuits, in constraint order": read back from the flat numbers and the table that holds the circuits' nodes.
 pub constraints-back : (cs : List Constraint) → AllHaveCodes cs → (before after : List NodeRecord) → length before + sizes (treesOf cs) ≤ 65535
     → constraintsFrom (before ++ (numberedAll (length before) (treesOf cs) ++ after)) (constraintNumbers (length before) cs) ≡ cs
@@ -139,7 +126,7 @@ unfolding constraintsFrom
 constraints-back cs h before after k =
     let n = length before in
     let nodes = before ++ (numberedAll n (treesOf cs) ++ after) in
-    let l = numbers-length cs n in
+    let l = constraint-numbers-length n cs in
     let count : length (constraintNumbers n cs) / 4 ≡ length cs = omega arith in
     rw count
     (ap (λ (q : List ℕ). constraintsAt nodes (length cs) q 0) (sym (append-nil (constraintNumbers n cs)))

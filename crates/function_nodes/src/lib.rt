@@ -1,13 +1,12 @@
 // 01, Runs and views: the nodes of one written function, numbered from 0, and its constraints as flat numbers, for a call to walk.
 use body_output::write_function_body;
-use buffer::put_number;
 use circuit_output::Circuits;
 use circuit_output::put_circuits;
+use circuit_output::put_four;
 ghost use mathlib.Core.Path.{_≡_};
-ghost use Prim.Native.Nat.{_+_, _*_, _≤_};
+ghost use Prim.Native.Nat.{_*_, _≤_};
 ghost use lib.ListN.{length};
 ghost use Rattle.buffer.specs.Buffer.{stored};
-ghost use Rattle.circuit_output.specs.Circuits.{four};
 ghost use Rattle.function_room.specs.Functions.{writtenIn};
 ghost use Rattle.function_nodes.specs.Functions.{openingNumbers, ConstraintsReady, ConstraintsPut, FunctionReady, FunctionPut};
 
@@ -17,25 +16,14 @@ pub struct Extent {
     pub constraints: usize,
 }
 
-// ".. with a constraint that it opens for the caller": no guard, the caller's owner code, 65,535 for "opens".
-fn put_opening(numbers: &mut [u16], at: usize, variable: u16)
-    requires { ⌜ at + 4 ≤ length (now numbers) ⌝ }
-    ensures { λ _. ⌜ now (numbers .exit) ≡ stored (now (numbers .entry)) at (four 0 variable 1 65535) ⌝ }
-{
-    put_number(numbers, at, 0);
-    put_number(numbers, at + 1, variable);
-    put_number(numbers, at + 2, 1);
-    put_number(numbers, at + 3, 65535);
-}
-
-// The constraints of so many private parameters.
+// The constraints of so many private parameters, each ".. that it opens for the caller": no guard, the caller's owner code, 65,535 for "opens".
 fn put_openings(numbers: &mut [u16], private: usize)
     requires { ⌜ (private ≤ 8) × (4 * private ≤ length (now numbers)) ⌝ }
     ensures { λ _. ⌜ now (numbers .exit) ≡ stored (now (numbers .entry)) 0 (openingNumbers 0 private) ⌝ }
 {
     let mut i: usize = 0;
     while i < private {
-        put_opening(numbers, 4 * i, i as u16);
+        put_four(numbers, 4 * i, 0, i as u16, 1, 65535);
         i += 1;
     }
 }

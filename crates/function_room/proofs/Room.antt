@@ -1,5 +1,5 @@
 -- Each function of an accepted file can be written, behind those before it and alone.
-use mathlib.Core.Path.{_≡_, ap}
+use mathlib.Core.Path.{_≡_, ap, _∙_}
 use mathlib.Core.Bool.{Bool, true, false, cond}
 use mathlib.Core.List.{List, [], _∷_}
 use Prim.Native.Nat.{ℕ, zero, suc, _+_, _*_, _-_, _<_, _≤_}
@@ -134,3 +134,7 @@ module _ (file : List ℕ) (accepted : checkNumber file ≡ 0) where
           heading = omega (arith, body-small);
           nodes = omega (arith, body-small);
         }
+
+-- The count that code makes of the private parameters.
+pub private-counted : (file : List ℕ) (at count private : ℕ) → count ≡ byteAt file at → private ≡ privateCount count file (at + 1) → private ≡ privateIn file at
+private-counted file at count private e h = h ∙ ap (λ (n : ℕ). privateCount n file (at + 1)) e

@@ -2,10 +2,9 @@
 use mathlib.Core.Path.{_≡_, ap, _∙_}
 use mathlib.Core.Bool.{Bool}
 use mathlib.Core.List.{List}
-use Prim.Native.Nat.{ℕ, _+_, _*_, _-_, _/_}
+use Prim.Native.Nat.{ℕ, _*_, _-_, _/_}
 use native.Mathlib.Omega.{arith}
 use lib.ListN.{length, take}
-use Rattle.definitions.specs.ContractFile.{byteAt}
 use Rattle.definitions.specs.Rewriting.{WrittenFunction, sizes, numberedAll, commandTree, functionTrees}
 use Rattle.definitions.specs.Ledger as ledger
 use Rattle.buffer.proofs.Laws.{front-stored}
@@ -18,7 +17,6 @@ use Rattle.node_output.proofs.Laws.{size-positive}
 use Rattle.entries.specs.declared.Position.{Position}
 use Rattle.entries.specs.Logs.{Logged}
 use Rattle.logged_steps.proofs.Held.{stored-holds}
-use Rattle.parameter_output.specs.Parameters.{privateCount}
 use Rattle.log.specs.Translations.{Ready, statementOf}
 use Rattle.statement_log.specs.Placing.{startingAt}
 use Rattle.written_trees.specs.Trees.{commandIn}
@@ -34,10 +32,7 @@ use Rattle.function_nodes.specs.declared.Extent.{Extent}
 use Rattle.function_nodes.specs.Functions.{FunctionReady, FunctionPut}
 use Rattle.function_nodes.proofs.Parts.{sizes-are, constraints-bound}
 use Rattle.function_walk.specs.Walks.{LastReady, WalkReady}
-use Rattle.function_walk.proofs.Fronts.{numbers-length}
-
-pub private-counted : (file : List ℕ) (at count private : ℕ) → count ≡ byteAt file at → private ≡ privateCount count file (at + 1) → private ≡ privateIn file at
-private-counted file at count private e h = h ∙ ap (λ (n : ℕ). privateCount n file (at + 1)) e
+use Rattle.written_trees.proofs.Numbers.{constraint-numbers-length}
 
 module _ (file : List ℕ) (at nodesStart : ℕ) (log numbers scratch roots nodes : List ℕ) (ready : WalkReady file at nodesStart log numbers scratch roots nodes) where
   context-here : Context file at nodesStart
@@ -98,7 +93,7 @@ module _ (file : List ℕ) (at nodesStart : ℕ) (log numbers scratch roots node
     numbers-front : take (4 * r .constraints) numbersAfter ≡ constraintNumbers 0 (function .constraints)
     numbers-front =
         front-stored numbers numbersAfter (constraintNumbers 0 (function .constraints)) (4 * r .constraints) (put .noted)
-        (omega (arith, put .constraints, numbers-length 0 (function .constraints)))
+        (omega (arith, put .constraints, constraint-numbers-length 0 (function .constraints)))
 
     nodes-kept : length nodesAfter ≡ length nodes
     nodes-kept = ap length (put .contents) ∙ stored-length nodes 0 (functionNodes function) (omega (arith, node-count, ready .room .nodes, ready .nodesSpace))
@@ -107,7 +102,7 @@ module _ (file : List ℕ) (at nodesStart : ℕ) (log numbers scratch roots node
     numbers-kept =
         ap length (put .noted)
         ∙ stored-length numbers 0 (constraintNumbers 0 (function .constraints))
-        (omega (arith, numbers-length 0 (function .constraints), constraints-bound file at (ready .room), ready .numbersSpace))
+        (omega (arith, constraint-numbers-length 0 (function .constraints), constraints-bound file at (ready .room), ready .numbersSpace))
 
     pub last-ready : LastReady nodesAfter (r .nodes) numbersAfter (r .constraints) file
     last-ready =

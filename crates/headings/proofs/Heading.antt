@@ -1,6 +1,5 @@
 -- A written function's heading and its crossings are what the file's parameters and the log of its body's events tell.
 use mathlib.Core.Path.{_≡_, refl, ap, ap₂, sym, _∙_}
-use mathlib.Core.Bool.{Bool}
 use mathlib.Core.List.{List, [], _∷_, _++_, map}
 use Prim.Native.Nat.{ℕ, zero, suc, _+_, _-_}
 use native.Mathlib.Omega.{arith}
@@ -10,7 +9,7 @@ use Rattle.definitions.specs.Basics.{countIf, flatMap}
 use Rattle.definitions.specs.ContractFile.{Statement, Field, Parameter, Scope, parameterRecords, parameterOf, Node}
 use Rattle.definitions.specs.Rewriting.{Variable, origin, always, Constraint, WrittenFunction, heldUnder, privateParameters, openings, rewriteStatement, rewriteFunction, sizes, functionTrees, variableBytes, keyOf, eachOnce, constraintBytes, functionBytes}
 use Rattle.definitions.specs.Report.{crossings}
-use Rattle.laws.proofs.Lists.{flat-append}
+use Rattle.laws.proofs.Lists.{flat-append, count-append}
 use Rattle.laws.proofs.Written.{claim-count, opening-count}
 use Rattle.events.specs.Events.{Event, variablesOf, constraintsOf, variableCount, statementEvents}
 use Rattle.events.proofs.Statements.{statement-made}
@@ -21,11 +20,6 @@ use Rattle.logged_variables.proofs.Links.{variables-told, keys-told, claims-tol
 use Rattle.parameter_output.specs.Parameters.{parametersFrom, privateCount, openingVariables, openingClaims}
 use Rattle.parameter_output.proofs.Openings.{opening-variables, opening-keys, opening-claims}
 use Rattle.headings.specs.Heading.{headingOf, loggedHeading}
-
-count-append : {A : Type 0} (test : A → Bool) (a b : List A) → countIf test (a ++ b) ≡ countIf test a + countIf test b
-unfolding countIf
-count-append test [] b = omega arith
-count-append test (x ∷ a) b = let h = count-append test a b in omega arith
 
 records-length : (n : ℕ) (file : List ℕ) (at : ℕ) → length (parameterRecords n file at) ≡ n
 unfolding parameterRecords

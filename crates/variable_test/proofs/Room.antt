@@ -2,11 +2,11 @@
 use mathlib.Core.Path.{_≡_, ap, ap₂, sym, _∙_}
 use mathlib.Core.Bool.{Bool, true, _&&_}
 use mathlib.Core.List.{List, map}
-use Prim.Native.Nat.{ℕ, _+_, _≤_}
+use Prim.Native.Nat.{ℕ, _≤_}
 use native.Mathlib.Omega.{arith}
 use lib.ListN.{length, drop, take, getD}
 use lib.Seq.{length-take-le}
-use Rattle.definitions.specs.ContractFile.{byteAt, nodesAt}
+use Rattle.definitions.specs.ContractFile.{nodesAt}
 use Rattle.definitions.specs.Ledger.{allFit}
 use Rattle.context.specs.Context.{Context, nodesIn, parametersIn, scopeIn}
 use Rattle.context.specs.Functions.{rootAt}
@@ -18,14 +18,10 @@ use Rattle.entries.proofs.Laws.{entries-length}
 use Rattle.buffer.proofs.Laws.{stored-length}
 use Rattle.log.specs.Translations.{Ready, statementOf}
 use Rattle.statement_log.specs.Placing.{startingAt}
-use Rattle.parameter_output.specs.Parameters.{privateCount}
 use Rattle.function_room.specs.Functions.{writtenIn, eventsIn, privateIn, FunctionRoom}
 use Rattle.forms_test.specs.Forms.{fitsOrZero, frontFits}
 use Rattle.variable_test.specs.Variables.{variableForm, openingForms, loggedForms}
 use Rattle.variable_test.proofs.Forms.{variables-split, log-front}
-
-pub private-counted : (file : List ℕ) (at count private : ℕ) → count ≡ byteAt file at → private ≡ privateCount count file (at + 1) → private ≡ privateIn file at
-private-counted file at count private c e = e ∙ ap (λ (n : ℕ). privateCount n file (at + 1)) c
 
 module _ (file : List ℕ) (at : ℕ) (room : FunctionRoom file at 0 0) (private : ℕ) (same : private ≡ privateIn file at) where
   pub private-few : private ≤ 1024

@@ -7,3 +7,4 @@ pub mod ByKind
 pub mod Read
 pub mod Narrowness
 pub mod Functions
+pub mod Numbers

@@ -19,14 +19,14 @@ abbrev μ-loop : tie.MeasureT-loop
 loop-holds : tie.Need-loop-holds Inv-loop μ-loop
 loop-holds c = (omega arith, (refl, openings-none (c .before .args .numbers .now)))
 
-mul-put-opening : tie.Need-mul-put-opening Inv-loop μ-loop
-mul-put-opening c = search needs
+mul-put-four : tie.Need-mul-put-four Inv-loop μ-loop
+mul-put-four c = search needs
 
-cast-put-opening : tie.Need-cast-put-opening Inv-loop μ-loop
-cast-put-opening c = search needs
+cast-put-four : tie.Need-cast-put-four Inv-loop μ-loop
+cast-put-four c = search needs
 
-put-opening-requires : tie.Need-put-opening-requires Inv-loop μ-loop
-put-opening-requires c κs = search needs
+put-four-requires : tie.Need-put-four-requires Inv-loop μ-loop
+put-four-requires c κs = search needs
 
 add-i : tie.Need-add-i Inv-loop μ-loop
 add-i c = search needs
@@ -35,7 +35,7 @@ loop-less : tie.Need-loop-less Inv-loop μ-loop
 loop-less c = search needs
 
 loop-again : tie.Need-loop-again Inv-loop μ-loop
-loop-again c = (omega arith, (search needs, openings-next _ _ _ _ (omega arith) (c .before .before .before .before .before .loop .inv .1 .1) (c .before .before .put-opening .ensures)))
+loop-again c = (omega arith, (search needs, openings-next _ _ _ _ (omega arith) (c .before .before .before .before .before .loop .inv .1 .1) (c .before .before .put-four .ensures)))
 
 same-length : tie.Need-same-length Inv-loop μ-loop
 same-length c = search needs
@@ -50,9 +50,9 @@ put-openings-spec =
     Inv-loop
     μ-loop
     loop-holds
-    mul-put-opening
-    cast-put-opening
-    put-opening-requires
+    mul-put-four
+    cast-put-four
+    put-four-requires
     add-i
     loop-less
     loop-again

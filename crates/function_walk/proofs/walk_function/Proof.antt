@@ -1,10 +1,11 @@
 -- The log, the nodes and constraints written from it, and the walk of what is written.
 use native.Mathlib.Omega.{arith}
 use Rattle.narrow_trees.specs.Narrow.{Bytes}
-use Rattle.function_walk.proofs.Walks.{private-counted, log-ready, function-ready, last-ready, function-walked}
+use Rattle.function_walk.proofs.Walks.{log-ready, function-ready, last-ready, function-walked}
 use borrow.Author.Needs.{needs}
 use Rattle.function_walk.proofs.walk_function.Statement.{statement}
 use Rattle.function_walk.proofs.walk_function.Tie as tie
+use Rattle.function_room.proofs.Room.{private-counted}
 
 byte-at-requires : tie.Need-byte-at-requires
 byte-at-requires c κs = search needs

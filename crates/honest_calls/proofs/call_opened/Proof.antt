@@ -1,12 +1,12 @@
 -- `honest_calls::call_opened` meets its contract.
 use mathlib.Core.Path.{refl}
 use native.Mathlib.Omega.{arith}
-use Rattle.function_walk.proofs.Walks.{private-counted}
 use Rattle.calls.proofs.Ledgers.{taken-length}
 use Rattle.honest_calls.proofs.Laws.{function-near, addresses-ready, log-room}
 use borrow.Author.Needs.{needs}
 use Rattle.honest_calls.proofs.call_opened.Statement.{statement}
 use Rattle.honest_calls.proofs.call_opened.Tie as tie
+use Rattle.function_room.proofs.Room.{private-counted}
 
 slice-aggregate-put-addresses : tie.Need-slice-aggregate-put-addresses
 slice-aggregate-put-addresses c = search needs

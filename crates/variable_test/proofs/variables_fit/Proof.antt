@@ -3,10 +3,11 @@ use mathlib.Core.Path.{sym}
 use native.Mathlib.Omega.{arith}
 use Rattle.contents.specs.Contents.{contentsOf}
 use Rattle.variable_test.proofs.Forms.{openings-refuse}
-use Rattle.variable_test.proofs.Room.{private-counted, private-few, context-at, log-ready, log-short, log-long, log-cut, variables-told}
+use Rattle.variable_test.proofs.Room.{private-few, context-at, log-ready, log-short, log-long, log-cut, variables-told}
 use borrow.Author.Needs.{needs}
 use Rattle.variable_test.proofs.variables_fit.Statement.{statement}
 use Rattle.variable_test.proofs.variables_fit.Tie as tie
+use Rattle.function_room.proofs.Room.{private-counted}
 
 openings-fit-requires : tie.Need-openings-fit-requires
 openings-fit-requires c κs = search needs
