@@ -10,14 +10,14 @@ use Rattle.definitions.specs.Basics.{firstThatHolds}
 use Rattle.definitions.specs.ContractFile.{functionCount, contractIn}
 use Rattle.definitions.specs.Ledger as ledger
 use Rattle.definitions.specs.Ledger.{isWellFormed, notCallable, argumentsOff, callNumber, callWith, honestParametersOf, honestVariablesOf, ledgerAfterCall}
-use Rattle.laws.proofs.TruthValues.{or-right}
-use Rattle.context.specs.Context.{parametersIn}
-use Rattle.context.specs.Functions.{functionStart}
-use Rattle.context.proofs.Functions.{functions-count}
-use Rattle.ledgers.specs.declared.Ledger as code
-use Rattle.ledgers.specs.Ledgers.{ledgerOf}
-use Rattle.call_numbers.specs.Arguments.{argumentsOffFor}
-use Rattle.call_numbers.proofs.Arguments.{arguments-off-are}
+use Rattle.theory_laws.proofs.TruthValues.{or-right}
+use Rattle.file_accepted.specs.Context.{parametersIn}
+use Rattle.file_accepted.specs.Functions.{functionStart}
+use Rattle.file_accepted.proofs.Functions.{functions-count}
+use Rattle.ledger_struct.specs.declared.Ledger as code
+use Rattle.ledger_struct.specs.Ledgers.{ledgerOf}
+use Rattle.ledger_numbers.specs.Arguments.{argumentsOffFor}
+use Rattle.ledger_numbers.proofs.Arguments.{arguments-off-are}
 use Rattle.call.specs.Calls.{CalledOn}
 
 -- The tests on a function's place and on a file that are known by equations.

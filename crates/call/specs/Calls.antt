@@ -3,8 +3,8 @@ use mathlib.Core.Path.{_≡_}
 use mathlib.Core.List.{List}
 use Prim.Native.Nat.{ℕ}
 use Rattle.definitions.specs.Ledger.{callNumber, ledgerAfterCall}
-use Rattle.ledgers.specs.declared.Ledger as code
-use Rattle.ledgers.specs.Ledgers.{ledgerOf}
+use Rattle.ledger_struct.specs.declared.Ledger as code
+use Rattle.ledger_struct.specs.Ledgers.{ledgerOf}
 use Rattle.call.specs.declared.Called.{Called}
 
 -- A refused call hands back the very ledger that it was given, parts that no count covers included.

@@ -1,20 +1,20 @@
 // 01, Runs and views: a call on a ledger, whatever ledger, caller, function and arguments are given.
-use call_numbers::arguments_off;
-use file::read_layout;
-use functions::function_start;
-use honest_calls::honest_call;
-use ledger_test::is_well_formed;
-use ledgers::Ledger;
-use ledgers::at_most;
+use call_honest::honest_call;
+use file_bytes::read_layout;
+use file_functions::function_start;
+use ledger_18_test::is_well_formed;
+use ledger_numbers::arguments_off;
+use ledger_struct::Ledger;
+use ledger_struct::at_most;
 ghost use mathlib.Core.Path.{_≡_};
 ghost use Prim.Native.Nat.{_<_};
 ghost use lib.Dec.{leb};
 ghost use Rattle.definitions.specs.ContractFile.{functionCount};
 ghost use Rattle.definitions.specs.Ledger.{notCallable, callNumber};
-ghost use Rattle.context.specs.Context.{parametersIn};
-ghost use Rattle.context.specs.Functions.{functionStart};
-ghost use Rattle.ledgers.specs.Ledgers.{ledgerOf};
-ghost use Rattle.call_numbers.specs.Arguments.{argumentsOffFor};
+ghost use Rattle.file_accepted.specs.Context.{parametersIn};
+ghost use Rattle.file_accepted.specs.Functions.{functionStart};
+ghost use Rattle.ledger_struct.specs.Ledgers.{ledgerOf};
+ghost use Rattle.ledger_numbers.specs.Arguments.{argumentsOffFor};
 ghost use Rattle.call.specs.Calls.{CalledOn};
 
 pub struct Called {

@@ -22,7 +22,7 @@ fn main() {
     let mut file = room();
     let mut out = output_room();
     let length = io::read_full(STDIN_FILENO, &mut file);
-    let answer = writing::write(&file[..length], &mut out);
+    let answer = write_contract::write(&file[..length], &mut out);
     let end = answer.length;
     if answer.number == 0 {
         io::write_all(STDOUT_FILENO, &out[..end]);

@@ -13,8 +13,8 @@ use Rattle.definitions.specs.Basics.{any, countIf, firstThatHolds}
 use Rattle.definitions.specs.ContractFile.{Field, fieldAt, isFinal, contractIn}
 use Rattle.definitions.specs.Numbers.{checkNumber, orElse}
 use Rattle.definitions.specs.Ledger.{finalsOff, deployNumber}
-use Rattle.context.specs.Context.{fieldsIn}
-use Rattle.context.proofs.Functions.{fields-in}
+use Rattle.file_accepted.specs.Context.{fieldsIn}
+use Rattle.file_accepted.proofs.Functions.{fields-in}
 use Rattle.deploy.specs.Deployments.{addressesNumber}
 
 abbrev pub finalsFrom : List Field → ℕ → ℕ

@@ -8,8 +8,8 @@ use borrow.Author.Tests.{eq-eqb, ne-eqb}
 use Rattle.definitions.specs.Basics.{isZero}
 use Rattle.definitions.specs.Ledger as ledger
 use Rattle.definitions.specs.Ledger.{deployNumber, deployed}
-use Rattle.ledgers.specs.declared.Ledger.{Ledger}
-use Rattle.ledgers.specs.Ledgers.{ledgerOf}
+use Rattle.ledger_struct.specs.declared.Ledger.{Ledger}
+use Rattle.ledger_struct.specs.Ledgers.{ledgerOf}
 use Rattle.deploy.specs.declared.Deployment.{Deployment}
 use Rattle.deploy.specs.Deployments.{nothingDeployed, Refused, Deployed}
 

@@ -11,14 +11,14 @@ use Rattle.definitions.specs.Basics.{any, isZero}
 use Rattle.definitions.specs.ContractFile.{FunctionRecord, byteAt, fieldCount, functionCount, functionsAt, functionEnd, functionsEnd, nodesAt, nodeCount, fileEnd, parameterRecords, functionRecord, functionRecords, sectionsOf}
 use Rattle.definitions.specs.Numbers.{endsWrongly, countOffLimits, checkNumber}
 use Rattle.definitions.specs.Ledger.{deployNumber}
-use Rattle.laws.proofs.Records.{force-is, parameters-length}
-use Rattle.laws.proofs.TruthValues.{or-else-first}
-use Rattle.file.proofs.Sections.{functions-are}
-use Rattle.nodes.proofs.Truth.{either-false}
-use Rattle.numbers.specs.Settled.{Settled}
-use Rattle.reading.specs.Shape.{shapeNumber}
-use Rattle.reading.proofs.Laws.{settled, check-after-shape}
-use Rattle.context.proofs.Accepted.{few-fields, few-functions, few-nodes}
+use Rattle.theory_laws.proofs.Records.{force-is, parameters-length}
+use Rattle.theory_laws.proofs.TruthValues.{or-else-first}
+use Rattle.file_bytes.proofs.Sections.{functions-are}
+use Rattle.file_children.proofs.Truth.{either-false}
+use Rattle.theory_accepted.specs.Settled.{Settled}
+use Rattle.check_sections.specs.Shape.{shapeNumber}
+use Rattle.check_sections.proofs.Laws.{settled, check-after-shape}
+use Rattle.file_accepted.proofs.Accepted.{few-fields, few-functions, few-nodes}
 
 abbrev manyParameters : FunctionRecord → Bool
 manyParameters r = ltb 8 (length (r .parameters))

@@ -7,7 +7,7 @@ use Rattle.definitions.specs.Basics.{isZero, firstThatHolds}
 use Rattle.definitions.specs.ContractFile.{contractIn}
 use Rattle.definitions.specs.Ledger as ledger
 use Rattle.definitions.specs.Ledger.{finalsOff, deployNumber, deployed}
-use Rattle.ledgers.specs.Ledgers.{ledgerOf}
+use Rattle.ledger_struct.specs.Ledgers.{ledgerOf}
 use Rattle.deploy.specs.declared.Deployment.{Deployment}
 
 -- The papers leave the ledger of a refused deployment free: here it has no file, no call and no places.

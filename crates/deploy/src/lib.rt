@@ -1,7 +1,7 @@
 // Deployment: document 01's numbers 1 to 15 and 17, and the first ledger of an accepted contract.
-use contents::Content;
-use contents::Place;
-use ledgers::Ledger;
+use ledger_contents::Content;
+use ledger_contents::Place;
+use ledger_struct::Ledger;
 ghost use mathlib.Core.Path.{_≡_};
 ghost use mathlib.Core.Bool.{cond};
 ghost use Prim.Native.Nat.{_<_, _≤_};
@@ -10,7 +10,7 @@ ghost use Rattle.definitions.specs.ContractFile.{fieldAt, isFinal, fieldCount};
 ghost use lib.Dec.{ltb};
 ghost use Rattle.definitions.specs.Numbers.{orElse};
 ghost use Rattle.definitions.specs.Ledger.{deployNumber};
-ghost use Rattle.context.specs.Context.{fieldsIn};
+ghost use Rattle.file_accepted.specs.Context.{fieldsIn};
 ghost use Rattle.deploy.specs.Deployments.{addressesNumber, Deployed, Refused};
 
 // The number of a deployment, and its ledger: for a number above 0 the ledger of nothing.
@@ -25,7 +25,7 @@ fn final_bit(file: &[u8], f: usize) -> usize
     ensures { λ r. ⌜ r ≡ cond (isFinal ((fieldAt (fieldsIn (now (file .entry))) f) .shape)) 1 0 ⌝ }
     ensures { λ r. ⌜ r ≤ 1 ⌝ }
 {
-    if file::byte_at(file, 1 + 3 * f) == 1 {
+    if file_bytes::byte_at(file, 1 + 3 * f) == 1 {
         1
     } else {
         0
@@ -36,7 +36,7 @@ fn final_bit(file: &[u8], f: usize) -> usize
 fn final_count(file: &[u8]) -> usize
     ensures { λ r. ⌜ r ≡ countIf (λ d. isFinal (d .shape)) (fieldsIn (now (file .entry))) ⌝ }
 {
-    let count = file::byte_at(file, 0);
+    let count = file_bytes::byte_at(file, 0);
     let mut f: usize = 0;
     let mut finals: usize = 0;
     while f < count {
@@ -81,7 +81,7 @@ fn first_number(first: u8, second: u8) -> u8
 fn deploy_number(file: &[u8], addresses: &[u8]) -> u8
     ensures { λ r. ⌜ r ≡ deployNumber (now (file .entry)) (now (addresses .entry)) ⌝ }
 {
-    let own = checking::check(file);
+    let own = check_contract::check(file);
     let given = addresses_number(file, addresses);
     first_number(own, given)
 }
@@ -124,7 +124,7 @@ pub fn deploy(file: &[u8], addresses: &[u8]) -> Deployment
     if 0 < number {
         return refused(number);
     }
-    let ledger = deployments::deployed(file, addresses);
+    let ledger = deploy_ledger::deployed(file, addresses);
     Deployment {
         number: number,
         ledger: ledger,

@@ -1,6 +1,6 @@
 // Reads a rehearsal script from standard input and prints a line for the deployment and one for each call: its number and the party's
 // view after it. A refused deployment prints `refused` and its number; what is no script prints `bad script`, before anything is run.
-use ledgers::Ledger;
+use ledger_struct::Ledger;
 use libc::STDIN_FILENO;
 use libc::STDOUT_FILENO;
 ghost use mathlib.Core.Path.{_≡_};
@@ -30,16 +30,16 @@ fn line_room() -> [u8; 41135]
 fn print_line(number: u8, ledger: Ledger, party: u8) {
     let mut view = view_room();
     let answer = view::view(ledger, party, &mut view);
-    let length = ledgers::at_most(answer.length, 20565);
+    let length = ledger_struct::at_most(answer.length, 20565);
     let mut line = line_room();
-    let end = lines::write_line(number, &view[..length], &mut line);
+    let end = rehearse_lines::write_line(number, &view[..length], &mut line);
     io::write_all(STDOUT_FILENO, &line[..end]);
 }
 
 // The ledger after call k of the script, once its line is printed.
 fn after_call(bytes: &[u8], k: u8, ledger: Ledger, party: u8) -> Ledger {
-    let parts = scripts::read_call(bytes, k);
-    let arguments = scripts::arguments(bytes, k);
+    let parts = rehearse_scripts::read_call(bytes, k);
+    let arguments = rehearse_scripts::arguments(bytes, k);
     let count = parts.arguments as usize;
     let called = call::call(ledger, parts.function, parts.caller, &arguments[..count]);
     let after = called.ledger;
@@ -48,8 +48,11 @@ fn after_call(bytes: &[u8], k: u8, ledger: Ledger, party: u8) -> Ledger {
 }
 
 fn rehearse(bytes: &[u8]) {
-    let script = scripts::read_script(bytes);
-    let deployment = deploy::deploy(scripts::file_of(bytes), scripts::addresses_of(bytes));
+    let script = rehearse_scripts::read_script(bytes);
+    let deployment = deploy::deploy(
+        rehearse_scripts::file_of(bytes),
+        rehearse_scripts::addresses_of(bytes),
+    );
     if 0 < deployment.number {
         io::write_all(STDOUT_FILENO, b"refused ");
         io::print_decimal(STDOUT_FILENO, deployment.number as u64);
@@ -69,7 +72,7 @@ fn rehearse(bytes: &[u8]) {
 fn main() {
     let mut bytes = script_room();
     let length = io::read_full(STDIN_FILENO, &mut bytes);
-    if scripts::is_script(&bytes[..length]) {
+    if rehearse_scripts::is_script(&bytes[..length]) {
         rehearse(&bytes[..length]);
     } else {
         io::write_all(STDOUT_FILENO, b"bad script\n");

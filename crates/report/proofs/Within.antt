@@ -8,7 +8,7 @@ use borrow.Author.Tests.{ltb-false}
 use lib.Dec.{ltb}
 use lib.ListN.{length}
 use Rattle.definitions.specs.Report.{reportText}
-use Rattle.reporting.specs.Report.{reportedLength}
+use Rattle.report_contract.specs.Report.{reportedLength}
 
 within : (room long : ℕ) (short : Bool) → ltb room long ≡ short → cond short 0 long ≤ room
 within room long true e = omega arith

@@ -22,7 +22,7 @@ fn main() {
     let mut file = room();
     let mut text = text_room();
     let length = io::read_full(STDIN_FILENO, &mut file);
-    let answer = reporting::report(&file[..length], &mut text);
+    let answer = report_contract::report(&file[..length], &mut text);
     let end = answer.length;
     io::write_all(STDOUT_FILENO, &text[..end]);
 }

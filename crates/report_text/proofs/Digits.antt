@@ -8,8 +8,8 @@ use borrow.Author.Tests.{lt-ltb, le-ltb}
 use lib.Dec.{ltb}
 use lib.ListN.{length, length-append}
 use Rattle.definitions.specs.Report.{digits}
-use Rattle.append.specs.Append.{Appended}
-use Rattle.append.proofs.Laws.{appended-nothing, appended-length, appended-then}
+use Rattle.memory_append.specs.Append.{Appended}
+use Rattle.memory_append.proofs.Laws.{appended-nothing, appended-length, appended-then}
 
 pub digits-none : (levels n : ℕ) → levels ≡ 0 → digits levels n ≡ []
 unfolding digits

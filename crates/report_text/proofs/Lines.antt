@@ -10,11 +10,11 @@ use lib.Seq.{take-suc, take-all, length-take-le, getD-take}
 use Rattle.definitions.specs.Basics.{flatMap}
 use Rattle.definitions.specs.Rewriting.{WrittenContract}
 use Rattle.definitions.specs.Report.{Tally, crossings, comesBefore, insert, sorted, decimal, heading, tallyLine, refusedLine, tallies}
-use Rattle.laws.proofs.Lists.{flat-append}
-use Rattle.append.specs.Append.{Appended}
-use Rattle.append.proofs.Laws.{appended-nothing, appended-length, appended-then}
-use Rattle.tallies.specs.Counts.{talliesFrom, tallyOf, orderedTallies}
-use Rattle.tallies.proofs.Laws.{tallies-are}
+use Rattle.theory_laws.proofs.Lists.{flat-append}
+use Rattle.memory_append.specs.Append.{Appended}
+use Rattle.memory_append.proofs.Laws.{appended-nothing, appended-length, appended-then}
+use Rattle.report_order.specs.Counts.{talliesFrom, tallyOf, orderedTallies}
+use Rattle.report_order.proofs.Laws.{tallies-are}
 use Rattle.report_text.specs.Lines.{reportLines}
 use Rattle.report_text.proofs.Digits.{digits-length}
 

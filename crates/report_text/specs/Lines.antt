@@ -3,7 +3,7 @@ use mathlib.Core.List.{List, _∷_, _++_}
 use Prim.Native.Nat.{ℕ}
 use Rattle.definitions.specs.Basics.{flatMap}
 use Rattle.definitions.specs.Report.{decimal, sorted, heading, tallyLine}
-use Rattle.tallies.specs.Counts.{talliesFrom}
+use Rattle.report_order.specs.Counts.{talliesFrom}
 
 -- A count behind a space.
 abbrev pub spacedCount : ℕ → List ℕ

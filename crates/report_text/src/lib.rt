@@ -1,15 +1,15 @@
 // The report's text: decimal numbers, the refused line, and the lines of the tallies.
-use append::append;
-use append::append_byte;
-use tallies::count_of;
-use tallies::sort_functions;
+use memory_append::append;
+use memory_append::append_byte;
+use report_order::count_of;
+use report_order::sort_functions;
 ghost use mathlib.Core.List.{[], _∷_, _++_};
 ghost use Prim.Native.Nat.{_+_, _<_, _≤_};
 ghost use lib.ListN.{length};
-ghost use Rattle.append.specs.Append.{Appended};
+ghost use Rattle.memory_append.specs.Append.{Appended};
 ghost use Rattle.definitions.specs.Basics.{flatMap};
 ghost use Rattle.definitions.specs.Report.{digits, decimal, refusedLine, tallyLine};
-ghost use Rattle.tallies.specs.Counts.{orderedTallies};
+ghost use Rattle.report_order.specs.Counts.{orderedTallies};
 ghost use Rattle.report_text.specs.Lines.{spacedCount, reportLines};
 
 // A number's decimal digits, as many as there are levels at most.

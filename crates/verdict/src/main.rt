@@ -14,7 +14,7 @@ fn room() -> [u8; 655865]
 fn main() {
     let mut file = room();
     let length = io::read_full(STDIN_FILENO, &mut file);
-    let number = checking::check(&file[..length]);
+    let number = check_contract::check(&file[..length]);
     if number == 0 {
         io::write_all(STDOUT_FILENO, b"accepted\n");
     } else {

@@ -1,10 +1,10 @@
 // 01, Runs and views: a party's view of a ledger, whatever ledger it is.
-use ledger_test::is_well_formed;
-use ledgers::Ledger;
-use views::Answer;
-use views::tested_view;
-ghost use Rattle.ledgers.specs.Ledgers.{ledgerOf};
-ghost use Rattle.views.specs.Views.{Viewed};
+use ledger_18_test::is_well_formed;
+use ledger_struct::Ledger;
+use view_bytes::Answer;
+use view_bytes::tested_view;
+ghost use Rattle.ledger_struct.specs.Ledgers.{ledgerOf};
+ghost use Rattle.view_bytes.specs.Views.{Viewed};
 
 pub fn view(l: Ledger, party: u8, out: &mut [u8]) -> Answer
     ensures { λ r. ⌜ Viewed party (ledgerOf l) (now (out .entry)) (now (out .exit)) r ⌝ }

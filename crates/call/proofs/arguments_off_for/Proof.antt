@@ -4,15 +4,6 @@ use borrow.Author.Needs.{needs}
 use Rattle.call.proofs.arguments_off_for.Statement.{statement}
 use Rattle.call.proofs.arguments_off_for.Tie as tie
 
-function-start-requires : tie.Need-function-start-requires
-function-start-requires c κs = search needs
-
-arguments-off-requires : tie.Need-arguments-off-requires
-arguments-off-requires c κs = search needs
-
-returns : tie.Need-returns
-returns c = off-there (c .before .before .before .before .args .file .now) (c .before .before .before .before .args .arguments .now) _ _ _ (c .before .function-start .ensures .0) (c .arguments-off .ensures)
-
 pub arguments-off-for-spec : {M : Type 1} → statement M
 arguments-off-for-spec =
-    tie.close (tie.spec function-start-requires arguments-off-requires returns)
+    tie.close (tie.spec (λ c κs. search needs) (λ c κs. search needs) (λ c. off-there (c .before .before .before .before .args .file .now) (c .before .before .before .before .args .arguments .now) _ _ _ (c .before .function-start .ensures .0) (c .arguments-off .ensures)))

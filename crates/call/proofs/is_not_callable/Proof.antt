@@ -4,8 +4,8 @@ use native.Mathlib.Omega.{arith}
 use borrow.Author.Tests.{not-true, not-false}
 use lib.ListN.{length}
 use lib.Seq.{length-take-le}
-use Rattle.ledgers.specs.Ledgers.{ledgerOf}
-use Rattle.ledgers.proofs.Flat.{take-many}
+use Rattle.ledger_struct.specs.Ledgers.{ledgerOf}
+use Rattle.ledger_struct.proofs.Flat.{take-many}
 use Rattle.call.proofs.Numbers.{not-well-formed, caller-above, otherwise, lacks-in}
 use borrow.Author.Needs.{needs}
 use Rattle.call.proofs.is_not_callable.Statement.{statement}
@@ -13,29 +13,6 @@ use Rattle.call.proofs.is_not_callable.Tie as tie
 
 bytes : (c : tie.Start) → length (c .args .l .file) ≡ 4596
 bytes c = search needs
-
-is-well-formed-requires : tie.Need-is-well-formed-requires
-is-well-formed-requires c κs = search needs
-
-returns : tie.Need-returns
-returns c = not-well-formed _ _ _ (sym (c .before .is-well-formed .ensures) ∙ not-true _ (c .if1 .taken))
-
-returns-2 : tie.Need-returns-2
-returns-2 c = caller-above _ _ _ (sym (c .before .before .is-well-formed .ensures) ∙ not-false _ (c .before .if1 .left)) (c .if2 .taken)
-
-at-most-requires : tie.Need-at-most-requires
-at-most-requires c κs = search needs
-
-array-share-prefix-bytes : tie.Need-array-share-prefix-bytes
-array-share-prefix-bytes c = omega (arith, c .before .at-most .ensures, bytes (c .before .before .before .before .before))
-
-slice-aggregate-lacks-function : tie.Need-slice-aggregate-lacks-function
-slice-aggregate-lacks-function c =
-    let k = c .before .before in
-    sym (length-take-le (k .at-most .result) (c .before .before .before .before .before .before .args .l .file) (omega (arith, k .at-most .ensures, bytes (c .before .before .before .before .before .before))))
-
-lacks-function-requires : tie.Need-lacks-function-requires
-lacks-function-requires c κs = search needs
 
 returns-3 : tie.Need-returns-3
 unfolding ledgerOf
@@ -50,11 +27,12 @@ pub is-not-callable-spec : {M : Type 1} → statement M
 is-not-callable-spec =
     tie.close
     (tie.spec
-    is-well-formed-requires
-    returns
-    returns-2
-    at-most-requires
-    array-share-prefix-bytes
-    slice-aggregate-lacks-function
-    lacks-function-requires
+    (λ c κs. search needs)
+    (λ c. not-well-formed _ _ _ (sym (c .before .is-well-formed .ensures) ∙ not-true _ (c .if1 .taken)))
+    (λ c. caller-above _ _ _ (sym (c .before .before .is-well-formed .ensures) ∙ not-false _ (c .before .if1 .left)) (c .if2 .taken))
+    (λ c κs. search needs)
+    (λ c. omega (arith, c .before .at-most .ensures, bytes (c .before .before .before .before .before)))
+    (λ c. let k = c .before .before in
+    sym (length-take-le (k .at-most .result) (c .before .before .before .before .before .before .args .l .file) (omega (arith, k .at-most .ensures, bytes (c .before .before .before .before .before .before)))))
+    (λ c κs. search needs)
     returns-3)

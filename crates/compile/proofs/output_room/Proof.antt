@@ -5,8 +5,5 @@ use lib.ListN.{length-replicate}
 use Rattle.compile.proofs.output_room.Statement.{statement}
 use Rattle.compile.proofs.output_room.Tie as tie
 
-returns : tie.Need-returns
-returns c = sym (length-replicate {0} {A = ℕ} 49152 0)
-
 pub output-room-spec : {M : Type 1} → statement M
-output-room-spec = tie.close (tie.spec returns)
+output-room-spec = tie.close (tie.spec (λ c. sym (length-replicate {0} {A = ℕ} 49152 0)))

@@ -5,8 +5,5 @@ use lib.ListN.{length-replicate}
 use Rattle.compile.proofs.room.Statement.{statement}
 use Rattle.compile.proofs.room.Tie as tie
 
-returns : tie.Need-returns
-returns c = sym (length-replicate {0} {A = ℕ} 655865 0)
-
 pub room-spec : {M : Type 1} → statement M
-room-spec = tie.close (tie.spec returns)
+room-spec = tie.close (tie.spec (λ c. sym (length-replicate {0} {A = ℕ} 655865 0)))

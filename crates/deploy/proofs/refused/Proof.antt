@@ -1,11 +1,9 @@
 -- The ledger of nothing counts nothing.
 use mathlib.Core.Path.{refl}
-use Rattle.ledgers.specs.Ledgers.{ledgerOf}
+use Rattle.ledger_struct.specs.Ledgers.{ledgerOf}
 use Rattle.deploy.specs.Deployments.{nothingDeployed}
 use Rattle.deploy.proofs.refused.Statement.{statement}
 use Rattle.deploy.proofs.refused.Tie as tie
-use Rattle.deploy.proofs.refused.Reads as reads
-use Rattle.deploy.proofs.refused.Lts as lts
 
 returns : tie.Need-returns
 unfolding ledgerOf nothingDeployed

@@ -5,8 +5,5 @@ use lib.ListN.{length-replicate}
 use Rattle.rehearse.proofs.line_room.Statement.{statement}
 use Rattle.rehearse.proofs.line_room.Tie as tie
 
-returns : tie.Need-returns
-returns c = sym (length-replicate {0} {A = ℕ} 41135 0)
-
 pub line-room-spec : {M : Type 1} → statement M
-line-room-spec = tie.close (tie.spec returns)
+line-room-spec = tie.close (tie.spec (λ c. sym (length-replicate {0} {A = ℕ} 41135 0)))

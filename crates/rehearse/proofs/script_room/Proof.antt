@@ -5,8 +5,5 @@ use lib.ListN.{length-replicate}
 use Rattle.rehearse.proofs.script_room.Statement.{statement}
 use Rattle.rehearse.proofs.script_room.Tie as tie
 
-returns : tie.Need-returns
-returns c = sym (length-replicate {0} {A = ℕ} 326661 0)
-
 pub script-room-spec : {M : Type 1} → statement M
-script-room-spec = tie.close (tie.spec returns)
+script-room-spec = tie.close (tie.spec (λ c. sym (length-replicate {0} {A = ℕ} 326661 0)))

@@ -5,8 +5,5 @@ use lib.ListN.{length-replicate}
 use Rattle.rehearse.proofs.view_room.Statement.{statement}
 use Rattle.rehearse.proofs.view_room.Tie as tie
 
-returns : tie.Need-returns
-returns c = sym (length-replicate {0} {A = ℕ} 20565 0)
-
 pub view-room-spec : {M : Type 1} → statement M
-view-room-spec = tie.close (tie.spec returns)
+view-room-spec = tie.close (tie.spec (λ c. sym (length-replicate {0} {A = ℕ} 20565 0)))

@@ -5,8 +5,5 @@ use lib.ListN.{length-replicate}
 use Rattle.report.proofs.text_room.Statement.{statement}
 use Rattle.report.proofs.text_room.Tie as tie
 
-returns : tie.Need-returns
-returns c = sym (length-replicate {0} {A = ℕ} 691 0)
-
 pub text-room-spec : {M : Type 1} → statement M
-text-room-spec = tie.close (tie.spec returns)
+text-room-spec = tie.close (tie.spec (λ c. sym (length-replicate {0} {A = ℕ} 691 0)))

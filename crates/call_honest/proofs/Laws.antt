@@ -1,0 +1,201 @@
+-- The parts of the honest call: what is put from the original is what the call with given values is handed.
+use mathlib.Core.Path.{_≡_, ap, ap₂, sym, _∙_}
+use mathlib.Core.List.{List, map}
+use Prim.Native.Nat.{ℕ, suc, _*_, _<_, _≤_}
+use native.Mathlib.Omega.{arith}
+use lib.ListN.{length, take}
+use Rattle.definitions.specs.ContractFile.{Function, byteAt, functionCount, nodesAt}
+use Rattle.definitions.specs.Numbers.{checkNumber}
+use Rattle.definitions.specs.Original.{addressIn}
+use Rattle.definitions.specs.Ledger.{Content, Ledger, openedNumber, callWith, honestParameters, honestParametersOf, honestVariablesOf}
+use Rattle.memory_buffer.proofs.Laws.{front-stored}
+use Rattle.file_accepted.proofs.Declarations.{parameters-count}
+use Rattle.theory_typing.proofs.WellFormed.{ledger-accepted}
+use Rattle.theory_typing.proofs.CallEnvironment.{calls-left, call-well-formed, function-exists, argument-count}
+use Rattle.file_accepted.specs.Context.{nodesIn, parametersIn, scopeIn}
+use Rattle.file_accepted.specs.Functions.{functionStart, rootAt}
+use Rattle.file_accepted.proofs.Functions.{functions-count, function-in}
+use Rattle.ledger_contents.specs.Contents.{contentsOf}
+use Rattle.rewrite_log.specs.declared.Position.{Position}
+use Rattle.rewrite_log.specs.Entries.{Entries}
+use Rattle.rewrite_log.specs.Logs.{Logged}
+use Rattle.rewrite_expressions.specs.Translations.{Ready, statementOf}
+use Rattle.rewrite_statements.specs.Placing.{startingAt}
+use Rattle.ledger_circuits.specs.Circuits.{addressFrom}
+use Rattle.write_function_room.specs.Functions.{privateIn, eventsIn, FunctionRoom}
+use Rattle.write_function_room.proofs.Room.{function-room-alone}
+use Rattle.write_logged_steps.proofs.Readings.{entries-length}
+use Rattle.ledger_addresses.specs.Addresses.{AddressRoom}
+use Rattle.ledger_numbers.specs.Numbers.{Numbered}
+use Rattle.ledger_numbers.proofs.Numbers.{numbers-whole}
+use Rattle.honest_parameters.specs.Parameters.{ParametersRoom}
+use Rattle.honest_variables.specs.Slots.{slotsOf, SlotsRoom, SlotsPut}
+use Rattle.honest_variables.specs.Variables.{codesOf, contentsOfCodes, VariablesRoom}
+use Rattle.honest_variables.proofs.Slots.{slots-count}
+use Rattle.honest_variables.proofs.Call.{variables-honest, variables-room}
+use Rattle.call_with.specs.Calls.{Callable}
+use Rattle.call_honest.specs.Honest.{Called, LogRoom, LogPut, Told, WorkedOut, ContentsRoom}
+
+-- Each opened place has its number.
+pub places-opened : (flat before after : List ℕ) (many : ℕ) (places : List Content) → length flat ≡ 5 * many → length before ≡ many → contentsOf flat ≡ places
+    → Numbered openedNumber flat before after → after ≡ map openedNumber places
+places-opened flat before after many places long short same numbered =
+    numbers-whole openedNumber flat before after (omega arith) numbered ∙ ap (map openedNumber) same
+
+-- The log of a body.
+module _ (file : List ℕ) (at nodesStart private : ℕ) (log : List ℕ) (room : LogRoom file at nodesStart private log) where
+  pub log-ready : Ready file at nodesStart (rootAt file at) log (startingAt private) (statementOf file at 0 (rootAt file at))
+  log-ready =
+      rw (room .privateIs)
+      (record {
+        inside = room .room .root;
+        context = rw (room .place) (room .room .context);
+        room = record { space = omega (arith, room .room .events, room .space); few = omega (arith, room .room .variables) };
+      })
+
+  pub log-put : (after : List ℕ) (end : Position) → Logged (nodesIn file) log after (startingAt private) end (statementOf file at 0 (rootAt file at) private)
+      → LogPut file at after (end .at)
+  log-put after end logged =
+      let events : Logged (nodesIn file) log after (startingAt (privateIn file at)) end (eventsIn file at) = rw (room .privateIs) at logged in
+      let front : take (end .at) after ≡ events .numbers =
+      front-stored log after (events .numbers) (end .at) (events .held) (omega (arith, events .next, entries-length (nodesIn file) (eventsIn file at) (events .numbers) (events .entries))) in
+      record { entries = rw front (events .entries); fits = omega (arith, events .next, room .room .events) }
+
+-- A call that is not refused can be worked out.
+module _ (l : Ledger) (function caller : ℕ) (arguments file : List ℕ) (at : ℕ) (called : Called l function caller arguments file at) where
+  pub function-there : function < functionCount (l .file)
+  function-there = omega (arith, function-exists l function caller arguments (called .clear), functions-count (l .file))
+
+  pub file-accepted : checkNumber (l .file) ≡ 0
+  file-accepted = ledger-accepted l (call-well-formed l function caller arguments (called .clear))
+
+  pub room-in-file : FunctionRoom (l .file) (functionStart (l .file) function) 0 0
+  room-in-file = function-room-alone (l .file) file-accepted function function-there
+
+  room-here : FunctionRoom file at 0 0
+  room-here = rw (called .begins, called .sameFile) room-in-file
+
+  pub arguments-in-file : length arguments ≡ byteAt (l .file) (functionStart (l .file) function)
+  arguments-in-file =
+      argument-count l function caller arguments (called .clear) ∙ ap (λ (g : Function). length (g .parameters)) (function-in (l .file) function function-there)
+      ∙ parameters-count (l .file) (functionStart (l .file) function)
+
+  pub arguments-counted : length arguments ≡ byteAt file at
+  arguments-counted = rw (called .begins, called .sameFile) arguments-in-file
+
+  pub arguments-few : length arguments ≤ 8
+  arguments-few = omega (arith, arguments-counted, room-here .context .fewParameters)
+
+  pub function-near : at ≤ 200000
+  function-near = room-here .context .nearFunction
+
+  pub addresses-ready : (out : List ℕ) → length out ≡ 136 → AddressRoom file at out
+  addresses-ready out long =
+      let context = room-here .context in
+      record {
+        names = record { fewFields = context .fewFields; fewParameters = context .fewParameters; nearFunction = context .nearFunction };
+        room = long;
+      }
+
+  pub parameters-ready : (flat : List ℕ) → length flat ≡ 5 * length arguments → ParametersRoom file at arguments flat
+  parameters-ready flat long =
+      let context = room-here .context in
+      record { place = record { near = context .nearFunction; few = context .fewParameters }; count = arguments-counted; room = long }
+
+  module _ (nodesStart : ℕ) (place : nodesStart ≡ nodesAt file) where
+    pub log-room : (private : ℕ) (log : List ℕ) → private ≡ privateIn file at → 7680 ≤ length log → LogRoom file at nodesStart private log
+    log-room private log counted space = record { place = place; room = room-here; privateIs = counted; space = space }
+
+    pub slots-room : (slots : List ℕ) → 1024 ≤ length slots → SlotsRoom file at nodesStart slots
+    slots-room slots space =
+        record { context = rw place (room-here .context); root = room-here .root; room = omega (arith, room-here .variables) }
+
+  pub slots-few : (numbers before after : List ℕ) (made : ℕ) → SlotsPut file at arguments caller numbers before after made → made ≤ 1024
+  slots-few numbers before after made put = omega (arith, put .count, room-here .variables)
+
+-- The numbers that are told on opened places are those worked out.
+pub worked-out : (l : Ledger) (function caller : ℕ) (arguments file : List ℕ) (at nodesStart : ℕ) (numbers log : List ℕ) (private : ℕ) (addresses : List ℕ)
+    → Told l function caller arguments file at nodesStart numbers log private addresses → (before slots : List ℕ) (made : ℕ)
+    → SlotsPut file at arguments caller numbers before slots made → WorkedOut l function caller arguments file at log private (take made slots) addresses
+worked-out l function caller arguments file at nodesStart numbers log private addresses told before slots made put =
+    let opened = told .known .opened in
+    record {
+      called = told .known .called;
+      entries = told .entries;
+      privateIs = told .privateIs;
+      slotsAre = put .slots ∙ ap (slotsOf file at arguments caller) opened;
+      addressesAre = told .addressed .addresses ∙ ap (addressIn (scopeIn file at) caller arguments) opened;
+    }
+
+-- What is worked out can be put as contents, and these are the honest ones.
+module _ (l : Ledger) (function caller : ℕ) (arguments file : List ℕ) (at : ℕ) (log : List ℕ) (private : ℕ) (slots addresses : List ℕ)
+    (worked : WorkedOut l function caller arguments file at log private slots addresses) where
+  abbrev known : Called l function caller arguments file at
+  known = worked .called
+
+  abbrev start : ℕ
+  start = functionStart (l .file) function
+
+  abbrev opened : List ℕ
+  opened = map openedNumber (l .places)
+
+  entries-in-file : Entries (nodesIn (l .file)) (eventsIn (l .file) start) log
+  entries-in-file = rw (known .begins, known .sameFile) at (worked .entries)
+
+  addresses-in-file : addressFrom addresses ≡ addressIn (scopeIn (l .file) start) caller arguments opened
+  addresses-in-file = rw (known .begins, known .sameFile) at (worked .addressesAre)
+
+  slots-in-file : slots ≡ slotsOf (l .file) start arguments caller opened
+  slots-in-file = rw (known .begins, known .sameFile) at (worked .slotsAre)
+
+  private-in-file : private ≡ privateIn (l .file) start
+  private-in-file = rw (known .begins, known .sameFile) at (worked .privateIs)
+
+  in-file : FunctionRoom (l .file) start 0 0
+  in-file = room-in-file l function caller arguments file at known
+
+  pub variables-ready : (flat : List ℕ) → length flat ≡ 5 * length slots → VariablesRoom log private slots addresses flat
+  variables-ready flat long =
+      rw (private-in-file, slots-in-file)
+      (variables-room l function caller arguments (known .clear) (in-file .context .fewFields) log addresses entries-in-file addresses-in-file flat (in-file .variables)
+      (rw slots-in-file at long))
+
+  pub slots-within : length slots ≤ 1024
+  slots-within = rw slots-in-file (omega (arith, slots-count (l .file) start arguments caller opened, in-file .variables))
+
+  pub call-ready : (parameters variables : List ℕ) → ContentsRoom arguments slots parameters variables → Callable l function parameters variables
+  call-ready parameters variables room =
+      let count = arguments-in-file l function caller arguments file at known in
+      record {
+        accepted = file-accepted l function caller arguments file at known;
+        inside = function-there l function caller arguments file at known;
+        counted = omega (arith, room .forParameters, count);
+        held =
+            record {
+              parameterRoom = omega (arith, room .forParameters, arguments-few l function caller arguments file at known);
+              variableRoom = omega (arith, room .forVariables, slots-within);
+              callLeft = calls-left l function caller arguments (known .clear);
+            };
+      }
+
+  parameters-are : honestParameters caller (suc (l .call)) 0 (parametersIn file at) arguments ≡ honestParametersOf l function caller arguments
+  parameters-are =
+      rw (known .begins, known .sameFile)
+      (ap (λ (g : Function). honestParameters caller (suc (l .call)) 0 (g .parameters) arguments)
+      (sym (function-in (l .file) function (function-there l function caller arguments file at known))))
+
+  variables-are : contentsOfCodes (addressFrom addresses) (suc (l .call)) 0 (codesOf private log) slots ≡ honestVariablesOf l function caller arguments
+  variables-are =
+      rw (private-in-file, slots-in-file)
+      (variables-honest l function caller arguments (known .clear) (in-file .context .fewFields) log addresses entries-in-file addresses-in-file)
+
+  pub call-honest : (next : ℕ) (parameters variables : List Content) (after : Ledger) → next ≡ suc (l .call)
+      → parameters ≡ honestParameters caller next 0 (parametersIn file at) arguments
+      → variables ≡ contentsOfCodes (addressFrom addresses) next 0 (codesOf private log) slots
+      → after ≡ callWith l function caller parameters variables
+      → after ≡ callWith l function caller (honestParametersOf l function caller arguments) (honestVariablesOf l function caller arguments)
+  call-honest next parameters variables after follows shown supplied made =
+      made
+      ∙ ap₂ (callWith l function caller)
+      (shown ∙ ap (λ (n : ℕ). honestParameters caller n 0 (parametersIn file at) arguments) follows ∙ parameters-are)
+      (supplied ∙ ap (λ (n : ℕ). contentsOfCodes (addressFrom addresses) n 0 (codesOf private log) slots) follows ∙ variables-are)

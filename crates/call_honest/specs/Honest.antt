@@ -1,0 +1,59 @@
+-- 01, Runs and views: what the original works out for a call, as code holds it before it is handed to the call with given values.
+use mathlib.Core.Path.{_≡_}
+use mathlib.Core.List.{List, map}
+use Prim.Native.Nat.{ℕ, _*_, _≤_}
+use lib.ListN.{length, take}
+use Rattle.definitions.specs.ContractFile.{nodesAt}
+use Rattle.definitions.specs.Original.{addressIn}
+use Rattle.definitions.specs.Ledger.{Ledger, openedNumber, callNumber}
+use Rattle.file_accepted.specs.Context.{nodesIn, scopeIn}
+use Rattle.file_accepted.specs.Functions.{functionStart}
+use Rattle.rewrite_log.specs.Entries.{Entries}
+use Rattle.ledger_circuits.specs.Circuits.{addressFrom}
+use Rattle.write_function_room.specs.Functions.{privateIn, eventsIn, FunctionRoom}
+use Rattle.ledger_addresses.specs.Addresses.{Addressed}
+use Rattle.honest_variables.specs.Slots.{slotsOf}
+
+-- A call that is not refused, of the function that begins at a place of the ledger's file.
+pub record Called (l : Ledger) (function caller : ℕ) (arguments file : List ℕ) (at : ℕ) : Type 0 where
+  pub clear : callNumber l function caller arguments ≡ 0
+  pub sameFile : file ≡ l .file
+  pub begins : at ≡ functionStart file function
+
+-- The places' numbers are those of their contents opened.
+pub record Opened (l : Ledger) (function caller : ℕ) (arguments file : List ℕ) (at nodesStart : ℕ) (numbers : List ℕ) : Type 0 where
+  pub called : Called l function caller arguments file at
+  pub place : nodesStart ≡ nodesAt file
+  pub opened : numbers ≡ map openedNumber (l .places)
+
+-- The log of a function's body fits.
+pub record LogRoom (file : List ℕ) (at nodesStart private : ℕ) (log : List ℕ) : Type 0 where
+  pub place : nodesStart ≡ nodesAt file
+  pub room : FunctionRoom file at 0 0
+  pub privateIs : private ≡ privateIn file at
+  pub space : 7680 ≤ length log
+
+-- The first numbers of the log are those of the body's events.
+pub record LogPut (file : List ℕ) (at : ℕ) (log : List ℕ) (r : ℕ) : Type 0 where
+  pub entries : Entries (nodesIn file) (eventsIn file at) (take r log)
+  pub fits : r ≤ 7680
+
+-- On opened places: the entries of the body's events, and the address of each name.
+pub record Told (l : Ledger) (function caller : ℕ) (arguments file : List ℕ) (at nodesStart : ℕ) (numbers log : List ℕ) (private : ℕ) (addresses : List ℕ) : Type 0 where
+  pub known : Opened l function caller arguments file at nodesStart numbers
+  pub entries : Entries (nodesIn file) (eventsIn file at) log
+  pub privateIs : private ≡ privateIn file at
+  pub addressed : Addressed file at caller arguments numbers addresses
+
+-- The numbers that the original works out for the variables, and the address of each name, on the places opened.
+pub record WorkedOut (l : Ledger) (function caller : ℕ) (arguments file : List ℕ) (at : ℕ) (log : List ℕ) (private : ℕ) (slots addresses : List ℕ) : Type 0 where
+  pub called : Called l function caller arguments file at
+  pub entries : Entries (nodesIn file) (eventsIn file at) log
+  pub privateIs : private ≡ privateIn file at
+  pub slotsAre : slots ≡ slotsOf file at arguments caller (map openedNumber (l .places))
+  pub addressesAre : addressFrom addresses ≡ addressIn (scopeIn file at) caller arguments (map openedNumber (l .places))
+
+-- There is a content's room for each argument, and for each variable.
+pub record ContentsRoom (arguments slots parameters variables : List ℕ) : Type 0 where
+  pub forParameters : length parameters ≡ 5 * length arguments
+  pub forVariables : length variables ≡ 5 * length slots

@@ -1,0 +1,204 @@
+// 01, Runs and views: a call with given parameters and supplied values: the written body walked, and the ledger after it.
+use file_bytes::read_layout;
+use file_functions::function_start;
+use honest_parameters::put_public;
+use ledger_addresses::put_addresses;
+use ledger_numbers::plain_numbers;
+use ledger_struct::Ledger;
+use ledger_struct::at_most;
+use ledger_struct::flat_places;
+use ledger_struct::with_call;
+use ledger_struct::with_parameters;
+use ledger_struct::with_places;
+use ledger_struct::with_variables;
+use walk_function::walk_function;
+ghost use mathlib.Core.Path.{_≡_};
+ghost use mathlib.Core.List.{map};
+ghost use Prim.Native.Nat.{_*_, _<_, _≤_, _/_, min};
+ghost use lib.ListN.{length};
+ghost use Rattle.definitions.specs.Ledger.{plainNumber, publicOf, callWith};
+ghost use Rattle.ledger_contents.specs.Contents.{contentsOf};
+ghost use Rattle.ledger_addresses.specs.Addresses.{AddressRoom, Addressed};
+ghost use Rattle.ledger_struct.specs.Ledgers.{ledgerOf};
+ghost use Rattle.definitions.specs.ContractFile.{nodesAt};
+ghost use Rattle.file_accepted.specs.Context.{parametersIn};
+ghost use Rattle.walk_expressions.specs.Evaluation.{stateOf};
+ghost use Rattle.write_function_room.specs.Functions.{FunctionRoom};
+ghost use Rattle.honest_parameters.specs.Parameters.{PublicRoom};
+ghost use Rattle.call_with.specs.Calls.{doneLedger, failedLedger, Held, Callable, Walked};
+
+fn done_ledger(
+    l: Ledger,
+    function: u8,
+    caller: u8,
+    parameters: &[u32],
+    variables: &[u32],
+    places: &[u32],
+) -> Ledger
+    requires { ⌜ (Held (ledgerOf l) (now parameters) (now variables)) × (length (now places) / 5 ≤ 1024) ⌝ }
+    ensures { λ r. ⌜ ledgerOf r ≡ doneLedger (ledgerOf l) function caller (contentsOf (now (parameters .entry))) (record { places = contentsOf (now (places .entry)); variables = contentsOf (now (variables .entry)) }) ⌝ }
+{
+    let next = l.call + 1;
+    let shown = with_parameters(l, parameters);
+    let set = with_variables(shown, variables);
+    let moved = with_places(set, places);
+    with_call(moved, next, function, caller, 0)
+}
+
+// "A failed call restores every place"; it shows public parameters and no variables.
+fn failed_ledger(l: Ledger, function: u8, caller: u8, public: &[u32]) -> Ledger
+    requires { ⌜ Held (ledgerOf l) (now public) (now public) ⌝ }
+    ensures { λ r. ⌜ ledgerOf r ≡ failedLedger (ledgerOf l) function caller (contentsOf (now (public .entry))) ⌝ }
+{
+    let next = l.call + 1;
+    let shown = with_parameters(l, public);
+    let cleared = with_variables(shown, &public[0..0]);
+    with_call(cleared, next, function, caller, 1)
+}
+
+// The addresses of the names in a call with these parameters on these places.
+fn call_addresses(
+    file: &[u8],
+    function_at: usize,
+    caller: u8,
+    parameters: &[u32],
+    places: &[u32],
+    out: &mut [u32],
+)
+    requires { ⌜ (AddressRoom (now file) «function_at» (now out)) × ((length (now parameters) / 5 ≤ 8) × (length (now places) / 5 ≤ 1024)) ⌝ }
+    ensures { λ _. ⌜ Addressed (now (file .entry)) «function_at» caller (map plainNumber (contentsOf (now (parameters .entry)))) (map plainNumber (contentsOf (now (places .entry)))) (now (out .exit)) ⌝ }
+{
+    let count = parameters.len() / 5;
+    let many = places.len() / 5;
+    let mut arguments = [0u32; 8];
+    let mut numbers = [0u32; 1024];
+    plain_numbers(parameters, &mut arguments[..]);
+    plain_numbers(places, &mut numbers[..]);
+    put_addresses(
+        file,
+        function_at,
+        caller,
+        &arguments[..count],
+        &numbers[..many],
+        out,
+    );
+}
+
+// The memory that a walk needs is made here.
+fn walk_called(
+    file: &[u8],
+    function_at: usize,
+    nodes_at: usize,
+    addresses: &[u32],
+    parameters: &[u32],
+    places: &mut [u32],
+    variables: &mut [u32],
+) -> bool
+    requires { ⌜ («nodes_at» ≡ nodesAt (now file)) × (FunctionRoom (now file) «function_at» 0 0) ⌝ }
+    ensures { λ r. ⌜ Walked (now (file .entry)) «function_at» (now (addresses .entry)) (now (parameters .entry)) (stateOf (now (places .entry)) (now (variables .entry))) (stateOf (now (places .exit)) (now (variables .exit))) r ⌝ }
+{
+    let mut log = [0u16; 7680];
+    let mut numbers = [0u16; 6176];
+    let mut scratch = [0u16; 7680];
+    let mut roots = [0u16; 1544];
+    let mut nodes = [0u8; 49152];
+    walk_function(
+        file,
+        function_at,
+        nodes_at,
+        addresses,
+        &mut log[..],
+        &mut numbers[..],
+        &mut scratch[..],
+        &mut roots[..],
+        &mut nodes[..],
+        parameters,
+        places,
+        variables,
+    )
+}
+
+// What a failed call shows: its public parameters.
+fn failed_call(
+    l: Ledger,
+    file: &[u8],
+    function_at: usize,
+    function: u8,
+    caller: u8,
+    parameters: &[u32],
+) -> Ledger
+    requires { ⌜ (PublicRoom (now file) «function_at» (now parameters) (now parameters)) × ((ledgerOf l) .call < 65535) ⌝ }
+    ensures { λ r. ⌜ ledgerOf r ≡ failedLedger (ledgerOf l) function caller (publicOf (parametersIn (now (file .entry)) «function_at») (contentsOf (now (parameters .entry)))) ⌝ }
+{
+    let mut shown = [0u32; 40];
+    let count = put_public(file, function_at, parameters, &mut shown[..]);
+    let end = 5 * count;
+    failed_ledger(l, function, caller, &shown[..end])
+}
+
+// The call on the ledger's file, and on its places, for which there is room.
+fn call_on(
+    l: Ledger,
+    file: &[u8],
+    function: u8,
+    caller: u8,
+    parameters: &[u32],
+    variables: &mut [u32],
+    places: &mut [u32],
+) -> Ledger
+    requires { ⌜ ((now file ≡ (ledgerOf l) .file) × (Callable (ledgerOf l) function (now parameters) (now variables))) × (length (now places) ≡ 5 * min (l .«place_count») 1024) ⌝ }
+    ensures { λ r. ⌜ ledgerOf r ≡ callWith (ledgerOf l) function caller (contentsOf (now (parameters .entry))) (contentsOf (now (variables .entry))) ⌝ }
+{
+    let function_at = function_start(file, function);
+    let layout = read_layout(file);
+    let nodes_at = layout.nodes_at;
+    flat_places(l, places);
+    let mut addresses = [0u32; 136];
+    call_addresses(
+        file,
+        function_at,
+        caller,
+        parameters,
+        places,
+        &mut addresses[..],
+    );
+    if walk_called(
+        file,
+        function_at,
+        nodes_at,
+        &addresses[..],
+        parameters,
+        places,
+        variables,
+    ) {
+        done_ledger(l, function, caller, parameters, variables, places)
+    } else {
+        failed_call(l, file, function_at, function, caller, parameters)
+    }
+}
+
+// "A call walks the function's written body on the ledger's plain values and cells", with these parameters and supplied values.
+pub fn call_with(
+    l: Ledger,
+    function: u8,
+    caller: u8,
+    parameters: &[u32],
+    variables: &mut [u32],
+) -> Ledger
+    requires { ⌜ Callable (ledgerOf l) function (now parameters) (now variables) ⌝ }
+    ensures { λ r. ⌜ ledgerOf r ≡ callWith (ledgerOf l) function caller (contentsOf (now (parameters .entry))) (contentsOf (now (variables .entry))) ⌝ }
+{
+    let bytes = l.file;
+    let length = at_most(l.file_length, 4596);
+    let mut places = [0u32; 5120];
+    let many = 5 * at_most(l.place_count, 1024);
+    call_on(
+        l,
+        &bytes[..length],
+        function,
+        caller,
+        parameters,
+        variables,
+        &mut places[..many],
+    )
+}

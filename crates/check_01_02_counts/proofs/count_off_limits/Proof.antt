@@ -1,0 +1,49 @@
+-- `check_01_02_counts::count_off_limits` meets its contract.
+use borrow.Author.Tests.{lt-ltb, le-ltb, eq-eqb, ne-eqb}
+use borrow.Author.Needs.{needs}
+use Rattle.check_01_02_counts.proofs.Laws.{limits}
+use Rattle.check_01_02_counts.proofs.count_off_limits.Statement.{statement}
+use Rattle.check_01_02_counts.proofs.count_off_limits.Tie as tie
+
+pub count-off-limits-spec : {M : Type 1} → statement M
+count-off-limits-spec =
+    tie.close
+    (tie.spec
+    (λ c. let start = c .before .before .before in
+    rw (limits _ _ (start .pre), lt-ltb _ _ (c .if1 .taken)))
+    (λ c. let start = c .before .before .before .before .before in
+    rw (limits _ _ (start .pre), le-ltb _ _ (c .before .before .if1 .left), eq-eqb _ _ (c .if2 .taken)))
+    (λ c. let start = c .before .before .before .before .before .before .before in
+    rw (
+      limits _ _ (start .pre),
+      le-ltb _ _ (c .before .before .before .before .if1 .left),
+      ne-eqb _ _ (c .before .before .if2 .left),
+      lt-ltb _ _
+          (c .if3 .taken),
+    ))
+    (λ c. search needs)
+    (λ c κs. search needs)
+    (λ c. let third = c .before .before .before in
+    let second = third .before .before in
+    let first = second .before .before in
+    let start = first .before .before .before in
+    rw (
+      limits _ _ (start .pre),
+      le-ltb _ _ (first .if1 .left),
+      ne-eqb _ _ (second .if2 .left),
+      le-ltb _ _ (third .if3 .left),
+      ← c .before .many-parameters .ensures,
+      c .if4 .taken,
+    ))
+    (λ c. let third = c .before .before .before .before in
+    let second = third .before .before in
+    let first = second .before .before in
+    let start = first .before .before .before in
+    rw (
+      limits _ _ (start .pre),
+      le-ltb _ _ (first .if1 .left),
+      ne-eqb _ _ (second .if2 .left),
+      le-ltb _ _ (third .if3 .left),
+      ← c .before .before .many-parameters .ensures,
+      c .before .if4 .left,
+    )))

@@ -1,0 +1,38 @@
+-- `check_01_02_counts::many_parameters` meets its contract.
+use mathlib.Core.Path.{_≡_}
+use Prim.Native.Nat.{_+_, _*_, _≤_}
+use native.Mathlib.Omega.{arith}
+use borrow.Author.Needs.{needs}
+use Rattle.definitions.specs.Basics.{any}
+use Rattle.definitions.specs.ContractFile.{functionRecords}
+use Rattle.file_children.proofs.Scans.{functions-done}
+use Rattle.check_01_02_counts.proofs.Laws.{hasManyParameters, many-next, many-found}
+use Rattle.check_01_02_counts.proofs.many_parameters.Statement.{statement}
+use Rattle.check_01_02_counts.proofs.many_parameters.Tie as tie
+
+abbrev Inv-loop : tie.InvT-loop
+Inv-loop file from count at₀ left₀ at left =
+    (any hasManyParameters (functionRecords left file at) ≡ any hasManyParameters (functionRecords count file from)) × (at + 513 * left ≤ 200000)
+
+abbrev μ-loop : tie.MeasureT-loop
+μ-loop file from count at₀ left₀ at left = left
+
+pub many-parameters-spec : {M : Type 1} → statement M
+many-parameters-spec =
+    tie.close
+    (tie.spec
+    Inv-loop
+    μ-loop
+    (λ c. search needs)
+    (λ c κs. search needs)
+    (λ c. many-found _ _ _ _ (c .before .before .before .loop .inv .0) (c .before .before .loop-test .taken) _ (c .before .byte-at .ensures .0)
+    (c .if1 .taken))
+    (λ c κs. search needs)
+    (λ c. search needs)
+    (λ c. search needs)
+    (λ c. let turn = c .before .before .before in (
+      many-next _ _ _ _ (turn .before .loop .inv .0) (turn .loop-test .taken) _ (c .before .before .byte-at .ensures .0) (c .before .if1 .left) _
+          (c .function-end .ensures .0),
+      omega arith,
+    ))
+    (λ c. functions-done _ _ _ _ _ (c .before .loop .inv .0) (c .loop-test .left)))

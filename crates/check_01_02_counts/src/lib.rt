@@ -1,0 +1,59 @@
+// Numbers 1 and 2: a file's end, and its counts.
+use file_bytes::Layout;
+use file_bytes::byte_at;
+use file_bytes::function_end;
+ghost use mathlib.Core.Path.{_≡_};
+ghost use Prim.Native.Nat.{_+_, _*_, _≤_};
+ghost use lib.Dec.{ltb};
+ghost use lib.ListN.{length};
+ghost use Rattle.definitions.specs.Basics.{any};
+ghost use Rattle.definitions.specs.ContractFile.{functionRecords};
+ghost use Rattle.definitions.specs.Numbers.{endsWrongly, countOffLimits};
+ghost use Rattle.file_bytes.specs.Layout.{IsLayout};
+
+// "1. The file ends too early for its counts, or bytes remain."
+pub fn ends_wrongly(file: &[u8], l: Layout) -> bool
+    requires { ⌜ IsLayout (now file) l ⌝ }
+    ensures { λ r. ⌜ r ≡ endsWrongly (now (file .entry)) ⌝ }
+{
+    let end = l.nodes_at + 2 + 8 * l.nodes;
+    file.len() != end
+}
+
+// Whether some function has more than eight parameters.
+fn many_parameters(file: &[u8], from: usize, count: usize) -> bool
+    requires { ⌜ from + 513 * count ≤ 200000 ⌝ }
+    ensures { λ r. ⌜ r ≡ any (λ f. ltb 8 (length (f .parameters))) (functionRecords count (now (file .entry)) from) ⌝ }
+{
+    let mut at = from;
+    let mut left = count;
+    while 0 < left {
+        let parameters = byte_at(file, at);
+        if 8 < parameters {
+            return true;
+        }
+        at = function_end(file, at);
+        left -= 1;
+    }
+    false
+}
+
+// "2. A count is off its limits."
+pub fn count_off_limits(file: &[u8], l: Layout) -> bool
+    requires { ⌜ IsLayout (now file) l ⌝ }
+    ensures { λ r. ⌜ r ≡ countOffLimits (now (file .entry)) ⌝ }
+{
+    if 64 < l.fields {
+        return true;
+    }
+    if l.functions == 0 {
+        return true;
+    }
+    if 16 < l.functions {
+        return true;
+    }
+    if many_parameters(file, l.functions_at + 1, l.functions) {
+        return true;
+    }
+    512 < l.nodes
+}

@@ -1,0 +1,21 @@
+-- `check_03_declarations::field_owner_in_tables` meets its contract.
+use borrow.Author.Tests.{eq-eqb, ne-eqb}
+use borrow.Author.Needs.{needs}
+use Rattle.check_03_declarations.proofs.field_owner_in_tables.Statement.{statement}
+use Rattle.check_03_declarations.proofs.field_owner_in_tables.Tie as tie
+
+pub field-owner-in-tables-spec : {M : Type 1} → statement M
+field-owner-in-tables-spec =
+    tie.close (tie.spec (λ c. rw (eq-eqb _ _ (c .if1 .taken))) (λ c κs. search needs) (λ c. rw (ne-eqb _ _ (c .before .before .if1 .left), ← c .before .is-final-code .ensures, c .if2 .taken)) (λ c. rw (
+      ne-eqb _ _ (c .before .before .before .if1 .left),
+      ← c .before .before .is-final-code .ensures,
+      c .before .if2 .left,
+      eq-eqb _ _
+          (c .if3 .taken),
+    )) (λ c. rw (
+      ne-eqb _ _ (c .before .before .before .if1 .left),
+      ← c .before .before .is-final-code .ensures,
+      c .before .if2 .left,
+      ne-eqb _ _
+          (c .if3 .left),
+    )))

@@ -1,0 +1,135 @@
+// Number 3 for nodes, and for the whole file.
+use check_03_declarations::fields_outside;
+use check_03_declarations::functions_outside;
+use check_03_declarations::is_final_code;
+use file_bytes::Layout;
+use file_bytes::Node;
+use file_bytes::read_node;
+ghost use mathlib.Core.Path.{_≡_};
+ghost use mathlib.Core.Bool.{_&&_};
+ghost use Prim.Native.Nat.{_+_, _*_, _≤_};
+ghost use lib.Dec.{leb};
+ghost use Rattle.definitions.specs.Basics.{any, isZero};
+ghost use Rattle.definitions.specs.ContractFile.{isParameterCode, dataTypeOf, nodeRecords, sectionsOf, isOfType};
+ghost use Rattle.definitions.specs.Numbers.{targetInTables, nodeInTables, outsideTables};
+ghost use Rattle.file_bytes.specs.Layout.{IsLayout};
+ghost use Rattle.file_bytes.specs.Node.{recordOf};
+ghost use Rattle.check_03_nodes.specs.Outside.{nodeOutside};
+
+fn is_parameter_code(code: usize) -> bool
+    ensures { λ r. ⌜ r ≡ isParameterCode code ⌝ }
+{
+    128 <= code && code < 136
+}
+
+// "reveal first to owner code arg (0, 1, 16+f, 128+k)"
+fn target_in_tables(code: usize) -> bool
+    ensures { λ r. ⌜ r ≡ targetInTables code ⌝ }
+{
+    if code <= 1 {
+        return true;
+    }
+    if is_final_code(code) {
+        return true;
+    }
+    is_parameter_code(code)
+}
+
+// "bool 0 or 1, address 0 to 15"
+fn is_of_type(data_type: usize, value: usize) -> bool
+    ensures { λ r. ⌜ r ≡ isOfType (dataTypeOf «data_type») value ⌝ }
+{
+    if data_type == 0 {
+        value < 2
+    } else if data_type == 1 {
+        value < 4294967296
+    } else {
+        value < 16
+    }
+}
+
+// "1 constant (arg type; value first + 65,536 × second ..)"
+fn constant_in_tables(arg: usize, first: usize, second: usize, third: usize) -> bool
+    requires { ⌜ (first ≤ 65535) × (second ≤ 65535) ⌝ }
+    ensures { λ r. ⌜ r ≡ (leb arg 2 && isOfType (dataTypeOf arg) (first + 65536 * second) && isZero third) ⌝ }
+{
+    if 2 < arg {
+        return false;
+    }
+    if !is_of_type(arg, first + 65536 * second) {
+        return false;
+    }
+    third == 0
+}
+
+fn zeros(a: usize, b: usize, c: usize, d: usize) -> bool
+    ensures { λ r. ⌜ r ≡ (isZero a && isZero b && isZero c && isZero d) ⌝ }
+{
+    if a != 0 {
+        return false;
+    }
+    if b != 0 {
+        return false;
+    }
+    if c != 0 {
+        return false;
+    }
+    d == 0
+}
+
+// "Parts that a kind doesn't use are zero."
+fn node_in_tables(node: Node) -> bool
+    requires { ⌜ (node .first ≤ 65535) × (node .second ≤ 65535) ⌝ }
+    ensures { λ r. ⌜ r ≡ nodeInTables (recordOf node) ⌝ }
+{
+    let kind = node.kind;
+    let arg = node.arg;
+    let first = node.first;
+    let second = node.second;
+    let third = node.third;
+    match kind {
+        1 => constant_in_tables(arg, first, second, third),
+        2 | 16 => zeros(arg, first, second, third),
+        3 | 5 => zeros(0, first, second, third),
+        4 | 18 => zeros(0, 0, second, third),
+        6 => arg <= 10 && third == 0,
+        7 | 20 => zeros(0, arg, second, third),
+        8 => target_in_tables(arg) && zeros(0, 0, second, third),
+        17 => zeros(0, 0, arg, third),
+        19 => third == 0,
+        21 => arg == 0,
+        _ => false,
+    }
+}
+
+// Whether some of the nodes is outside the tables.
+fn nodes_outside(file: &[u8], from: usize, count: usize) -> bool
+    requires { ⌜ from + 8 * count ≤ 1000000 ⌝ }
+    ensures { λ r. ⌜ r ≡ any nodeOutside (nodeRecords count (now (file .entry)) from) ⌝ }
+{
+    let mut at = from;
+    let mut left = count;
+    while 0 < left {
+        let node = read_node(file, at);
+        if !node_in_tables(node) {
+            return true;
+        }
+        at += 8;
+        left -= 1;
+    }
+    false
+}
+
+// "3. A shape, type, owner code, kind, operator, constant or unused part is outside the tables above."
+pub fn outside_tables(file: &[u8], l: Layout) -> bool
+    requires { ⌜ IsLayout (now file) l ⌝ }
+    ensures { λ r. ⌜ r ≡ outsideTables (sectionsOf (now (file .entry))) ⌝ }
+{
+    if fields_outside(file, l.fields) {
+        return true;
+    }
+    if functions_outside(file, l.functions_at + 1, l.functions) {
+        return true;
+    }
+    nodes_outside(file, l.nodes_at + 2, l.nodes)
+}

@@ -1,0 +1,93 @@
+-- Counts of uses: one more, none, and one after the other.
+use mathlib.Core.Path.{_≡_, refl, _∙_}
+use mathlib.Core.Bool.{Bool, true, false, cond}
+use mathlib.Core.List.{List, [], _∷_, _++_}
+use Prim.Native.Nat.{ℕ, _+_, _<_, _≤_}
+use native.Mathlib.Omega.{arith}
+use lib.Dec.{eqb}
+use lib.ListN.{length, getD, set, length-set}
+use lib.Seq.{getD-set-same, getD-set-other}
+use borrow.Author.Tests.{eqb-true, eqb-false}
+use Rattle.definitions.specs.Basics.{countIf}
+use Rattle.definitions.specs.ContractFile.{NodeRecord, nodeOf, children}
+use Rattle.theory_laws.proofs.Lists.{count-append}
+use Rattle.file_children.specs.Children.{childCount}
+use Rattle.file_children.proofs.ByCount.{no-children, one-child, two-children, three-children}
+use Rattle.check_05_uses.specs.Counting.{Room, Counted}
+
+countIf-length : (test : ℕ → Bool) (xs : List ℕ) → countIf test xs ≤ length xs
+unfolding countIf
+countIf-length test [] = omega arith
+countIf-length test (x ∷ xs) =
+    let e = countIf-length test xs in
+    let b = bit-small (test x) in
+    omega arith
+  where
+    bit-small : (b : Bool) → cond b 1 0 ≤ 1
+    bit-small true = omega arith
+    bit-small false = omega arith
+
+pub counted-none : (counts : List ℕ) → Counted counts counts []
+unfolding countIf
+counted-none counts = record { each = λ n h. omega arith; long = refl }
+
+pub counted-more : (a b c : List ℕ) (xs ys : List ℕ) → Counted a b xs → Counted b c ys → Counted a c (xs ++ ys)
+counted-more a b c xs ys p q =
+    record {
+      each = λ n h. (let e = p .each n h in let f = q .each n h in let g = count-append (eqb n) xs ys in omega arith);
+      long = q .long
+          ∙ p .long;
+    }
+
+pub room-after : (a b xs : List ℕ) (more left : ℕ) → Counted a b xs → Room a more → length xs + left ≤ more → Room b left
+room-after a b xs more left p r h =
+    record {
+      each = λ n k. (let e = p .each n k in let f = r .each n k in let g = countIf-length (eqb n) xs in omega arith);
+      long = p .long
+          ∙ r .long;
+    }
+
+pub room-less : (a : List ℕ) (more less : ℕ) → Room a more → less ≤ more → Room a less
+room-less a more less r h = record { each = λ n k. (let f = r .each n k in omega arith); long = r .long }
+
+-- One more use of a node.
+use-same : (counts : List ℕ) (n k : ℕ) (b : Bool) → n < length counts → eqb k n ≡ b → getD (set counts n (getD counts n 0 + 1)) k 0
+    ≡ getD counts k 0 + (cond b 1 0 + 0)
+use-same counts n k true h e =
+    let same = eqb-true k n e in
+    rw (same, getD-set-same counts n (getD counts n 0 + 1) 0 h) (omega arith)
+use-same counts n k false h e = rw (getD-set-other counts n k (getD counts n 0 + 1) 0 (eqb-false k n e)) (omega arith)
+
+pub counted-use : (counts : List ℕ) (n : ℕ) → n < length counts → Counted counts (set counts n (getD counts n 0 + 1)) (n ∷ [])
+unfolding countIf
+counted-use counts n h = record { each = λ k l. use-same counts n k (eqb k n) h refl; long = length-set counts n (getD counts n 0 + 1) }
+
+use-past : (counts : List ℕ) (n k : ℕ) (b : Bool) → 512 ≤ n → k < 512 → eqb k n ≡ b → getD counts k 0 ≡ getD counts k 0 + (cond b 1 0 + 0)
+use-past counts n k true h l e =
+    let same = eqb-true k n e in
+    absurd (omega arith)
+use-past counts n k false h l e = omega arith
+
+pub counted-past : (counts : List ℕ) (n : ℕ) → 512 ≤ n → Counted counts counts (n ∷ [])
+unfolding countIf
+counted-past counts n h = record { each = λ k l. use-past counts n k (eqb k n) h l refl; long = refl }
+
+-- The uses of a node's children, one after another.
+module _ (r : NodeRecord) (count : ℕ) (is : count ≡ childCount (r .kind)) (start : List ℕ) where
+  pub counted-no-child : count < 1 → Counted start start (children (nodeOf r))
+  counted-no-child h = rw (no-children r count is h) (counted-none start)
+
+  module _ (g : 1 ≤ count) (one : List ℕ) (a : Counted start one (r .first ∷ [])) where
+    pub counted-one-child : count < 2 → Counted start one (children (nodeOf r))
+    counted-one-child h = rw (one-child r count is g h) a
+
+    module _ (h : 2 ≤ count) (two : List ℕ) (b : Counted one two (r .second ∷ [])) where
+      counted-two : Counted start two (r .first ∷ r .second ∷ [])
+      counted-two = counted-more start one two (r .first ∷ []) (r .second ∷ []) a b
+
+      pub counted-two-children : count < 3 → Counted start two (children (nodeOf r))
+      counted-two-children k = rw (two-children r count is h k) counted-two
+
+      pub counted-three-children : 3 ≤ count → (three : List ℕ) → Counted two three (r .third ∷ []) → Counted start three (children (nodeOf r))
+      counted-three-children k three d =
+          rw (three-children r count is k) (counted-more start two three (r .first ∷ r .second ∷ []) (r .third ∷ []) counted-two d)

@@ -1,0 +1,42 @@
+-- `check_05_uses::count_nodes` meets its contract.
+use Prim.Native.Nat.{_+_, _*_, _≤_}
+use native.Mathlib.Omega.{arith}
+use borrow.Author.Needs.{needs}
+use Rattle.definitions.specs.Basics.{flatMap}
+use Rattle.definitions.specs.ContractFile.{nodeRecords}
+use Rattle.file_bytes.specs.Node.{recordOf}
+use Rattle.check_05_uses.specs.Counting.{Room, childrenOf}
+use Rattle.check_05_uses.proofs.Laws.{room-less}
+use Rattle.check_05_uses.proofs.Loops.{Leads, leads-all, nodes-next, nodes-done, room-after-node}
+use Rattle.check_05_uses.proofs.count_nodes.Statement.{statement}
+use Rattle.check_05_uses.proofs.count_nodes.Tie as tie
+
+abbrev Inv-loop : tie.InvT-loop
+Inv-loop file from count counts₀ at₀ left₀ counts at left =
+    (Leads counts₀ counts (flatMap childrenOf (nodeRecords left file at)) (flatMap childrenOf (nodeRecords count file from))) ×
+    (Room counts (3 * left))
+    × (at + 8 * left ≤ 1000000)
+
+abbrev μ-loop : tie.MeasureT-loop
+μ-loop file from count counts₀ at₀ left₀ counts at left = left
+
+pub count-nodes-spec : {M : Type 1} → statement M
+count-nodes-spec =
+    tie.close
+    (tie.spec
+    Inv-loop
+    μ-loop
+    (λ c. (leads-all _ _, c .before .pre .1, c .before .pre .0))
+    (λ c κs. search needs)
+    (λ c κs. room-less _ _ 3 (c .before .before .before .loop .inv .1) (omega arith))
+    (λ c. search needs)
+    (λ c. search needs)
+    (λ c. search needs)
+    (λ c. let turn = c .before .before .before in (
+      nodes-next _ _ _ _ (c .before .before .before .before .before .before .args .file .now) _ (turn .before .loop .inv .0)
+          (turn .loop-test .taken) _ (c .before .before .read-node .ensures) _ (c .count-children .ensures),
+      room-after-node
+          (recordOf (c .before .before .read-node .result)) _ _ _ (turn .loop-test .taken) (c .count-children .ensures) (turn .before .loop .inv .1),
+      omega arith,
+    ))
+    (λ c. nodes-done _ _ _ _ _ _ (c .before .loop .inv .0) (c .loop-test .left)))

@@ -1,0 +1,11 @@
+-- `check_05_uses::count_use` meets its contract.
+use native.Mathlib.Omega.{arith}
+use borrow.Author.Needs.{needs}
+use Rattle.check_05_uses.proofs.Laws.{counted-use, counted-past}
+use Rattle.check_05_uses.proofs.count_use.Statement.{statement}
+use Rattle.check_05_uses.proofs.count_use.Tie as tie
+
+pub count-use-spec : {M : Type 1} → statement M
+count-use-spec =
+    tie.close
+    (tie.spec (λ c. search needs) (λ c. search needs) (λ c. omega (arith, c .before .before .pre .each (c .before .before .args .n) (c .before .if1 .taken))) (λ c. search needs) (λ c. counted-use _ (c .before .before .args .n) (omega (arith, c .before .before .pre .long))) (λ c. counted-past _ _ (c .if1 .left)))

@@ -1,0 +1,36 @@
+-- 01, number 6: the depths of nodes, one for each node that there can be.
+use mathlib.Core.Path.{_≡_}
+use mathlib.Core.Bool.{Bool, false}
+use mathlib.Core.List.{List}
+use Prim.Native.Nat.{ℕ, suc, _<_, _≤_}
+use lib.Dec.{leb, ltb}
+use lib.ListN.{length, getD}
+use Rattle.definitions.specs.Basics.{any}
+use Rattle.definitions.specs.ContractFile.{FunctionRecord, sectionsOf, Node, nodeAt, children, chainLength}
+use Rattle.definitions.specs.Numbers.{namesNothing}
+use Rattle.file_bytes.specs.declared.Layout.{Layout}
+use Rattle.file_bytes.specs.Layout.{IsLayout}
+
+-- What earlier numbers have settled: there is room for each node, and children are below their parents.
+pub record InOrder (file : List ℕ) (l : Layout) : Type 0 where
+  pub layout : IsLayout file l
+  pub few : l .nodes ≤ 512
+  pub named : namesNothing (sectionsOf file) ≡ false
+
+pub record ChildrenBelow (nodes : List Node) : Type 0 where
+  pub each : (n : ℕ) → any (leb n) (children (nodeAt nodes n)) ≡ false
+
+abbrev pub depthIn : List ℕ → ℕ → ℕ
+depthIn depths n = getD depths n 0
+
+pub record Bounded (depths : List ℕ) : Type 0 where
+  pub each : (n : ℕ) → depthIn depths n ≤ 512
+  pub long : length depths ≡ 512
+
+-- The depths of the first nodes are the lengths of their longest chains.
+pub record Chains (nodes : List Node) (count : ℕ) (depths : List ℕ) : Type 0 where
+  pub each : (n : ℕ) → n < count → depthIn depths n ≡ chainLength (suc n) nodes n
+  pub bounded : Bounded depths
+
+abbrev pub rootTooDeep : List ℕ → FunctionRecord → Bool
+rootTooDeep depths r = ltb 64 (depthIn depths (r .root))

@@ -1,0 +1,48 @@
+-- `check_07_sorts::parts_wrong` meets its contract.
+use borrow.Author.Needs.{needs}
+use Rattle.file_bytes.specs.Node.{recordOf}
+use Rattle.check_07_sorts.specs.Sorts.{nodesIn}
+use Rattle.check_07_sorts.proofs.Laws.{none-wrong, first-wrong, only-first-right, second-wrong, only-two-right, third-asked}
+use Rattle.check_07_sorts.proofs.parts_wrong.Statement.{statement}
+use Rattle.check_07_sorts.proofs.parts_wrong.Tie as tie
+
+pub parts-wrong-spec : {M : Type 1} → statement M
+parts-wrong-spec =
+    tie.close
+    (tie.spec
+    (λ c κs. search needs)
+    (λ c κs. search needs)
+    (λ c. let s = c .before .before .before .before in
+    none-wrong (nodesIn (s .args .nodes) (s .args .file .now) (s .args .nodes-at)) (recordOf (s .args .node)) _ _
+    (c .before .before .child-count .ensures) (c .before .expression-count .ensures) (c .if1 .taken))
+    (λ c κs. search needs)
+    (λ c. let s = c .before .before .before .before .before .before in
+    first-wrong (nodesIn (s .args .nodes) (s .args .file .now) (s .args .nodes-at)) (recordOf (s .args .node)) _ _
+    (c .before .before .before .before .child-count .ensures) (c .before .before .before .expression-count .ensures) (c .before .before .if1 .left) _
+    (c .before .has-sort .ensures) (c .if2 .taken))
+    (λ c. let s = c .before .before .before .before .before .before .before in
+    only-first-right (nodesIn (s .args .nodes) (s .args .file .now) (s .args .nodes-at)) (recordOf (s .args .node)) _ _
+    (c .before .before .before .before .before .child-count .ensures) (c .before .before .before .before .expression-count .ensures)
+    (c .before .before .before .if1 .left) _ (c .before .before .has-sort .ensures) (c .before .if2 .left) (c .if3 .taken))
+    (λ c κs. search needs)
+    (λ c. let s = c .before .before .before .before .before .before .before .before .before in
+    second-wrong (nodesIn (s .args .nodes) (s .args .file .now) (s .args .nodes-at)) (recordOf (s .args .node)) _ _
+    (c .before .before .before .before .before .before .before .child-count .ensures)
+    (c .before .before .before .before .before .before .expression-count .ensures) (c .before .before .before .before .before .if1 .left) _
+    (c .before .before .before .before .has-sort .ensures) (c .before .before .before .if2 .left) (c .before .before .if3 .left) _
+    (c .before .has-sort2 .ensures) (c .if4 .taken))
+    (λ c. let s = c .before .before .before .before .before .before .before .before .before .before in
+    only-two-right (nodesIn (s .args .nodes) (s .args .file .now) (s .args .nodes-at)) (recordOf (s .args .node)) _ _
+    (c .before .before .before .before .before .before .before .before .child-count .ensures)
+    (c .before .before .before .before .before .before .before .expression-count .ensures)
+    (c .before .before .before .before .before .before .if1 .left) _ (c .before .before .before .before .before .has-sort .ensures)
+    (c .before .before .before .before .if2 .left) (c .before .before .before .if3 .left) _ (c .before .before .has-sort2 .ensures)
+    (c .before .if4 .left) (c .if5 .taken))
+    (λ c κs. search needs)
+    (λ c. let s = c .before .before .before .before .before .before .before .before .before .before .before in
+    third-asked (nodesIn (s .args .nodes) (s .args .file .now) (s .args .nodes-at)) (recordOf (s .args .node)) _ _
+    (c .before .before .before .before .before .before .before .before .before .child-count .ensures)
+    (c .before .before .before .before .before .before .before .before .expression-count .ensures)
+    (c .before .before .before .before .before .before .before .if1 .left) _ (c .before .before .before .before .before .before .has-sort .ensures)
+    (c .before .before .before .before .before .if2 .left) (c .before .before .before .before .if3 .left) _
+    (c .before .before .before .has-sort2 .ensures) (c .before .before .if4 .left) (c .before .if5 .left) _ (c .has-sort3 .ensures)))

@@ -1,0 +1,71 @@
+-- Each turn gives one place more its content.
+use mathlib.Core.Path.{_≡_, ap, _∙_}
+use mathlib.Core.List.{_++_}
+use Prim.Native.Nat.{_+_, _-_, _≤_}
+use native.Mathlib.Omega.{arith}
+use lib.ListN.{length, getD, drop, length-set}
+use borrow.Author.Needs.{needs}
+use Rattle.definitions.specs.ContractFile.{fieldAt}
+use Rattle.definitions.specs.Original.{Reader, finalAddress, position}
+use Rattle.definitions.specs.Ledger.{contentFor}
+use Rattle.file_accepted.specs.Context.{fieldsIn}
+use Rattle.ledger_struct.specs.Ledgers.{contentsIn}
+use Rattle.ledger_struct.proofs.Flat.{unmapped}
+use Rattle.deploy_ledger.specs.Deployments.{contentsFor, readersOf, fieldContents}
+use Rattle.deploy_ledger.proofs.Places.{short-reader, field-start, field-next, field-done}
+use Rattle.deploy_ledger.proofs.put_field.Statement.{statement}
+use Rattle.deploy_ledger.proofs.put_field.Tie as tie
+
+abbrev Inv-loop : tie.InvT-loop
+Inv-loop file numbers f p count made₀ key₀ made key =
+    (key ≤ count) × ((length made ≡ 1024)
+    × (contentsIn (p + key) made ++ contentsFor (readersOf (fieldsIn file) numbers f key (count - key)) (drop (p + key) numbers)
+    ≡ contentsIn p made₀ ++ fieldContents (fieldsIn file) numbers f p count))
+
+abbrev μ-loop : tie.MeasureT-loop
+μ-loop file numbers f p count made₀ key₀ made key = count - key
+
+long : (c : tie.Start Inv-loop μ-loop) → length (c .args .places) ≡ 1024
+long c = search (unmapped, needs)
+
+pub put-field-spec : {M : Type 1} → statement M
+put-field-spec =
+    tie.close
+    (tie.spec
+    Inv-loop
+    μ-loop
+    (λ c. let s = c .before .before in
+    (omega arith, (long s, field-start (fieldsIn (s .args .file .now)) (s .args .numbers .now) (s .args .f) (s .args .p) (s .args .count) (s .args .places))))
+    (λ c. search needs)
+    (λ c κs. (c .before .before .before .before .pre .1 .0, c .before .before .before .before .pre .0 .fewFields))
+    (λ c. search needs)
+    (λ c. search needs)
+    (λ c. search needs)
+    (λ c κs. let s = c .before .before .before .before .before .before in
+    short-reader (c .before .place-reader .result) (finalAddress (fieldsIn (s .args .file .now)) (s .args .numbers .now)) ((fieldAt (fieldsIn (s .args .file .now)) (s .args .f)) .owner)
+    (c .before .before .before .loop .key) (c .before .place-reader .ensures)
+    (λ g. s .pre .0 .bytes (position (fieldsIn (s .args .file .now)) g 0)) (omega (arith, s .pre .1 .1)))
+    (λ c. search needs)
+    (λ c. search needs)
+    (λ c. omega (arith, c .before .before .before .before .before .before .before .pre .0 .fewPlaces, c .before .before .before .before .before .before .before .pre .1 .1))
+    (λ c. search needs)
+    (λ c. search needs)
+    (λ c. let k = c .before .before .before .before in
+    let s = c .before .before .before .before .before .before .before in
+    let few = s .pre .0 .fewPlaces in
+    let room = s .pre .1 .1 in (
+      omega arith,
+      (
+        simp length-set (k .loop .inv .1 .0),
+        field-next (fieldsIn (s .args .file .now)) (s .args .numbers .now) (s .args .f) (s .args .p) (s .args .count) (k .loop .key) (k .loop .made) _ _ (omega arith)
+            (omega arith) (omega arith)
+            (c .content-for .ensures ∙ ap (λ (r : Reader). contentFor r 0 0 (getD (s .args .numbers .now) (s .args .p + k .loop .key) 0)) (c .before .before .place-reader .ensures))
+            (k .loop .inv .1 .1),
+      ),
+    ))
+    (λ c. let s = c .before .before .before .before in
+    record {
+      stands =
+          field-done (fieldsIn (s .args .file .now)) (s .args .numbers .now) (s .args .f) (s .args .p) (s .args .count) (c .before .loop .key) _ _ (omega arith) (omega arith)
+          (c .before .loop .inv .1 .1);
+    }))

@@ -1,0 +1,106 @@
+-- Each turn writes the numbers of one field more.
+use mathlib.Core.Path.{_≡_, refl, _∙_}
+use Prim.Native.Nat.{_+_, _*_, _-_, _<_, _≤_}
+use native.Mathlib.Omega.{arith}
+use lib.ListN.{length, drop, length-set}
+use borrow.Author.Needs.{needs}
+use Rattle.memory_buffer.specs.Buffer.{stored}
+use Rattle.definitions.specs.Original.{deployedNumbers}
+use Rattle.file_accepted.specs.Context.{fieldsIn}
+use Rattle.ledger_places.proofs.Laws.{fields-count}
+use Rattle.deploy_ledger.proofs.Numbers.{final-next, final-count, zeros-field, zeros-count, numbers-done, numbers-counted, is-final, not-final}
+use Rattle.deploy_ledger.proofs.put_numbers.Statement.{statement}
+use Rattle.deploy_ledger.proofs.put_numbers.Tie as tie
+
+abbrev Inv-loop : tie.InvT-loop
+Inv-loop file addresses numbers₀ count f₀ p₀ a₀ numbers f p a =
+    (f ≤ count) × ((p ≤ 16 * f) × ((a ≤ f) × ((length numbers ≡ length numbers₀)
+    × ((stored numbers p (deployedNumbers (drop f (fieldsIn file)) (drop a addresses)) ≡ stored numbers₀ 0 (deployedNumbers (fieldsIn file) addresses))
+    × (p + length (deployedNumbers (drop f (fieldsIn file)) (drop a addresses)) ≡ length (deployedNumbers (fieldsIn file) addresses))))))
+
+abbrev μ-loop : tie.MeasureT-loop
+μ-loop file addresses numbers₀ count f₀ p₀ a₀ numbers f p a = count - f
+
+pub put-numbers-spec : {M : Type 1} → statement M
+put-numbers-spec =
+    tie.close
+    (tie.spec
+    Inv-loop
+    μ-loop
+    (λ c κs. search needs)
+    (λ c. (omega arith, (omega arith, (omega arith, (refl, (refl, omega arith))))))
+    (λ c. search needs)
+    (λ c. search needs)
+    (λ c κs. search needs)
+    (λ c κs. search needs)
+    (λ c. search needs)
+    (λ c. search needs)
+    (λ c. search needs)
+    (λ c. search needs)
+    (λ c. search needs)
+    (λ c. search needs)
+    (λ c. let k = c .before .before .before .before in
+    let s = c .before .before .before .before .before .before .before .before .before in
+    let file = s .args .file .now in
+    let counted = fields-count file in
+    let same = c .before .before .before .before .before .byte-at .ensures .0 in
+    let inside : k .loop .f < length (fieldsIn file) = omega arith in
+    let final = is-final file (k .loop .f) _ (omega arith) (c .before .before .byte-at2 .ensures .0) (c .before .if1 .taken) in (
+      omega arith,
+      (
+        omega arith,
+        (
+          omega arith,
+          (
+            simp length-set (k .loop .inv .1 .1 .1 .0),
+            (
+              final-next (fieldsIn file) (k .loop .f) inside (s .args .addresses .now) (k .loop .numbers) _ (k .loop .a) (k .loop .p) _ final (omega arith)
+                  (c .address-at .ensures) (k .loop .inv .1 .1 .1 .1 .0),
+              final-count (fieldsIn file) (k .loop .f) inside (s .args .addresses .now) (k .loop .a) (k .loop .p) _ final (k .loop .inv .1 .1 .1 .1 .1),
+            ),
+          ),
+        ),
+      ),
+    ))
+    (λ c κs. search needs)
+    (λ c κs. search needs)
+    (λ c. search needs)
+    (λ c. search needs)
+    (λ c. search needs)
+    (λ c. let k = c .before .before .before .before .before .before .before .before in
+    let s = c .before .before .before .before .before .before .before .before .before .before .before .before .before in
+    let file = s .args .file .now in
+    let counted = fields-count file in
+    let same = c .before .before .before .before .before .before .before .before .before .byte-at .ensures .0 in
+    let inside : k .loop .f < length (fieldsIn file) = omega arith in
+    let final = not-final file (k .loop .f) _ (omega arith) (c .before .before .before .before .before .before .byte-at2 .ensures .0) (c .before .before .before .before .before .if1 .left) in
+    let many = c .before .before .before .before .place-count .ensures .0 in
+    let few = c .before .before .before .before .place-count .ensures .1 in (
+      omega arith,
+      (
+        omega arith,
+        (
+          omega arith,
+          (
+            c .before .before .put-zeros .kept .0 ∙ k .loop .inv .1 .1 .1 .0,
+            (
+              zeros-field (fieldsIn file) (k .loop .f) inside _ (k .loop .numbers) _ _ (k .loop .p) _ final (omega arith) many (c .before .before .put-zeros .ensures)
+                  (k .loop .inv .1 .1 .1 .1 .0),
+              zeros-count (fieldsIn file) (k .loop .f) inside _ (k .loop .p) _ _ final many (k .loop .inv .1 .1 .1 .1 .1),
+            ),
+          ),
+        ),
+      ),
+    ))
+    (λ c. c .before .loop .inv .1 .1 .1 .0)
+    (λ c. let k = c .before in
+    let s = c .before .before .before .before .before .before in
+    let file = s .args .file .now in
+    let counted = fields-count file in
+    let same = c .before .before .byte-at .ensures .0 in
+    let out : length (fieldsIn file) ≤ k .loop .f = omega arith in
+    record {
+      stand = numbers-done (fieldsIn file) (k .loop .f) _ _ _ _ out (k .loop .inv .1 .1 .1 .1 .0);
+      many = numbers-counted (fieldsIn file) (k .loop .f) _ _ _ out (k .loop .inv .1 .1 .1 .1 .1);
+      few = omega arith;
+    }))

@@ -1,0 +1,54 @@
+-- Steps of a loop that asks whether some element of a list passes a test: what is left to ask has the same answer.
+use mathlib.Core.Path.{_≡_, refl}
+use mathlib.Core.Bool.{Bool, true, false, _&&_}
+use mathlib.Core.List.{List, [], _∷_}
+use Prim.Native.Nat.{ℕ, zero, suc, _+_, _<_}
+use native.Mathlib.Omega.{arith}
+use native.Mathlib.Numerals.{add-one}
+use lib.Dec.{eqb}
+use borrow.Author.Tests.{eqb-true, eqb-false}
+use Rattle.definitions.specs.Basics.{any, anyNumbered}
+use Rattle.file_children.proofs.Truth.{both-true}
+
+module _ {A : Type 0} (test : A → Bool) (x : A) (xs ys : List A) (goal : Bool) (e : ys ≡ x ∷ xs) (inv : any test ys ≡ goal) where
+  pub any-next : test x ≡ false → any test xs ≡ goal
+  unfolding any
+  any-next h = rw (e, h) at inv
+
+  pub any-found : test x ≡ true → true ≡ goal
+  unfolding any
+  any-found h = rw (e, h) at inv
+
+pub any-done : {A : Type 0} (test : A → Bool) (ys : List A) (goal : Bool) → ys ≡ [] → any test ys ≡ goal → false ≡ goal
+unfolding any
+any-done test ys goal e inv = rw e at inv
+
+module _ {A : Type 0} (test : ℕ → A → Bool) (n : ℕ) (x : A) (xs ys : List A) (goal : Bool) (e : ys ≡ x ∷ xs)
+    (inv : anyNumbered test n ys ≡ goal) where
+  pub anyNumbered-next : test n x ≡ false → anyNumbered test (n + 1) xs ≡ goal
+  unfolding anyNumbered
+  anyNumbered-next h = rw add-one (rw (e, h) at inv)
+
+  pub anyNumbered-found : test n x ≡ true → true ≡ goal
+  unfolding anyNumbered
+  anyNumbered-found h = rw (e, h) at inv
+
+pub anyNumbered-done : {A : Type 0} (test : ℕ → A → Bool) (n : ℕ) (ys : List A) (goal : Bool) → ys ≡ [] → anyNumbered test n ys ≡ goal → false ≡ goal
+unfolding anyNumbered
+anyNumbered-done test n ys goal e inv = rw e at inv
+
+-- A test that holds of each number below a bound, worked out number by number.
+unfoldable pub allBelow : (ℕ → Bool) → ℕ → Bool
+allBelow test zero = true
+allBelow test (suc n) = test n && allBelow test n
+
+last-or-below : (test : ℕ → Bool) (k n : ℕ) (b : Bool) → eqb k n ≡ b → test n ≡ true → (k < n → test k ≡ true) → k < suc n → test k ≡ true
+last-or-below test k n true e last below h = rw (eqb-true k n e) last
+last-or-below test k n false e last below h = below (omega (arith, eqb-false k n e))
+
+pub allBelow-at : (test : ℕ → Bool) (n : ℕ) → allBelow test n ≡ true → (k : ℕ) → k < n → test k ≡ true
+unfolding allBelow
+allBelow-at test zero t k h = absurd (omega arith)
+allBelow-at test (suc n) t k h =
+    let both = both-true (test n) (allBelow test n) t in
+    last-or-below test k n (eqb k n) refl (both .0) (allBelow-at test n (both .1) k) h

@@ -1,0 +1,37 @@
+-- `file_functions::function_start` meets its contract.
+use mathlib.Core.Path.{_≡_, ap}
+use mathlib.Core.List.{List}
+use Prim.Native.Nat.{ℕ, _+_, _*_, _≤_}
+use native.Mathlib.Omega.{arith}
+use borrow.Author.Needs.{needs}
+use Rattle.definitions.specs.ContractFile.{fieldCount, functionsEnd}
+use Rattle.file_accepted.specs.Functions.{functionStart}
+use Rattle.file_bytes.proofs.Laws.{functionsEnd-next, functionsEnd-done}
+use Rattle.file_functions.proofs.function_start.Statement.{statement}
+use Rattle.file_functions.proofs.function_start.Tie as tie
+
+from-fields : (file : List ℕ) (f fields : ℕ) → fields ≡ fieldCount file → functionsEnd f file (1 + 3 * fields + 1) ≡ functionStart file f
+from-fields file f fields h = ap (λ (n : ℕ). functionsEnd f file (1 + 3 * n + 1)) h
+
+abbrev Inv-loop : tie.InvT-loop
+Inv-loop file f fields at₀ left₀ at left = (functionsEnd left file at ≡ functionStart file f) × ((at + 513 * left ≤ 767 + 513 * 255) × (left ≤ 255))
+
+abbrev μ-loop : tie.MeasureT-loop
+μ-loop file f fields at₀ left₀ at left = left
+
+pub function-start-spec : {M : Type 1} → statement M
+function-start-spec =
+    tie.close
+    (tie.spec
+    Inv-loop
+    μ-loop
+    (λ c κs. search needs)
+    (λ c. search needs)
+    (λ c. search needs)
+    (λ c. search needs)
+    (λ c. (from-fields _ _ _ (c .byte-at .ensures .0), (omega arith, omega arith)))
+    (λ c κs. search needs)
+    (λ c. search needs)
+    (λ c. search needs)
+    (λ c. (functionsEnd-next _ _ _ _ _ (c .before .loop-test .taken) (c .function-end .ensures .0) (c .before .before .loop .inv .0), (omega arith, omega arith)))
+    (λ c. (functionsEnd-done _ _ _ _ (c .loop-test .left) (c .before .loop .inv .0), omega arith)))

@@ -1,0 +1,134 @@
+// 01, Runs and views: an assignment of the original on numbers, with the numbers of the variables that it makes.
+use honest_supplies::body_slots;
+use honest_supplies::place_slots;
+use honest_values::value;
+use ledger_places::position;
+use ledger_places::put_number;
+use rewrite_owners::field_owner;
+use rewrite_owners::name_code;
+use rewrite_owners::place_code;
+ghost use mathlib.Core.Path.{_≡_};
+ghost use mathlib.Core.Bool.{cond, not};
+ghost use mathlib.Core.Option.{none};
+ghost use Prim.Native.Nat.{_<_, _≤_};
+ghost use lib.ListN.{set};
+ghost use Rattle.definitions.specs.ContractFile.{fieldAt, isEveryone, nodeCount};
+ghost use Rattle.definitions.specs.Owners.{nameOf, placeOwner};
+ghost use Rattle.definitions.specs.Original.{position};
+ghost use Rattle.file_accepted.specs.Context.{Context, fieldsIn, scopeIn};
+ghost use Rattle.rewrite_plans.specs.Plans.{nodeExpression};
+ghost use Rattle.honest_values.specs.Values.{valueOf};
+ghost use Rattle.honest_supplies.specs.Supplies.{suppliedNumber, Wrote};
+ghost use Rattle.honest_assignments.specs.Assigned.{fieldEvents, entryEvents, FieldReady, EntryReady};
+
+// A number is put at a place where the branch is taken.
+fn put_taken(numbers: &mut [u32], taken: bool, p: usize, value: u32)
+    ensures { λ _. ⌜ now (numbers .exit) ≡ cond taken (set (now (numbers .entry)) p value) (now (numbers .entry)) ⌝ }
+{
+    if taken {
+        put_number(numbers, p, value);
+    }
+}
+
+fn is_private_field(file: &[u8], function_at: usize, nodes_at: usize, f: usize) -> bool
+    requires { ⌜ (f ≤ 255) × (Context (now file) «function_at» «nodes_at») ⌝ }
+    ensures { λ r. ⌜ r ≡ not (isEveryone (placeOwner ((fieldAt (fieldsIn (now (file .entry))) f) .owner) none)) ⌝ }
+{
+    place_code(field_owner(file, f), 0) != 0
+}
+
+fn is_private_entry(file: &[u8], function_at: usize, nodes_at: usize, f: usize, key: usize) -> bool
+    requires { ⌜ (f ≤ 255) × ((key < nodeCount (now file)) × (Context (now file) «function_at» «nodes_at»)) ⌝ }
+    ensures { λ r. ⌜ r ≡ not (isEveryone (placeOwner ((fieldAt (fieldsIn (now (file .entry))) f) .owner) (nameOf (scopeIn (now (file .entry)) «function_at») (nodeExpression (now (file .entry)) key)))) ⌝ }
+{
+    let owner = field_owner(file, f);
+    place_code(owner, name_code(file, function_at, nodes_at, key)) != 0
+}
+
+// Field f takes node n.
+pub fn field_slots(
+    file: &[u8],
+    function_at: usize,
+    nodes_at: usize,
+    numbers: &mut [u32],
+    arguments: &[u32],
+    caller: u8,
+    live: bool,
+    f: usize,
+    n: usize,
+    out: &mut [u64],
+    i: usize,
+) -> usize
+    requires { ⌜ FieldReady (now file) «function_at» «nodes_at» f n (now out) i ⌝ }
+    ensures { λ r. ⌜ (now (numbers .exit) ≡ cond live (set (now (numbers .entry)) (position (fieldsIn (now (file .entry))) f 0) (valueOf (now (file .entry)) (now (arguments .entry)) caller (now (numbers .entry)) (nodeExpression (now (file .entry)) n))) (now (numbers .entry))) × (Wrote (suppliedNumber (now (file .entry)) (now (arguments .entry)) caller live (now (numbers .entry))) (now (out .entry)) (now (out .exit)) i r (fieldEvents (now (file .entry)) «function_at» f n)) ⌝ }
+{
+    let private = is_private_field(file, function_at, nodes_at, f);
+    let end = place_slots(
+        file,
+        function_at,
+        nodes_at,
+        numbers,
+        arguments,
+        caller,
+        live,
+        n,
+        private,
+        out,
+        i,
+    );
+    let v = value(file, function_at, nodes_at, numbers, arguments, caller, n);
+    let p = position(file, f, 0);
+    put_taken(numbers, live, p, v);
+    end
+}
+
+// The entry of field f at a key takes node n.
+pub fn entry_slots(
+    file: &[u8],
+    function_at: usize,
+    nodes_at: usize,
+    numbers: &mut [u32],
+    arguments: &[u32],
+    caller: u8,
+    live: bool,
+    f: usize,
+    key: usize,
+    n: usize,
+    out: &mut [u64],
+    i: usize,
+) -> usize
+    requires { ⌜ EntryReady (now file) «function_at» «nodes_at» f key n (now out) i ⌝ }
+    ensures { λ r. ⌜ (now (numbers .exit) ≡ cond live (set (now (numbers .entry)) (position (fieldsIn (now (file .entry))) f (valueOf (now (file .entry)) (now (arguments .entry)) caller (now (numbers .entry)) (nodeExpression (now (file .entry)) key))) (valueOf (now (file .entry)) (now (arguments .entry)) caller (now (numbers .entry)) (nodeExpression (now (file .entry)) n))) (now (numbers .entry))) × (Wrote (suppliedNumber (now (file .entry)) (now (arguments .entry)) caller live (now (numbers .entry))) (now (out .entry)) (now (out .exit)) i r (entryEvents (now (file .entry)) «function_at» f key n)) ⌝ }
+{
+    let private = is_private_entry(file, function_at, nodes_at, f, key);
+    let j = body_slots(
+        file,
+        function_at,
+        nodes_at,
+        numbers,
+        arguments,
+        caller,
+        live,
+        key,
+        out,
+        i,
+    );
+    let end = place_slots(
+        file,
+        function_at,
+        nodes_at,
+        numbers,
+        arguments,
+        caller,
+        live,
+        n,
+        private,
+        out,
+        j,
+    );
+    let k = value(file, function_at, nodes_at, numbers, arguments, caller, key);
+    let v = value(file, function_at, nodes_at, numbers, arguments, caller, n);
+    let p = position(file, f, k as usize);
+    put_taken(numbers, live, p, v);
+    end
+}

@@ -1,0 +1,332 @@
+// 01, Runs and views: "An honest supplied variable holds what the original works out for its expression .. in an untaken branch it stays
+// plain 0." The original's statements on lent numbers, with one number for each variable that rewriting makes of them.
+use file_bytes::node_at;
+use honest_assignments::entry_slots;
+use honest_assignments::field_slots;
+use honest_supplies::body_slots;
+use honest_supplies::put_slot;
+use honest_values::value;
+ghost use mathlib.Core.Path.{_≡_};
+ghost use mathlib.Core.Bool.{_&&_, not};
+ghost use Prim.Native.Nat.{_<_};
+ghost use Rattle.definitions.specs.ContractFile.{nodeCount};
+ghost use Rattle.file_accepted.specs.Context.{Context};
+ghost use Rattle.rewrite_plans.specs.Plans.{nodeExpression};
+ghost use Rattle.honest_values.specs.Values.{kindAt};
+ghost use Rattle.honest_statements.specs.Honest.{isTaken, branchNumbers, honestNumbers, branchesNumbers, nodeStatement, SimpleKind, Startable, Honest, BranchHonest, BranchesHonest};
+
+fn both(live: bool, taken: bool) -> bool
+    ensures { λ r. ⌜ r ≡ (live && taken) ⌝ }
+{
+    if live { taken } else { false }
+}
+
+fn only(live: bool, taken: bool) -> bool
+    ensures { λ r. ⌜ r ≡ (live && not taken) ⌝ }
+{
+    if live { !taken } else { false }
+}
+
+// Whether node n is true.
+fn is_taken(
+    file: &[u8],
+    function_at: usize,
+    nodes_at: usize,
+    numbers: &[u32],
+    arguments: &[u32],
+    caller: u8,
+    n: usize,
+) -> bool
+    requires { ⌜ (n < nodeCount (now file)) × (Context (now file) «function_at» «nodes_at») ⌝ }
+    ensures { λ r. ⌜ r ≡ isTaken (now (file .entry)) «function_at» (now (arguments .entry)) caller (now (numbers .entry)) (nodeExpression (now (file .entry)) n) ⌝ }
+{
+    value(file, function_at, nodes_at, numbers, arguments, caller, n) != 0
+}
+
+// A statement that holds no other: an assignment, a require or a skip.
+fn simple_slots(
+    file: &[u8],
+    function_at: usize,
+    nodes_at: usize,
+    numbers: &mut [u32],
+    arguments: &[u32],
+    caller: u8,
+    live: bool,
+    n: usize,
+    out: &mut [u64],
+    i: usize,
+) -> usize
+    requires { ⌜ (SimpleKind (kindAt (now file) «nodes_at» n)) × (Startable (now file) «function_at» «nodes_at» n (now out) i (honestNumbers (now file) «function_at» (now arguments) caller (nodeStatement (now file) n) live (now numbers))) ⌝ }
+    ensures { λ r. ⌜ Honest (now (file .entry)) «function_at» (now (arguments .entry)) caller live (nodeStatement (now (file .entry)) n) (now (numbers .entry)) (now (numbers .exit)) (now (out .entry)) (now (out .exit)) i r ⌝ }
+{
+    let node = node_at(file, nodes_at, n);
+    let kind = node.kind;
+    match kind {
+        18 => field_slots(
+            file,
+            function_at,
+            nodes_at,
+            numbers,
+            arguments,
+            caller,
+            live,
+            node.arg,
+            node.first,
+            out,
+            i,
+        ),
+        19 => entry_slots(
+            file,
+            function_at,
+            nodes_at,
+            numbers,
+            arguments,
+            caller,
+            live,
+            node.arg,
+            node.first,
+            node.second,
+            out,
+            i,
+        ),
+        20 => body_slots(
+            file,
+            function_at,
+            nodes_at,
+            numbers,
+            arguments,
+            caller,
+            live,
+            node.first,
+            out,
+            i,
+        ),
+        _ => i,
+    }
+}
+
+// Statement n, worked out where it is live.
+pub fn statement_slots(
+    file: &[u8],
+    function_at: usize,
+    nodes_at: usize,
+    numbers: &mut [u32],
+    arguments: &[u32],
+    caller: u8,
+    live: bool,
+    n: usize,
+    out: &mut [u64],
+    i: usize,
+) -> usize
+    requires { ⌜ Startable (now file) «function_at» «nodes_at» n (now out) i (honestNumbers (now file) «function_at» (now arguments) caller (nodeStatement (now file) n) live (now numbers)) ⌝ }
+    ensures { λ r. ⌜ Honest (now (file .entry)) «function_at» (now (arguments .entry)) caller live (nodeStatement (now (file .entry)) n) (now (numbers .entry)) (now (numbers .exit)) (now (out .entry)) (now (out .exit)) i r ⌝ }
+{
+    let kind = node_at(file, nodes_at, n).kind;
+    match kind {
+        17 => sequence_slots(
+            file,
+            function_at,
+            nodes_at,
+            numbers,
+            arguments,
+            caller,
+            live,
+            n,
+            out,
+            i,
+        ),
+        21 => conditional_slots(
+            file,
+            function_at,
+            nodes_at,
+            numbers,
+            arguments,
+            caller,
+            live,
+            n,
+            out,
+            i,
+        ),
+        _ => simple_slots(
+            file,
+            function_at,
+            nodes_at,
+            numbers,
+            arguments,
+            caller,
+            live,
+            n,
+            out,
+            i,
+        ),
+    }
+}
+
+// The second of two statements is worked out on what the first left.
+fn sequence_slots(
+    file: &[u8],
+    function_at: usize,
+    nodes_at: usize,
+    numbers: &mut [u32],
+    arguments: &[u32],
+    caller: u8,
+    live: bool,
+    n: usize,
+    out: &mut [u64],
+    i: usize,
+) -> usize
+    requires { ⌜ (kindAt (now file) «nodes_at» n ≡ 17) × (Startable (now file) «function_at» «nodes_at» n (now out) i (honestNumbers (now file) «function_at» (now arguments) caller (nodeStatement (now file) n) live (now numbers))) ⌝ }
+    ensures { λ r. ⌜ Honest (now (file .entry)) «function_at» (now (arguments .entry)) caller live (nodeStatement (now (file .entry)) n) (now (numbers .entry)) (now (numbers .exit)) (now (out .entry)) (now (out .exit)) i r ⌝ }
+{
+    let node = node_at(file, nodes_at, n);
+    let j = statement_slots(
+        file,
+        function_at,
+        nodes_at,
+        numbers,
+        arguments,
+        caller,
+        live,
+        node.first,
+        out,
+        i,
+    );
+    statement_slots(
+        file,
+        function_at,
+        nodes_at,
+        numbers,
+        arguments,
+        caller,
+        live,
+        node.second,
+        out,
+        j,
+    )
+}
+
+// A condition, and then both branches.
+fn conditional_slots(
+    file: &[u8],
+    function_at: usize,
+    nodes_at: usize,
+    numbers: &mut [u32],
+    arguments: &[u32],
+    caller: u8,
+    live: bool,
+    n: usize,
+    out: &mut [u64],
+    i: usize,
+) -> usize
+    requires { ⌜ (kindAt (now file) «nodes_at» n ≡ 21) × (Startable (now file) «function_at» «nodes_at» n (now out) i (honestNumbers (now file) «function_at» (now arguments) caller (nodeStatement (now file) n) live (now numbers))) ⌝ }
+    ensures { λ r. ⌜ Honest (now (file .entry)) «function_at» (now (arguments .entry)) caller live (nodeStatement (now (file .entry)) n) (now (numbers .entry)) (now (numbers .exit)) (now (out .entry)) (now (out .exit)) i r ⌝ }
+{
+    let first = node_at(file, nodes_at, n).first;
+    let j = body_slots(
+        file,
+        function_at,
+        nodes_at,
+        numbers,
+        arguments,
+        caller,
+        live,
+        first,
+        out,
+        i,
+    );
+    branches_slots(
+        file,
+        function_at,
+        nodes_at,
+        numbers,
+        arguments,
+        caller,
+        live,
+        n,
+        out,
+        j,
+    )
+}
+
+// Of the two branches of conditional n at most one is taken.
+fn branches_slots(
+    file: &[u8],
+    function_at: usize,
+    nodes_at: usize,
+    numbers: &mut [u32],
+    arguments: &[u32],
+    caller: u8,
+    live: bool,
+    n: usize,
+    out: &mut [u64],
+    i: usize,
+) -> usize
+    requires { ⌜ (kindAt (now file) «nodes_at» n ≡ 21) × (Startable (now file) «function_at» «nodes_at» n (now out) i (branchesNumbers (now file) «function_at» (now arguments) caller (nodeStatement (now file) n) live (now numbers))) ⌝ }
+    ensures { λ r. ⌜ BranchesHonest (now (file .entry)) «function_at» (now (arguments .entry)) caller live (nodeStatement (now (file .entry)) n) (now (numbers .entry)) (now (numbers .exit)) (now (out .entry)) (now (out .exit)) i r ⌝ }
+{
+    let node = node_at(file, nodes_at, n);
+    let taken = is_taken(
+        file,
+        function_at,
+        nodes_at,
+        numbers,
+        arguments,
+        caller,
+        node.first,
+    );
+    let k = branch_slots(
+        file,
+        function_at,
+        nodes_at,
+        numbers,
+        arguments,
+        caller,
+        both(live, taken),
+        node.second,
+        out,
+        i,
+    );
+    branch_slots(
+        file,
+        function_at,
+        nodes_at,
+        numbers,
+        arguments,
+        caller,
+        only(live, taken),
+        node.third,
+        out,
+        k,
+    )
+}
+
+// A branch begins with its guard.
+fn branch_slots(
+    file: &[u8],
+    function_at: usize,
+    nodes_at: usize,
+    numbers: &mut [u32],
+    arguments: &[u32],
+    caller: u8,
+    live: bool,
+    n: usize,
+    out: &mut [u64],
+    i: usize,
+) -> usize
+    requires { ⌜ Startable (now file) «function_at» «nodes_at» n (now out) i (branchNumbers (honestNumbers (now file) «function_at» (now arguments) caller (nodeStatement (now file) n) live (now numbers))) ⌝ }
+    ensures { λ r. ⌜ BranchHonest (now (file .entry)) «function_at» (now (arguments .entry)) caller live (nodeStatement (now (file .entry)) n) (now (numbers .entry)) (now (numbers .exit)) (now (out .entry)) (now (out .exit)) i r ⌝ }
+{
+    put_slot(out, i, 0);
+    statement_slots(
+        file,
+        function_at,
+        nodes_at,
+        numbers,
+        arguments,
+        caller,
+        live,
+        n,
+        out,
+        i + 1,
+    )
+}

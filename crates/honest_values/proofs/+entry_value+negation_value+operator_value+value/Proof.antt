@@ -1,0 +1,153 @@
+-- The values of nodes by their kind, as a cycle: the node number falls, or the same node goes on to its own kind.
+use mathlib.Core.Path.{refl, sym}
+use Prim.Native.Nat.{_+_, _*_}
+use borrow.Author.Needs.{needs}
+use native.Mathlib.Omega.{arith}
+use Rattle.file_accepted.proofs.Nodes.{constant-is, field-is, entry-is, parameter-is, operator-is, negation-is, reveal-is, other-is, key-below, operands-below, part-below, revealed-below}
+use Rattle.honest_values.proofs.Laws.{kind-as, constant-value, me-value, field-value, entry-value, parameter-value, operator-value, negation-value, reveal-value}
+use Prim.Native.Nat.{ℕ, _<_}
+use borrow.Fn.Kinds.{In}
+use borrow.Fn.PlainCycle.{Measures, is, falls, and}
+use Rattle.honest_values.proofs.entry_value.Reads as entry-value
+use Rattle.honest_values.proofs.entry_value.Kinds as entry-value-kinds
+use Rattle.honest_values.proofs.+entry_value+negation_value+operator_value+value.Lts-entry_value as entry-value-lts
+use Rattle.honest_values.proofs.negation_value.Reads as negation-value
+use Rattle.honest_values.proofs.negation_value.Kinds as negation-value-kinds
+use Rattle.honest_values.proofs.+entry_value+negation_value+operator_value+value.Lts-negation_value as negation-value-lts
+use Rattle.honest_values.proofs.operator_value.Reads as operator-value
+use Rattle.honest_values.proofs.operator_value.Kinds as operator-value-kinds
+use Rattle.honest_values.proofs.+entry_value+negation_value+operator_value+value.Lts-operator_value as operator-value-lts
+use Rattle.honest_values.proofs.value.Reads as value
+use Rattle.honest_values.proofs.value.Kinds as value-kinds
+use Rattle.honest_values.proofs.+entry_value+negation_value+operator_value+value.Lts-value as value-lts
+use Rattle.ledger_arithmetic.proofs.negated.Reads as negated-reads
+use Rattle.ledger_arithmetic.proofs.operated.Reads as operated-reads
+use Rattle.file_bytes.proofs.node_at.Reads as node-at-reads
+use Rattle.ledger_places.proofs.number_at.Reads as number-at-reads
+use Rattle.ledger_places.proofs.position.Reads as position-reads
+use Rattle.honest_values.proofs.constant_of.Reads as constant-of-reads
+use Rattle.honest_values.proofs.+entry_value+negation_value+operator_value+value.{statement}
+use Rattle.honest_values.proofs.+entry_value+negation_value+operator_value+value.Tie.{close}
+
+abbrev μ-entry-value : Measures 3 entry-value-kinds.ps ℕ
+μ-entry-value κs a = 2 * a .1 .1 .1 .1 .1 .1 .0
+
+abbrev μ-negation-value : Measures 3 negation-value-kinds.ps ℕ
+μ-negation-value κs a = 2 * a .1 .1 .1 .1 .1 .1 .0
+
+abbrev μ-operator-value : Measures 3 operator-value-kinds.ps ℕ
+μ-operator-value κs a = 2 * a .1 .1 .1 .1 .1 .1 .0
+
+abbrev μ-value : Measures 3 value-kinds.ps ℕ
+μ-value κs a = 2 * a .1 .1 .1 .1 .1 .1 .0 + 1
+
+abbrev entry-value-at : ℕ → In 3 entry-value-kinds.ps
+entry-value-at t =
+    and 3 entry-value-kinds.ps (is 3 entry-value-kinds.ps μ-entry-value t) entry-value.Pre
+
+abbrev entry-value-below : ℕ → In 3 entry-value-kinds.ps
+entry-value-below t =
+    and 3 entry-value-kinds.ps (falls 3 entry-value-kinds.ps _<_ μ-entry-value t) entry-value.Pre
+
+abbrev negation-value-at : ℕ → In 3 negation-value-kinds.ps
+negation-value-at t =
+    and
+    3
+    negation-value-kinds.ps
+    (is 3 negation-value-kinds.ps μ-negation-value t)
+    negation-value.Pre
+
+abbrev negation-value-below : ℕ → In 3 negation-value-kinds.ps
+negation-value-below t =
+    and
+    3
+    negation-value-kinds.ps
+    (falls 3 negation-value-kinds.ps _<_ μ-negation-value t)
+    negation-value.Pre
+
+abbrev operator-value-at : ℕ → In 3 operator-value-kinds.ps
+operator-value-at t =
+    and
+    3
+    operator-value-kinds.ps
+    (is 3 operator-value-kinds.ps μ-operator-value t)
+    operator-value.Pre
+
+abbrev operator-value-below : ℕ → In 3 operator-value-kinds.ps
+operator-value-below t =
+    and
+    3
+    operator-value-kinds.ps
+    (falls 3 operator-value-kinds.ps _<_ μ-operator-value t)
+    operator-value.Pre
+
+abbrev value-at : ℕ → In 3 value-kinds.ps
+value-at t = and 3 value-kinds.ps (is 3 value-kinds.ps μ-value t) value.Pre
+
+abbrev value-below : ℕ → In 3 value-kinds.ps
+value-below t = and 3 value-kinds.ps (falls 3 value-kinds.ps _<_ μ-value t) value.Pre
+
+abbrev entry-value-claims : ℕ → entry-value-lts.Claims
+entry-value-claims t = (node-at-reads.Asked, node-at-reads.Learnt, value-below t, value.Post, position-reads.Asked, position-reads.Learnt, number-at-reads.Asked, number-at-reads.Learnt)
+
+abbrev negation-value-claims : ℕ → negation-value-lts.Claims
+negation-value-claims t = (node-at-reads.Asked, node-at-reads.Learnt, value-below t, value.Post, negated-reads.Asked, negated-reads.Learnt)
+
+abbrev operator-value-claims : ℕ → operator-value-lts.Claims
+operator-value-claims t = (node-at-reads.Asked, node-at-reads.Learnt, value-below t, value.Post, operated-reads.Asked, operated-reads.Learnt)
+
+abbrev value-claims : ℕ → value-lts.Claims
+value-claims t = (node-at-reads.Asked, node-at-reads.Learnt, constant-of-reads.Asked, constant-of-reads.Learnt, position-reads.Asked, position-reads.Learnt, number-at-reads.Asked, number-at-reads.Learnt, entry-value-below t, entry-value.Post, operator-value-below t, operator-value.Post, negation-value-below t, negation-value.Post, value-below t, value.Post)
+
+pub +entry-value+negation-value+operator-value+value-spec : {M : Type 1} → statement M
++entry-value+negation-value+operator-value+value-spec =
+    close μ-entry-value μ-negation-value μ-operator-value μ-value (λ t. entry-value-lts.spec (entry-value-claims t)
+    (entry-value-at t)
+    entry-value.Post
+    (λ c κs. (c .before .before .before .pre .1 .1 .1 .nearNodes, omega (arith, c .before .before .before .pre .1 .1 .1 .fewNodes, c .before .before .before .pre .1 .1 .0)))
+    (λ c κs. let less = (key-below _ _ _ (c .before .before .before .before .pre .1 .1 .1) _ (c .before .before .before .before .pre .1 .1 .0) _ (c .node-at .ensures .same) (kind-as _ _ _ (c .node-at .ensures .same) (c .before .before .before .before .pre .1 .0))) in
+    (omega (arith, c .before .before .before .before .pre .0, less), (omega (arith, c .before .before .before .before .pre .1 .1 .0, less), c .before .before .before .before .pre .1 .1 .1)))
+    (λ c. search needs)
+    (λ c κs. (c .before .before .before .before .before .pre .1 .1 .1 .fewFields, omega arith))
+    (λ c κs. tt)
+    (λ c. entry-value _ _ _ _ _ _ _ _ _ _ (entry-is _ _ _ (c .before .before .before .before .before .before .before .pre .1 .1 .1) _ (c .before .before .before .before .before .before .before .pre .1 .1 .0) _ (c .before .before .before .node-at .ensures .same) (kind-as _ _ _ (c .before .before .before .node-at .ensures .same) (c .before .before .before .before .before .before .before .pre .1 .0))) (c .before .before .value .ensures) (c .before .position .ensures) (c .number-at .ensures)))
+    (λ t. negation-value-lts.spec (negation-value-claims t)
+    (negation-value-at t)
+    negation-value.Post
+    (λ c κs. (c .before .before .before .pre .1 .1 .1 .nearNodes, omega (arith, c .before .before .before .pre .1 .1 .1 .fewNodes, c .before .before .before .pre .1 .1 .0)))
+    (λ c κs. let less = (part-below _ _ _ (c .before .before .before .before .pre .1 .1 .1) _ (c .before .before .before .before .pre .1 .1 .0) _ (c .node-at .ensures .same) (kind-as _ _ _ (c .node-at .ensures .same) (c .before .before .before .before .pre .1 .0))) in
+    (omega (arith, c .before .before .before .before .pre .0, less), (omega (arith, c .before .before .before .before .pre .1 .1 .0, less), c .before .before .before .before .pre .1 .1 .1)))
+    (λ c κs. tt)
+    (λ c. negation-value _ _ _ _ _ _ _ _ (negation-is _ _ _ (c .before .before .before .before .before .before .pre .1 .1 .1) _ (c .before .before .before .before .before .before .pre .1 .1 .0) _ (c .before .before .node-at .ensures .same) (kind-as _ _ _ (c .before .before .node-at .ensures .same) (c .before .before .before .before .before .before .pre .1 .0))) (c .before .value .ensures) (c .negated .ensures)))
+    (λ t. operator-value-lts.spec (operator-value-claims t)
+    (operator-value-at t)
+    operator-value.Post
+    (λ c κs. (c .before .before .before .pre .1 .1 .1 .nearNodes, omega (arith, c .before .before .before .pre .1 .1 .1 .fewNodes, c .before .before .before .pre .1 .1 .0)))
+    (λ c κs. let less = (operands-below _ _ _ (c .before .before .before .before .pre .1 .1 .1) _ (c .before .before .before .before .pre .1 .1 .0) _ (c .node-at .ensures .same) (kind-as _ _ _ (c .node-at .ensures .same) (c .before .before .before .before .pre .1 .0))) in
+    (omega (arith, c .before .before .before .before .pre .0, less .0), (omega (arith, c .before .before .before .before .pre .1 .1 .0, less .0), c .before .before .before .before .pre .1 .1 .1)))
+    (λ c κs. let less = (operands-below _ _ _ (c .before .before .before .before .before .pre .1 .1 .1) _ (c .before .before .before .before .before .pre .1 .1 .0) _ (c .before .node-at .ensures .same) (kind-as _ _ _ (c .before .node-at .ensures .same) (c .before .before .before .before .before .pre .1 .0))) in
+    (omega (arith, c .before .before .before .before .before .pre .0, less .1), (omega (arith, c .before .before .before .before .before .pre .1 .1 .0, less .1), c .before .before .before .before .before .pre .1 .1 .1)))
+    (λ c κs. tt)
+    (λ c. operator-value _ _ _ _ _ _ _ _ _ _ _ (operator-is _ _ _ (c .before .before .before .before .before .before .before .pre .1 .1 .1) _ (c .before .before .before .before .before .before .before .pre .1 .1 .0) _ (c .before .before .before .node-at .ensures .same) (kind-as _ _ _ (c .before .before .before .node-at .ensures .same) (c .before .before .before .before .before .before .before .pre .1 .0))) (c .before .before .value .ensures) (c .before .value2 .ensures) (c .operated .ensures)))
+    λ t. value-lts.spec (value-claims t)
+    (value-at t)
+    value.Post
+    (λ c κs. (c .before .before .before .pre .1 .1 .nearNodes, omega (arith, c .before .before .before .pre .1 .1 .fewNodes, c .before .before .before .pre .1 .0)))
+    (λ c κs. (c .before .node-at .ensures .smallFirst, c .before .node-at .ensures .smallSecond))
+    (λ c κs. (c .before .before .before .before .before .pre .1 .1 .fewFields, omega arith))
+    (λ c κs. tt)
+    (λ c κs. (omega (arith, c .before .before .before .before .before .pre .0), (kind-as _ _ _ (sym (c .before .node-at .ensures .same)) (c .match .keys3), c .before .before .before .before .before .pre .1)))
+    (λ c κs. tt)
+    (λ c κs. (omega (arith, c .before .before .before .before .before .pre .0), (kind-as _ _ _ (sym (c .before .node-at .ensures .same)) (c .match .keys5), c .before .before .before .before .before .pre .1)))
+    (λ c κs. (omega (arith, c .before .before .before .before .before .pre .0), (kind-as _ _ _ (sym (c .before .node-at .ensures .same)) (c .match .keys6), c .before .before .before .before .before .pre .1)))
+    (λ c κs. let less = (revealed-below _ _ _ (c .before .before .before .before .before .pre .1 .1) _ (c .before .before .before .before .before .pre .1 .0) _ (c .before .node-at .ensures .same) (c .match .keys7)) in
+    (omega (arith, c .before .before .before .before .before .pre .0, less), (omega (arith, c .before .before .before .before .before .pre .1 .0, less), c .before .before .before .before .before .pre .1 .1)))
+    (λ c. constant-value _ _ _ _ _ _ _ _ (constant-is _ _ _ (c .before .before .before .before .before .before .pre .1 .1) _ (c .before .before .before .before .before .before .pre .1 .0) _ (c .before .before .node-at .ensures .same) (c .before .match .keys1)) (c .constant-of .ensures))
+    (λ c. field-value _ _ _ _ _ _ _ _ (field-is _ _ _ (c .before .before .before .before .before .before .before .pre .1 .1) _ (c .before .before .before .before .before .before .before .pre .1 .0) _ (c .before .before .before .node-at .ensures .same) (c .before .before .match .keys2)) (c .before .position .ensures) (c .number-at .ensures))
+    (λ c. c .entry-value .ensures)
+    (λ c. parameter-value _ _ _ _ _ _ _ (parameter-is _ _ _ (c .before .before .before .before .before .before .pre .1 .1) _ (c .before .before .before .before .before .before .pre .1 .0) _ (c .before .before .node-at .ensures .same) (c .before .match .keys4)) (c .number-at2 .ensures))
+    (λ c. c .operator-value .ensures)
+    (λ c. c .negation-value .ensures)
+    (λ c. reveal-value _ _ _ _ _ _ _ _ (reveal-is _ _ _ (c .before .before .before .before .before .before .pre .1 .1) _ (c .before .before .before .before .before .before .pre .1 .0) _ (c .before .before .node-at .ensures .same) (c .before .match .keys7)) (c .value .ensures))
+    (λ c. let u = c .match .rest in
+    me-value _ _ _ _ _ _ (other-is _ _ _ (c .before .before .before .before .before .pre .1 .1) _ (c .before .before .before .before .before .pre .1 .0) _ (c .before .node-at .ensures .same) (record { constant = u .0 .0 .0 .0 .0 .0 .1; field = u .0 .0 .0 .0 .0 .1; entry = u .0 .0 .0 .0 .1; parameter = u .0 .0 .0 .1; operator = u .0 .0 .1; negation = u .0 .1; reveal = u .1 })) refl)

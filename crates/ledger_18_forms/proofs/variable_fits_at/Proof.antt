@@ -1,0 +1,22 @@
+-- A content that is there is plain 0 or tested.
+use Rattle.definitions.specs.Ledger.{contentAt, fits, isPlainZero}
+use Rattle.ledger_contents.specs.Contents.{contentsOf}
+use mathlib.Core.Path.{ap, _∙_}
+use native.Mathlib.Omega.{arith}
+use Rattle.ledger_readers.specs.Readers.{formOf}
+use Rattle.ledger_18_forms.specs.Forms.{fitsOrZero}
+use Rattle.ledger_18_forms.proofs.Laws.{found, absent, zero-fits, other-fits}
+use borrow.Author.Needs.{needs}
+use Rattle.ledger_18_forms.proofs.variable_fits_at.Statement.{statement}
+use Rattle.ledger_18_forms.proofs.variable_fits_at.Tie as tie
+
+pub variable-fits-at-spec : {M : Type 1} → statement M
+variable-fits-at-spec =
+    tie.close
+    (tie.spec (λ c κs. search needs) (λ c κs. search needs) (λ c κs. search needs) (λ c. let a = c .before .before .before .before .before .args in
+    found fitsOrZero (a .flat .now) (a .p) (formOf (a .code) (a .reader)) _ (omega arith)
+    (zero-fits (formOf (a .code) (a .reader)) (contentAt (contentsOf (a .flat .now)) (a .p)) _ (c .before .is-plain-zero .ensures ∙ ap isPlainZero (c .before .before .content-at .ensures)) (c .if2 .taken))) (λ c. let a = c .before .before .before .before .before .before .args in
+    found fitsOrZero (a .flat .now) (a .p) (formOf (a .code) (a .reader)) _ (omega arith)
+    (other-fits (formOf (a .code) (a .reader)) (contentAt (contentsOf (a .flat .now)) (a .p)) _ _ (c .before .before .is-plain-zero .ensures ∙ ap isPlainZero (c .before .before .before .content-at .ensures)) (c .before .if2 .left)
+    (c .fits2 .ensures ∙ ap (fits (formOf (a .code) (a .reader))) (c .before .before .before .content-at .ensures)))) (λ c. let a = c .before .before .args in
+    absent fitsOrZero (a .flat .now) (a .p) (formOf (a .code) (a .reader)) (omega arith)))

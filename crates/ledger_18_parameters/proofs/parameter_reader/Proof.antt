@@ -1,0 +1,7 @@
+-- By cases of the owner.
+use Rattle.ledger_18_parameters.proofs.Laws.{reader-public, reader-private}
+use Rattle.ledger_18_parameters.proofs.parameter_reader.Statement.{statement}
+use Rattle.ledger_18_parameters.proofs.parameter_reader.Tie as tie
+
+pub parameter-reader-spec : {M : Type 1} → statement M
+parameter-reader-spec = tie.close (tie.spec (λ c. reader-public (c .before .args .owner) (c .before .args .caller) (c .if1 .taken)) (λ c. reader-private (c .before .args .owner) (c .before .args .caller) (c .if1 .left)))

@@ -1,0 +1,75 @@
+-- Each turn tests the variable of one entry more, or passes a claim.
+use mathlib.Core.Path.{_≡_, refl}
+use Prim.Native.Nat.{_+_, _-_, _≤_}
+use native.Mathlib.Omega.{arith}
+use lib.ListN.{length, drop}
+use borrow.Author.Needs.{needs}
+use Rattle.definitions.specs.Ledger.{allFit}
+use Rattle.ledger_contents.specs.Contents.{contentsOf}
+use Rattle.ledger_18_forms.specs.Forms.{fitsOrZero}
+use Rattle.ledger_18_variables.specs.Variables.{loggedForms}
+use Rattle.ledger_18_variables.proofs.Log.{claim-next, entry-next, entry-stops, log-done}
+use Rattle.ledger_18_variables.proofs.log_fits.Statement.{statement}
+use Rattle.ledger_18_variables.proofs.log_fits.Tie as tie
+
+abbrev Inv-loop : tie.InvT-loop
+Inv-loop file function-at nodes-at log addresses from flat i₀ p₀ i p =
+    (i ≤ length log) × ((p ≤ from + i)
+    × (allFit fitsOrZero (loggedForms file function-at addresses (drop i log)) (drop p (contentsOf flat))
+    ≡ allFit fitsOrZero (loggedForms file function-at addresses log) (drop from (contentsOf flat))))
+
+abbrev μ-loop : tie.MeasureT-loop
+μ-loop file function-at nodes-at log addresses from flat i₀ p₀ i p = length log - i
+
+pub log-fits-spec : {M : Type 1} → statement M
+log-fits-spec =
+    tie.close
+    (tie.spec
+    Inv-loop
+    μ-loop
+    (λ c. (omega arith, (omega arith, refl)))
+    (λ c. search needs)
+    (λ c. search needs)
+    (λ c. search needs)
+    (λ c. search needs)
+    (λ c. search needs)
+    (λ c. let k = c .before .before .before in
+    let a = k .before .before .before .before .before .args in (
+      omega arith,
+      (
+        omega arith,
+        claim-next (a .file .now) (a .function-at) (a .addresses .now) (a .log .now) (k .loop .i) (omega arith) (contentsOf (a .flat .now)) (k .loop .p) _ (k .loop .inv .1 .1) (c .if1 .taken),
+      ),
+    ))
+    (λ c. search needs)
+    (λ c. search needs)
+    (λ c. search needs)
+    (λ c. omega (arith, c .shared-slice-known6 .given (c .before .before .before .before .loop .i + 3)))
+    (λ c κs. c .before .before .before .before .before .before .before .before .before .pre .0)
+    (λ c. search needs)
+    (λ c. search needs)
+    (λ c. search needs)
+    (λ c. omega (arith, c .shared-slice-known7 .given (c .before .before .before .before .before .before .loop .i + 2)))
+    (λ c κs. search needs)
+    (λ c κs. search needs)
+    (λ c. search needs)
+    (λ c. search needs)
+    (λ c. search needs)
+    (λ c. let k = c .before .before .before .before .before .before .before .before .before in
+    let a = k .before .before .before .before .before .args in (
+      omega arith,
+      (
+        omega arith,
+        entry-next (a .file .now) (a .function-at) (a .addresses .now) (a .log .now) (k .loop .i) (omega arith) (contentsOf (a .flat .now)) (k .loop .p) _ (k .loop .inv .1 .1) _
+            (c .before .before .before .before .entry-type .result) (c .before .before .code-reader .result) (c .before .before .before .before .entry-type .ensures) (c .before .before .code-reader .ensures)
+            (c .before .variable-fits-at .ensures) (c .before .before .before .before .before .before .if1 .left) (c .if2 .taken),
+      ),
+    ))
+    (λ c. let k = c .before .before .before .before .before .before .before .before .before in
+    let a = k .before .before .before .before .before .args in
+    entry-stops (a .file .now) (a .function-at) (a .addresses .now) (a .log .now) (k .loop .i) (omega arith) (contentsOf (a .flat .now)) (k .loop .p) _ (k .loop .inv .1 .1) _
+    (c .before .before .before .before .entry-type .result) (c .before .before .code-reader .result) (c .before .before .before .before .entry-type .ensures) (c .before .before .code-reader .ensures)
+    (c .before .variable-fits-at .ensures) (c .before .before .before .before .before .before .if1 .left) (c .if2 .left))
+    (λ c. let k = c .before in
+    let a = k .before .before .before .before .before .args in
+    log-done (a .file .now) (a .function-at) (a .addresses .now) (a .log .now) (k .loop .i) (a .flat .now) (k .loop .p) _ (omega arith) (k .loop .inv .1 .1)))

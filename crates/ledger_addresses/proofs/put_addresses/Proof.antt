@@ -1,0 +1,31 @@
+-- The loop's invariant: the codes passed have their addresses.
+use Prim.Native.Nat.{_-_}
+use Rattle.ledger_addresses.proofs.Laws.{Placed, placed-none, placed-more, placed-all}
+use mathlib.Core.Path.{sym, _∙_}
+use native.Mathlib.Omega.{arith}
+use borrow.Author.Needs.{needs}
+use Rattle.ledger_addresses.proofs.put_addresses.Statement.{statement}
+use Rattle.ledger_addresses.proofs.put_addresses.Tie as tie
+
+abbrev Inv-loop : tie.InvT-loop
+Inv-loop file function-at caller arguments places out₀ code₀ out code =
+    Placed file function-at caller arguments places out code
+
+abbrev μ-loop : tie.MeasureT-loop
+μ-loop file function-at caller arguments places out₀ code₀ out code =
+    136 - code
+
+pub put-addresses-spec : {M : Type 1} → statement M
+put-addresses-spec =
+    tie.close
+    (tie.spec
+    Inv-loop
+    μ-loop
+    (λ c. placed-none _ _ _ _ _ _ (c .before .before .before .before .pre .room))
+    (λ c κs. c .before .before .before .before .before .before .pre .names)
+    (λ c κs. search needs)
+    (λ c. omega arith)
+    (λ c. omega arith)
+    (λ c. placed-more (c .before .before .before .before .before .before .before .before .before .before .before .args .file .now) (c .before .before .before .before .before .before .before .before .before .before .before .args .function-at) (c .before .before .before .before .before .before .before .before .before .before .before .args .caller) (c .before .before .before .before .before .before .before .before .before .before .before .args .arguments .now) (c .before .before .before .before .before .before .before .before .before .before .before .args .places .now) _ _ (c .before .before .before .before .before .before .loop .code) _ (c .before .before .before .before .before .before .loop .inv) (omega arith) (c .before .before .before .before .address-of-code .ensures) (c .before .before .put-number .ensures))
+    (λ c. c .before .loop .inv .room ∙ sym (c .before .before .before .before .before .before .pre .room))
+    (λ c. placed-all _ _ _ _ _ _ (c .before .loop .code) (c .before .before .before .before .before .before .pre .names) (omega arith) (c .before .loop .inv)))

@@ -1,0 +1,8 @@
+-- `ledger_arithmetic::rest` meets its contract.
+use Rattle.ledger_arithmetic.proofs.Laws.{rest-by-zero}
+use borrow.Author.Needs.{needs}
+use Rattle.ledger_arithmetic.proofs.rest.Statement.{statement}
+use Rattle.ledger_arithmetic.proofs.rest.Tie as tie
+
+pub rest-spec : {M : Type 1} → statement M
+rest-spec = tie.close (tie.spec (λ c. search needs) (λ c. rest-by-zero _ _ (c .if1 .taken)) (λ c. search needs))

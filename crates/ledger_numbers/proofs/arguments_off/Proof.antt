@@ -1,0 +1,42 @@
+-- The loop's invariant: the arguments left are off as all are.
+use mathlib.Core.Path.{_≡_, refl, sym, _∙_}
+use Prim.Native.Nat.{_-_, _≤_}
+use native.Mathlib.Omega.{arith}
+use lib.ListN.{length, drop}
+use Rattle.definitions.specs.ContractFile.{byteAt}
+use Rattle.file_accepted.proofs.Declarations.{parameters-count}
+use Rattle.file_accepted.specs.Context.{parametersIn}
+use Rattle.ledger_numbers.specs.Arguments.{anyOutside}
+use Rattle.ledger_numbers.proofs.Arguments.{typed, off-count, off-types, off-none, off-next, off-found}
+use borrow.Author.Needs.{needs}
+use Rattle.ledger_numbers.proofs.arguments_off.Statement.{statement}
+use Rattle.ledger_numbers.proofs.arguments_off.Tie as tie
+
+abbrev Inv-loop : tie.InvT-loop
+Inv-loop file function-at arguments count k₀ k =
+    (anyOutside (drop k (parametersIn file function-at)) (drop k arguments) ≡ anyOutside (parametersIn file function-at) arguments) × ((k ≤ count) × ((count ≡ byteAt file function-at) × (length arguments ≡ count)))
+
+abbrev μ-loop : tie.MeasureT-loop
+μ-loop file function-at arguments count k₀ k =
+    count - k
+
+pub arguments-off-spec : {M : Type 1} → statement M
+arguments-off-spec =
+    tie.close
+    (tie.spec
+    Inv-loop
+    μ-loop
+    (λ c κs. search needs)
+    (λ c. off-count (parametersIn (c .before .before .before .before .args .file .now) (c .before .before .before .before .args .function-at)) (c .before .before .before .before .args .arguments .now) (λ e. c .if1 .taken (e ∙ parameters-count (c .before .before .before .before .args .file .now) (c .before .before .before .before .args .function-at) ∙ sym (c .before .byte-at .ensures .0))))
+    (λ c. (refl, (omega arith, (c .before .byte-at .ensures .0, c .if1 .left))))
+    (λ c. search needs)
+    (λ c. search needs)
+    (λ c. search needs)
+    (λ c κs. search needs)
+    (λ c κs. search needs)
+    (λ c κs. search needs)
+    (λ c. search needs)
+    (λ c. search needs)
+    (λ c. (off-next (parametersIn (c .before .before .before .before .before .before .before .before .before .before .args .file .now) (c .before .before .before .before .before .before .before .before .before .before .args .function-at)) (c .before .before .before .before .before .before .before .before .before .before .args .arguments .now) (c .before .before .before .before .before .loop .k) (omega (arith, parameters-count (c .before .before .before .before .before .before .before .before .before .before .args .file .now) (c .before .before .before .before .before .before .before .before .before .before .args .function-at))) (omega arith) _ (c .before .before .before .before .before .loop .inv .0) _ (typed (c .before .before .before .before .before .before .before .before .before .before .args .file .now) (c .before .before .before .before .before .before .before .before .before .before .args .arguments .now) (c .before .before .before .before .before .before .before .before .before .before .args .function-at) (c .before .before .before .before .before .loop .k) _ _ _ (omega arith) (c .before .before .before .byte-at2 .ensures .0) (c .before .before .number-at .ensures) (c .before .is-of-type .ensures)) (c .if2 .taken), (omega arith, (c .before .before .before .before .before .loop .inv .1 .1 .0, c .before .before .before .before .before .loop .inv .1 .1 .1))))
+    (λ c. off-types (parametersIn (c .before .before .before .before .before .before .before .before .before .before .args .file .now) (c .before .before .before .before .before .before .before .before .before .before .args .function-at)) (c .before .before .before .before .before .before .before .before .before .before .args .arguments .now) (c .before .before .before .before .before .loop .inv .1 .1 .1 ∙ c .before .before .before .before .before .loop .inv .1 .1 .0 ∙ sym (parameters-count (c .before .before .before .before .before .before .before .before .before .before .args .file .now) (c .before .before .before .before .before .before .before .before .before .before .args .function-at))) _ (off-found (parametersIn (c .before .before .before .before .before .before .before .before .before .before .args .file .now) (c .before .before .before .before .before .before .before .before .before .before .args .function-at)) (c .before .before .before .before .before .before .before .before .before .before .args .arguments .now) (c .before .before .before .before .before .loop .k) (omega (arith, parameters-count (c .before .before .before .before .before .before .before .before .before .before .args .file .now) (c .before .before .before .before .before .before .before .before .before .before .args .function-at))) (omega arith) _ (c .before .before .before .before .before .loop .inv .0) _ (typed (c .before .before .before .before .before .before .before .before .before .before .args .file .now) (c .before .before .before .before .before .before .before .before .before .before .args .arguments .now) (c .before .before .before .before .before .before .before .before .before .before .args .function-at) (c .before .before .before .before .before .loop .k) _ _ _ (omega arith) (c .before .before .before .byte-at2 .ensures .0) (c .before .before .number-at .ensures) (c .before .is-of-type .ensures)) (c .if2 .left)))
+    (λ c. off-types (parametersIn (c .before .before .before .before .before .before .args .file .now) (c .before .before .before .before .before .before .args .function-at)) (c .before .before .before .before .before .before .args .arguments .now) (c .before .loop .inv .1 .1 .1 ∙ c .before .loop .inv .1 .1 .0 ∙ sym (parameters-count (c .before .before .before .before .before .before .args .file .now) (c .before .before .before .before .before .before .args .function-at))) _ (off-none (parametersIn (c .before .before .before .before .before .before .args .file .now) (c .before .before .before .before .before .before .args .function-at)) (c .before .before .before .before .before .before .args .arguments .now) (c .before .loop .k) _ (omega (arith, parameters-count (c .before .before .before .before .before .before .args .file .now) (c .before .before .before .before .before .before .args .function-at))) (c .before .loop .inv .0))))

@@ -1,0 +1,8 @@
+use native.Mathlib.Omega.{arith}
+use Rattle.ledger_places.proofs.Laws.{one-place, many-places}
+use borrow.Author.Needs.{needs}
+use Rattle.ledger_places.proofs.place_count.Statement.{statement}
+use Rattle.ledger_places.proofs.place_count.Tie as tie
+
+pub place-count-spec : {M : Type 1} → statement M
+place-count-spec = tie.close (tie.spec (λ c. search needs) (λ c. search needs) (λ c κs. search needs) (λ c. (one-place _ _ (c .before .before .before .pre .0) (omega arith), omega arith)) (λ c. (many-places _ _ (c .before .before .before .pre .0) (omega arith), omega arith)))

@@ -1,0 +1,69 @@
+-- Steps of the loops between places and flat numbers.
+use mathlib.Core.Path.{_≡_, refl, ap, sym, _∙_}
+use mathlib.Core.List.{List, [], _∷_, map}
+use mathlib.Core.Bool.{Bool, true, false}
+use Prim.Native.Nat.{ℕ, _+_, _*_, _/_, _<_, _≤_, min}
+use native.Mathlib.Numerals.{add-one}
+use native.Mathlib.Omega.{arith}
+use borrow.Author.Tests.{leb-true, leb-false}
+use lib.Dec.{leb}
+use lib.ListN.{length, getD, set, take, length-map}
+use lib.Seq.{take-suc, take-suc-set, take-all}
+use Rattle.definitions.specs.Ledger as ledger
+use Rattle.theory_laws.proofs.Lists.{map-append}
+use Rattle.ledger_contents.specs.declared.Content.{Content}
+use Rattle.ledger_contents.specs.declared.Place.{Place}
+use Rattle.ledger_contents.specs.Contents.{contentOfCode, contentOfPlace, contentsOf}
+use Rattle.ledger_contents.proofs.Laws.{length-contentsOf}
+
+-- As many as there are, or all.
+pub take-many : {A : Type 0} (count many : ℕ) (l : List A) → many ≡ min count (length l) → take many l ≡ take count l
+take-many count many l e = go (leb count (length l)) refl
+  where
+    go : (b : Bool) → leb count (length l) ≡ b → take many l ≡ take count l
+    go true t =
+        let few : count ≤ length l = leb-true count (length l) t in
+        let same : many ≡ count = omega arith in
+        ap (λ (n : ℕ). take n l) same
+    go false t =
+        let few : length l < count = leb-false count (length l) t in
+        take-all many l (omega arith) ∙ sym (take-all count l (omega arith))
+
+-- One place more is flat.
+pub flatten-next : (places : List Place) (i : ℕ) (d : Place) (flat after : List ℕ) → i < length places → i < length flat / 5
+    → contentsOf after ≡ set (contentsOf flat) i (contentOfPlace (getD places i d))
+    → take i (contentsOf flat) ≡ map contentOfPlace (take i places)
+    → take (i + 1) (contentsOf after) ≡ map contentOfPlace (take (i + 1) places)
+flatten-next places i d flat after h k put inv =
+    let l = length-contentsOf flat in
+    let inside : i < length (contentsOf flat) = omega arith in
+    rw (put, add-one, take-suc-set (contentsOf flat) i (contentOfPlace (getD places i d)) inside, inv, take-suc places i d h, map-append contentOfPlace (take i places) (getD places i d ∷ []))
+
+pub flatten-done : (places : List Place) (count i : ℕ) (flat : List ℕ) → i ≡ min count (length places) → length flat ≡ 5 * i
+    → take i (contentsOf flat) ≡ map contentOfPlace (take i places) → contentsOf flat ≡ map contentOfPlace (take count places)
+flatten-done places count i flat e n inv =
+    let l = length-contentsOf flat in
+    let all : length (contentsOf flat) ≤ i = omega arith in
+    rw (take-all i (contentsOf flat) all, take-many count i places e) at inv
+
+-- One place more is filled.
+pub fill-next : (flat : List ℕ) (i : ℕ) (content : Content) (places : List Place) → i < length flat / 5 → i < length places
+    → contentOfCode content ≡ ledger.contentAt (contentsOf flat) i
+    → map contentOfPlace (take i places) ≡ take i (contentsOf flat)
+    → map contentOfPlace (take (i + 1) (set places i (record { content = content }))) ≡ take (i + 1) (contentsOf flat)
+fill-next flat i content places h k same inv =
+    let l = length-contentsOf flat in
+    let inside : i < length (contentsOf flat) = omega arith in
+    let place : Place = record { content = content } in
+    rw (add-one, take-suc-set places i place k, map-append contentOfPlace (take i places) (place ∷ []), inv, same, take-suc (contentsOf flat) i (ledger.Content.plain 0) inside)
+
+pub fill-done : (flat : List ℕ) (i : ℕ) (places : List Place) → i ≤ length flat / 5 → length flat / 5 ≤ i
+    → map contentOfPlace (take i places) ≡ take i (contentsOf flat) → map contentOfPlace (take (length flat / 5) places) ≡ contentsOf flat
+fill-done flat i places a b inv =
+    let l = length-contentsOf flat in
+    let e : i ≡ length flat / 5 = omega arith in
+    let all : length (contentsOf flat) ≤ length flat / 5 = omega arith in
+    rw (e, take-all (length flat / 5) (contentsOf flat) all) at inv
+
+pub unmapped : {X Y : Type 0} (f : X → Y) (l : List X) (n : ℕ) → length (map f l) ≡ n → length l ≡ n
+unmapped f l n e = sym (length-map l f) ∙ e

@@ -1,0 +1,78 @@
+-- The ledger of the definitions that a ledger of the code is.
+use mathlib.Core.List.{List, map}
+use Prim.Native.Nat.{ℕ}
+use lib.ListN.{take}
+use Rattle.definitions.specs.Ledger as ledger
+use Rattle.ledger_contents.specs.Contents.{contentOfPlace}
+use Rattle.ledger_contents.specs.declared.Place.{Place}
+use Rattle.ledger_struct.specs.declared.Ledger.{Ledger}
+
+-- The contents of as many places as counted.
+abbrev pub contentsIn : ℕ → List Place → List ledger.Content
+contentsIn count places = map contentOfPlace (take count places)
+
+unfoldable pub ledgerOf : Ledger → ledger.Ledger
+ledgerOf l =
+    record {
+      file = take (l .«file_length») (l .file);
+      call = l .call;
+      function = l .function;
+      caller = l .caller;
+      outcome = l .outcome;
+      parameters = contentsIn (l .«parameter_count») (l .parameters);
+      variables = contentsIn (l .«variable_count») (l .variables);
+      places = contentsIn (l .«place_count») (l .places);
+    }
+
+-- A ledger with other parts.
+abbrev pub withCall : ledger.Ledger → ℕ → ℕ → ℕ → ℕ → ledger.Ledger
+withCall l call function caller outcome =
+    record {
+      file = l .file;
+      call = call;
+      function = function;
+      caller = caller;
+      outcome = outcome;
+      parameters = l .parameters;
+      variables = l .variables;
+      places = l .places;
+    }
+
+abbrev pub withParameters : ledger.Ledger → List ledger.Content → ledger.Ledger
+withParameters l contents =
+    record {
+      file = l .file;
+      call = l .call;
+      function = l .function;
+      caller = l .caller;
+      outcome = l .outcome;
+      parameters = contents;
+      variables = l .variables;
+      places = l .places;
+    }
+
+abbrev pub withVariables : ledger.Ledger → List ledger.Content → ledger.Ledger
+withVariables l contents =
+    record {
+      file = l .file;
+      call = l .call;
+      function = l .function;
+      caller = l .caller;
+      outcome = l .outcome;
+      parameters = l .parameters;
+      variables = contents;
+      places = l .places;
+    }
+
+abbrev pub withPlaces : ledger.Ledger → List ledger.Content → ledger.Ledger
+withPlaces l contents =
+    record {
+      file = l .file;
+      call = l .call;
+      function = l .function;
+      caller = l .caller;
+      outcome = l .outcome;
+      parameters = l .parameters;
+      variables = l .variables;
+      places = contents;
+    }

@@ -1,0 +1,166 @@
+// The ledger as code holds it, and its contents to flat numbers and back.
+use ledger_contents::Content;
+use ledger_contents::Place;
+ghost use mathlib.Core.Path.{_≡_};
+ghost use lib.ListN.{length};
+ghost use Prim.Native.Nat.{_*_, _/_, _<_, _≤_, min};
+ghost use Rattle.ledger_contents.specs.Contents.{contentsOf};
+ghost use Rattle.ledger_struct.specs.Ledgers.{ledgerOf, contentsIn, withCall, withParameters, withVariables, withPlaces};
+
+pub struct Ledger {
+    pub file: [u8; 4596],
+    pub file_length: usize,
+    pub call: u16,
+    pub function: u8,
+    pub caller: u8,
+    pub outcome: u8,
+    pub parameters: [Place; 8],
+    pub parameter_count: usize,
+    pub variables: [Place; 1024],
+    pub variable_count: usize,
+    pub places: [Place; 1024],
+    pub place_count: usize,
+}
+
+// A count that is above the room counts the room.
+pub fn at_most(count: usize, room: usize) -> usize
+    ensures { λ r. ⌜ r ≡ min count room ⌝ }
+{
+    if count < room { count } else { room }
+}
+
+// The contents of places as flat numbers.
+pub fn flatten(places: [Place; 1024], count: usize, flat: &mut [u32])
+    requires { ⌜ length (now flat) ≡ 5 * min count 1024 ⌝ }
+    ensures { λ _. ⌜ contentsOf (now (flat .exit)) ≡ contentsIn count places ⌝ }
+{
+    let many = at_most(count, 1024);
+    let mut i: usize = 0;
+    while i < many {
+        let place = places[i];
+        let content = place.content;
+        ledger_contents::put_content(flat, i, content);
+        i += 1;
+    }
+}
+
+// Places that hold the contents of flat numbers; those behind hold plain 0.
+pub fn filled(flat: &[u32]) -> [Place; 1024]
+    requires { ⌜ length (now flat) / 5 ≤ 1024 ⌝ }
+    ensures { λ r. ⌜ contentsIn (length (now (flat .entry)) / 5) r ≡ contentsOf (now (flat .entry)) ⌝ }
+{
+    let zero = Place {
+        content: Content::Plain(0),
+    };
+    let mut places = [zero; 1024];
+    let mut i: usize = 0;
+    while i < flat.len() / 5 {
+        let content = ledger_contents::content_at(flat, i);
+        places[i] = Place { content: content };
+        i += 1;
+    }
+    places
+}
+
+// The same for the eight places of parameters.
+pub fn flatten_eight(places: [Place; 8], count: usize, flat: &mut [u32])
+    requires { ⌜ length (now flat) ≡ 5 * min count 8 ⌝ }
+    ensures { λ _. ⌜ contentsOf (now (flat .exit)) ≡ contentsIn count places ⌝ }
+{
+    let many = at_most(count, 8);
+    let mut i: usize = 0;
+    while i < many {
+        let place = places[i];
+        let content = place.content;
+        ledger_contents::put_content(flat, i, content);
+        i += 1;
+    }
+}
+
+pub fn filled_eight(flat: &[u32]) -> [Place; 8]
+    requires { ⌜ length (now flat) / 5 ≤ 8 ⌝ }
+    ensures { λ r. ⌜ contentsIn (length (now (flat .entry)) / 5) r ≡ contentsOf (now (flat .entry)) ⌝ }
+{
+    let zero = Place {
+        content: Content::Plain(0),
+    };
+    let mut places = [zero; 8];
+    let mut i: usize = 0;
+    while i < flat.len() / 5 {
+        let content = ledger_contents::content_at(flat, i);
+        places[i] = Place { content: content };
+        i += 1;
+    }
+    places
+}
+
+// The ledger's own contents as flat numbers.
+pub fn flat_parameters(l: Ledger, flat: &mut [u32])
+    requires { ⌜ length (now flat) ≡ 5 * min (l .«parameter_count») 8 ⌝ }
+    ensures { λ _. ⌜ contentsOf (now (flat .exit)) ≡ (ledgerOf l) .parameters ⌝ }
+{
+    let parameters = l.parameters;
+    flatten_eight(parameters, l.parameter_count, flat);
+}
+
+pub fn flat_variables(l: Ledger, flat: &mut [u32])
+    requires { ⌜ length (now flat) ≡ 5 * min (l .«variable_count») 1024 ⌝ }
+    ensures { λ _. ⌜ contentsOf (now (flat .exit)) ≡ (ledgerOf l) .variables ⌝ }
+{
+    let variables = l.variables;
+    flatten(variables, l.variable_count, flat);
+}
+
+pub fn flat_places(l: Ledger, flat: &mut [u32])
+    requires { ⌜ length (now flat) ≡ 5 * min (l .«place_count») 1024 ⌝ }
+    ensures { λ _. ⌜ contentsOf (now (flat .exit)) ≡ (ledgerOf l) .places ⌝ }
+{
+    let places = l.places;
+    flatten(places, l.place_count, flat);
+}
+
+// The ledger with another last call.
+pub fn with_call(l: Ledger, call: u16, function: u8, caller: u8, outcome: u8) -> Ledger
+    ensures { λ r. ⌜ ledgerOf r ≡ withCall (ledgerOf l) call function caller outcome ⌝ }
+{
+    let mut made = l;
+    made.call = call;
+    made.function = function;
+    made.caller = caller;
+    made.outcome = outcome;
+    made
+}
+
+// The ledger with other parameters, variables or places.
+pub fn with_parameters(l: Ledger, flat: &[u32]) -> Ledger
+    requires { ⌜ length (now flat) / 5 ≤ 8 ⌝ }
+    ensures { λ r. ⌜ ledgerOf r ≡ withParameters (ledgerOf l) (contentsOf (now (flat .entry))) ⌝ }
+{
+    let mut made = l;
+    let parameters = filled_eight(flat);
+    made.parameters = parameters;
+    made.parameter_count = flat.len() / 5;
+    made
+}
+
+pub fn with_variables(l: Ledger, flat: &[u32]) -> Ledger
+    requires { ⌜ length (now flat) / 5 ≤ 1024 ⌝ }
+    ensures { λ r. ⌜ ledgerOf r ≡ withVariables (ledgerOf l) (contentsOf (now (flat .entry))) ⌝ }
+{
+    let mut made = l;
+    let variables = filled(flat);
+    made.variables = variables;
+    made.variable_count = flat.len() / 5;
+    made
+}
+
+pub fn with_places(l: Ledger, flat: &[u32]) -> Ledger
+    requires { ⌜ length (now flat) / 5 ≤ 1024 ⌝ }
+    ensures { λ r. ⌜ ledgerOf r ≡ withPlaces (ledgerOf l) (contentsOf (now (flat .entry))) ⌝ }
+{
+    let mut made = l;
+    let places = filled(flat);
+    made.places = places;
+    made.place_count = flat.len() / 5;
+    made
+}

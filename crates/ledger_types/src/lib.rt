@@ -1,0 +1,64 @@
+// The data types of expressions, read from the file.
+use file_bytes::byte_at;
+use file_bytes::node_at;
+ghost use mathlib.Core.Path.{_≡_};
+ghost use Prim.Native.Nat.{_<_, _≤_};
+ghost use Rattle.definitions.specs.ContractFile.{fieldAt, parameterAt, byteAt, fieldCount, nodeCount, dataTypeOf, operatorOf, resultType, typeOf};
+ghost use Rattle.theory_trees.specs.Trees.{expressionIn};
+ghost use Rattle.file_accepted.specs.Context.{Context, nodesIn, fieldsIn, parametersIn, scopeIn};
+
+// The type code of field f; a field that is missing is a bool.
+pub fn field_type(file: &[u8], f: usize) -> usize
+    requires { ⌜ fieldCount (now file) ≤ 64 ⌝ }
+    ensures { λ r. ⌜ dataTypeOf r ≡ (fieldAt (fieldsIn (now (file .entry))) f) .type ⌝ }
+{
+    if f < byte_at(file, 0) {
+        byte_at(file, 1 + 3 * f + 1)
+    } else {
+        0
+    }
+}
+
+// The type code of parameter k; one that is missing is a bool.
+pub fn parameter_type(file: &[u8], function_at: usize, k: usize) -> usize
+    requires { ⌜ («function_at» ≤ 200000) × (byteAt (now file) «function_at» ≤ 8) ⌝ }
+    ensures { λ r. ⌜ dataTypeOf r ≡ (parameterAt (parametersIn (now (file .entry)) «function_at») k) .type ⌝ }
+{
+    if k < byte_at(file, function_at) {
+        byte_at(file, function_at + 1 + 2 * k)
+    } else {
+        0
+    }
+}
+
+// The type code of an operator's result.
+fn operator_type(code: usize) -> usize
+    ensures { λ r. ⌜ dataTypeOf r ≡ resultType (operatorOf code) ⌝ }
+{
+    if code < 5 {
+        1
+    } else if code < 11 {
+        0
+    } else {
+        1
+    }
+}
+
+// The type code of node n.
+pub fn type_code(file: &[u8], function_at: usize, nodes_at: usize, n: usize) -> usize
+    requires { ⌜ (n < nodeCount (now file)) × (Context (now file) «function_at» «nodes_at») ⌝ }
+    ensures { λ r. ⌜ dataTypeOf r ≡ typeOf (scopeIn (now (file .entry)) «function_at») (expressionIn (nodesIn (now (file .entry))) n) ⌝ }
+{
+    let node = node_at(file, nodes_at, n);
+    let kind = node.kind;
+    match kind {
+        1 => node.arg,
+        3 => field_type(file, node.arg),
+        4 => field_type(file, node.arg),
+        5 => parameter_type(file, function_at, node.arg),
+        6 => operator_type(node.arg),
+        7 => 0,
+        8 => type_code(file, function_at, nodes_at, node.first),
+        _ => 2,
+    }
+}

@@ -1,0 +1,20 @@
+// Values written over a lent buffer, one at a time. Larger runs follow by the laws of `stored`.
+ghost use mathlib.Core.Path.{_≡_};
+ghost use mathlib.Core.List.{[], _∷_};
+ghost use Prim.Native.Nat.{_<_};
+ghost use lib.ListN.{length};
+ghost use Rattle.memory_buffer.specs.Buffer.{stored};
+
+pub fn put_byte(out: &mut [u8], at: usize, value: u8)
+    requires { ⌜ at < length (now out) ⌝ }
+    ensures { λ _. ⌜ now (out .exit) ≡ stored (now (out .entry)) at (value ∷ []) ⌝ }
+{
+    out[at] = value;
+}
+
+pub fn put_number(out: &mut [u16], at: usize, value: u16)
+    requires { ⌜ at < length (now out) ⌝ }
+    ensures { λ _. ⌜ now (out .exit) ≡ stored (now (out .entry)) at (value ∷ []) ⌝ }
+{
+    out[at] = value;
+}

@@ -1,0 +1,32 @@
+-- Each turn appends the digits of one byte more.
+use mathlib.Core.Path.{_≡_, refl}
+use Prim.Native.Nat.{_-_, _≤_}
+use native.Mathlib.Omega.{arith}
+use lib.ListN.{length, drop}
+use Rattle.memory_append.specs.Append.{Appending}
+use Rattle.rehearse_lines.specs.Lines.{hexText}
+use Rattle.rehearse_lines.proofs.Hex.{hex-start, hex-room, hex-next, hex-done}
+use borrow.Author.Needs.{needs}
+use Rattle.rehearse_lines.proofs.append_hex.Statement.{statement}
+use Rattle.rehearse_lines.proofs.append_hex.Tie as tie
+
+abbrev Inv-loop : tie.InvT-loop
+Inv-loop bytes out₀ from at₀ i₀ out at i = (Appending out₀ out from at (hexText bytes) (hexText (drop i bytes))) × ((i ≤ length bytes) × (length out ≡ length out₀))
+
+abbrev μ-loop : tie.MeasureT-loop
+μ-loop bytes out₀ from at₀ i₀ out at i = length bytes - i
+
+pub append-hex-spec : {M : Type 1} → statement M
+append-hex-spec =
+    tie.close
+    (tie.spec
+    Inv-loop
+    μ-loop
+    (λ c. (hex-start _ _ _ (c .before .before .pre), (omega arith, refl)))
+    (λ c. search needs)
+    (λ c κs. hex-room _ _ _ (c .before .before .before .before .before .before .pre) _ _ (c .before .before .before .loop .i) (c .before .before .before .loop .inv .0) (c .before .before .loop-test .taken))
+    (λ c. search needs)
+    (λ c. search needs)
+    (λ c. (hex-next _ _ _ (c .before .before .before .before .before .before .before .before .before .pre) _ _ (c .before .before .before .before .before .before .loop .i) (c .before .before .before .before .before .before .loop .inv .0) _ _ (c .before .before .before .before .before .loop-test .taken) (c .before .before .append-hex-byte .ensures), (omega arith, search needs)))
+    (λ c. c .before .loop .inv .1 .1)
+    (λ c. hex-done _ _ _ (c .before .before .before .before .pre) _ _ (c .before .loop .i) (c .before .loop .inv .0) (c .loop-test .left)))

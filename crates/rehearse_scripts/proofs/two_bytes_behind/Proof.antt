@@ -1,0 +1,17 @@
+-- Two bytes past the end read as 0.
+use native.Mathlib.Omega.{arith}
+use Prim.Native.Nat.{_+_}
+use Rattle.file_bytes.proofs.Laws.{byteAt-past}
+use borrow.Author.Needs.{needs}
+use Rattle.rehearse_scripts.proofs.two_bytes_behind.Statement.{statement}
+use Rattle.rehearse_scripts.proofs.two_bytes_behind.Tie as tie
+
+pub two-bytes-behind-spec : {M : Type 1} → statement M
+two-bytes-behind-spec =
+    tie.close (tie.spec (λ c. let s = c .before .before in
+    let low = byteAt-past (s .args .bytes .now) (s .args .at + 2) (omega arith) in
+    let high = byteAt-past (s .args .bytes .now) (s .args .at + 2 + 1) (omega arith) in
+    (omega arith, omega arith)) (λ c. search needs) (λ c. let s = c .before .before .before in
+    let low = byteAt-past (s .args .bytes .now) (s .args .at + 2) (omega arith) in
+    let high = byteAt-past (s .args .bytes .now) (s .args .at + 2 + 1) (omega arith) in
+    (omega arith, omega arith)) (λ c. search needs) (λ c κs. search needs) (λ c. search needs))

@@ -1,0 +1,47 @@
+// A log of events, five numbers each.
+use memory_buffer::put_number;
+ghost use mathlib.Core.Path.{_≡_};
+ghost use Prim.Native.Nat.{_+_, _≤_};
+ghost use lib.ListN.{length};
+ghost use Rattle.memory_buffer.specs.Buffer.{stored};
+ghost use Rattle.rewrite_log.specs.Logs.{numbersOf, SmallEntry, Slot, Wrote};
+
+// Where the next entry of a log goes, and the number of the next variable.
+pub struct Position {
+    pub at: usize,
+    pub variable: usize,
+}
+
+// Tag 0 is a supplied variable, 1 its claim, 2 a read variable, 3 a guard. `last` is the number of a claim's guard, or the
+// first variable of what is read.
+pub struct Entry {
+    pub tag: usize,
+    pub variable: usize,
+    pub owner: usize,
+    pub node: usize,
+    pub last: usize,
+}
+
+fn put_entry(log: &mut [u16], at: usize, entry: Entry)
+    requires { ⌜ (at + 5 ≤ length (now log)) × (SmallEntry entry) ⌝ }
+    ensures { λ _. ⌜ now (log .exit) ≡ stored (now (log .entry)) at (numbersOf entry) ⌝ }
+{
+    put_number(log, at, entry.tag as u16);
+    put_number(log, at + 1, entry.variable as u16);
+    put_number(log, at + 2, entry.owner as u16);
+    put_number(log, at + 3, entry.node as u16);
+    put_number(log, at + 4, entry.last as u16);
+}
+
+// One entry, which makes 0 or 1 variables.
+pub fn log_entry(log: &mut [u16], p: Position, entry: Entry, made: usize) -> Position
+    requires { ⌜ (Slot (now log) p made) × (SmallEntry entry) ⌝ }
+    ensures { λ r. ⌜ Wrote (now (log .entry)) (now (log .exit)) p r (numbersOf entry) made ⌝ }
+{
+    let at = p.at;
+    put_entry(log, at, entry);
+    Position {
+        at: at + 5,
+        variable: p.variable + made,
+    }
+}

@@ -1,0 +1,65 @@
+-- `rewrite_owners::owner_code` meets its contract, by recursion with the node number falling.
+use borrow.Author.Needs.{needs}
+use native.Mathlib.Omega.{arith}
+use Rattle.file_accepted.proofs.Nodes.{constant-is, field-is, entry-is, parameter-is, operator-is, negation-is, reveal-is, other-is, key-below, operands-below, part-below}
+use Rattle.rewrite_owners.proofs.Names.{owned-constant, owned-me, owned-field, owned-entry, owned-parameter, owned-operator, owned-negation, owned-reveal}
+use Rattle.rewrite_owners.proofs.Targets.{target-listed}
+use Prim.Native.Nat.{ℕ, _<_}
+use borrow.Fn.Kinds.{In}
+use borrow.Fn.PlainCycle.{Measures, is, falls, and}
+use Rattle.rewrite_owners.proofs.owner_code.Reads as owner-code
+use Rattle.rewrite_owners.proofs.owner_code.Kinds as owner-code-kinds
+use Rattle.rewrite_owners.proofs.+owner_code.Lts-owner_code as owner-code-lts
+use Rattle.file_bytes.proofs.node_at.Reads as node-at-reads
+use Rattle.rewrite_owners.proofs.field_owner.Reads as field-owner-reads
+use Rattle.rewrite_owners.proofs.name_code.Reads as name-code-reads
+use Rattle.rewrite_owners.proofs.parameter_code.Reads as parameter-code-reads
+use Rattle.rewrite_owners.proofs.parts_code.Reads as parts-code-reads
+use Rattle.rewrite_owners.proofs.place_code.Reads as place-code-reads
+use Rattle.rewrite_owners.proofs.+owner_code.{statement}
+use Rattle.rewrite_owners.proofs.+owner_code.Tie.{close}
+
+abbrev μ-owner-code : Measures 1 owner-code-kinds.ps ℕ
+μ-owner-code κs a = a .1 .1 .1 .0
+
+abbrev owner-code-at : ℕ → In 1 owner-code-kinds.ps
+owner-code-at t =
+    and 1 owner-code-kinds.ps (is 1 owner-code-kinds.ps μ-owner-code t) owner-code.Pre
+
+abbrev owner-code-below : ℕ → In 1 owner-code-kinds.ps
+owner-code-below t =
+    and 1 owner-code-kinds.ps (falls 1 owner-code-kinds.ps _<_ μ-owner-code t) owner-code.Pre
+
+abbrev owner-code-claims : ℕ → owner-code-lts.Claims
+owner-code-claims t = (node-at-reads.Asked, node-at-reads.Learnt, field-owner-reads.Asked, field-owner-reads.Learnt, place-code-reads.Asked, place-code-reads.Learnt, name-code-reads.Asked, name-code-reads.Learnt, parameter-code-reads.Asked, parameter-code-reads.Learnt, owner-code-below t, owner-code.Post, parts-code-reads.Asked, parts-code-reads.Learnt)
+
+pub +owner-code-spec : {M : Type 1} → statement M
++owner-code-spec =
+    close μ-owner-code
+    (λ t. owner-code-lts.spec (owner-code-claims t) (owner-code-at t) owner-code.Post
+    (λ c κs. (c .before .pre .1 .1 .nearNodes, omega (arith, c .before .pre .1 .1 .fewNodes)))
+    (λ c κs. (c .before .node-at .ensures .smallArg, record { at = c .before .before .before .pre .1 .1 .fieldListed }))
+    (λ c κs. search needs)
+    (λ c κs. (c .before .node-at .ensures .smallArg, record { at = c .before .before .before .pre .1 .1 .fieldListed }))
+    (λ c κs. let less = key-below _ _ _ (c .before .before .before .before .pre .1 .1) _ (c .before .before .before .before .pre .1 .0) _ (c .before .before .node-at .ensures .same) (c .before .match .keys3) in
+    (omega arith, c .before .before .before .before .pre .1 .1))
+    (λ c κs. search needs)
+    (λ c κs. (c .before .before .before .pre .1 .1 .nearFunction, c .before .before .before .pre .1 .1 .fewParameters))
+    (λ c κs. let less = operands-below _ _ _ (c .before .before .before .pre .1 .1) _ (c .before .before .before .pre .1 .0) _ (c .before .node-at .ensures .same) (c .match .keys5) in
+    (omega arith, (omega arith, c .before .before .before .pre .1 .1)))
+    (λ c κs. let less = operands-below _ _ _ (c .before .before .before .before .pre .1 .1) _ (c .before .before .before .before .pre .1 .0) _ (c .before .before .node-at .ensures .same) (c .before .match .keys5) in
+    (omega arith, (omega arith, c .before .before .before .before .pre .1 .1)))
+    (λ c κs. search needs)
+    (λ c κs. let less = part-below _ _ _ (c .before .before .before .pre .1 .1) _ (c .before .before .before .pre .1 .0) _ (c .before .node-at .ensures .same) (c .match .keys6) in
+    (omega arith, (omega arith, c .before .before .before .pre .1 .1)))
+    (λ c κs. search needs)
+    (λ c. search needs)
+    (λ c. owned-constant _ _ _ _ (constant-is _ _ _ (c .before .before .before .pre .1 .1) _ (c .before .before .before .pre .1 .0) _ (c .before .node-at .ensures .same) (c .match .keys1)))
+    (λ c. owned-field _ _ _ _ _ (field-is _ _ _ (c .before .before .before .before .before .pre .1 .1) _ (c .before .before .before .before .before .pre .1 .0) _ (c .before .before .before .node-at .ensures .same) (c .before .before .match .keys2)) (c .before .field-owner .ensures) (c .place-code .ensures))
+    (λ c. owned-entry _ _ _ _ _ _ _ (entry-is _ _ _ (c .before .before .before .before .before .before .pre .1 .1) _ (c .before .before .before .before .before .before .pre .1 .0) _ (c .before .before .before .before .node-at .ensures .same) (c .before .before .before .match .keys3)) (c .before .before .field-owner2 .ensures) (c .before .name-code .ensures) (c .place-code2 .ensures))
+    (λ c. owned-parameter _ _ _ _ (parameter-is _ _ _ (c .before .before .before .before .pre .1 .1) _ (c .before .before .before .before .pre .1 .0) _ (c .before .before .node-at .ensures .same) (c .before .match .keys4)) (c .parameter-code .ensures))
+    (λ c. owned-operator _ _ _ _ _ _ _ _ (operator-is _ _ _ (c .before .before .before .before .before .before .pre .1 .1) _ (c .before .before .before .before .before .before .pre .1 .0) _ (c .before .before .before .before .node-at .ensures .same) (c .before .before .before .match .keys5)) (c .before .before .owner-code .ensures) (c .before .owner-code2 .ensures) (c .parts-code .ensures))
+    (λ c. owned-negation _ _ _ _ _ (negation-is _ _ _ (c .before .before .before .before .before .pre .1 .1) _ (c .before .before .before .before .before .pre .1 .0) _ (c .before .before .before .node-at .ensures .same) (c .before .before .match .keys6)) (c .before .owner-code3 .ensures) (c .parts-code2 .ensures))
+    (λ c. owned-reveal _ _ _ _ (reveal-is _ _ _ (c .before .before .before .before .pre .1 .1) _ (c .before .before .before .before .pre .1 .0) _ (c .before .before .node-at .ensures .same) (c .before .match .keys7)) (target-listed _ _ _ (c .before .before .before .before .pre .1 .1) _ (c .before .before .before .before .pre .1 .0) _ (c .before .before .node-at .ensures .same) (c .before .match .keys7)))
+    (λ c. let u = c .match .rest in
+    owned-me _ _ (other-is _ _ _ (c .before .before .before .pre .1 .1) _ (c .before .before .before .pre .1 .0) _ (c .before .node-at .ensures .same) (record { constant = u .0 .0 .0 .0 .0 .0 .1; field = u .0 .0 .0 .0 .0 .1; entry = u .0 .0 .0 .0 .1; parameter = u .0 .0 .0 .1; operator = u .0 .0 .1; negation = u .0 .1; reveal = u .1 }))))

@@ -1,0 +1,18 @@
+-- The target of a reveal in an accepted file is an owner code of the tables.
+use mathlib.Core.Path.{_≡_}
+use mathlib.Core.Bool.{true, _&&_}
+use mathlib.Core.List.{List}
+use Prim.Native.Nat.{ℕ, _+_, _*_, _<_}
+use Rattle.definitions.specs.Basics.{isZero}
+use Rattle.definitions.specs.ContractFile.{NodeRecord, nodeCount, nodeRecord, revealKind, kindOf}
+use Rattle.definitions.specs.Numbers.{kindInTables, targetInTables}
+use Rattle.theory_laws.proofs.TruthValues.{and-left}
+use Rattle.file_accepted.specs.Context.{Context}
+use Rattle.file_accepted.proofs.Nodes.{listed-is}
+
+pub target-listed : (file : List ℕ) (functionStart nodesStart : ℕ) (context : Context file functionStart nodesStart) (n : ℕ) (inside : n < nodeCount file) (r : NodeRecord)
+    (same : r ≡ nodeRecord file (nodesStart + 2 + 8 * n)) → r .kind ≡ 8 → targetInTables (r .arg) ≡ true
+unfolding kindInTables kindOf
+target-listed file functionStart nodesStart context n inside r same e =
+    let h = listed-is file functionStart nodesStart context n inside r same revealKind (rw e) in
+    and-left (targetInTables (r .arg)) (isZero (r .second)) (and-left (targetInTables (r .arg) && isZero (r .second)) (isZero (r .third)) h)

@@ -1,0 +1,149 @@
+// 01, Owners: the owner codes of fields, parameters, names and expressions, read from the file.
+use file_bytes::byte_at;
+use file_bytes::node_at;
+ghost use mathlib.Core.Path.{_≡_};
+ghost use mathlib.Core.Bool.{cond};
+ghost use mathlib.Core.Option.{none, some};
+ghost use Prim.Native.Nat.{_<_, _≤_};
+ghost use Rattle.definitions.specs.ContractFile.{finalName, parameterName, fieldAt, parameterAt, isFinal, byteAt, fieldCount, nodeCount, ownerCode, fieldOwnerCode};
+ghost use Rattle.definitions.specs.Owners.{nameOf, ownerOf, isPublicAddress, parameterOwner, isPublic};
+ghost use Rattle.theory_trees.specs.Trees.{expressionIn};
+ghost use Rattle.file_accepted.specs.Context.{Context, nodesIn, fieldsIn, parametersIn, scopeIn};
+ghost use Rattle.rewrite_owners.specs.Codes.{nameCode, partsCode, placeCode, FieldsListed};
+
+// The owner code that field f declares; a field that is missing belongs to all.
+pub fn field_owner(file: &[u8], f: usize) -> u8
+    requires { ⌜ (f ≤ 255) × (FieldsListed (now file)) ⌝ }
+    ensures { λ r. ⌜ r ≡ fieldOwnerCode ((fieldAt (fieldsIn (now (file .entry))) f) .owner) ⌝ }
+{
+    if f < byte_at(file, 0) {
+        byte_at(file, 1 + 3 * f + 2) as u8
+    } else {
+        0
+    }
+}
+
+// The name code of field f: its own if it is final.
+fn final_code(file: &[u8], f: usize) -> u8
+    requires { ⌜ fieldCount (now file) ≤ 64 ⌝ }
+    ensures { λ r. ⌜ r ≡ nameCode (cond (isFinal ((fieldAt (fieldsIn (now (file .entry))) f) .shape)) (some (finalName f)) none) ⌝ }
+{
+    if f < byte_at(file, 0) {
+        if byte_at(file, 1 + 3 * f) == 1 {
+            (16 + f) as u8
+        } else {
+            0
+        }
+    } else {
+        0
+    }
+}
+
+// The name code of parameter k: its own if it is a public address.
+fn address_code(file: &[u8], function_at: usize, k: usize) -> u8
+    requires { ⌜ («function_at» ≤ 200000) × (byteAt (now file) «function_at» ≤ 8) ⌝ }
+    ensures { λ r. ⌜ r ≡ nameCode (cond (isPublicAddress (parameterAt (parametersIn (now (file .entry)) «function_at») k)) (some (parameterName k)) none) ⌝ }
+{
+    if k < byte_at(file, function_at) {
+        let kind = byte_at(file, function_at + 1 + 2 * k);
+        let owner = byte_at(file, function_at + 1 + 2 * k + 1);
+        if kind < 2 {
+            0
+        } else if owner == 0 {
+            (128 + k) as u8
+        } else {
+            0
+        }
+    } else {
+        0
+    }
+}
+
+// The owner code of parameter k; one that is missing reads as private.
+pub fn parameter_code(file: &[u8], function_at: usize, k: usize) -> u8
+    requires { ⌜ («function_at» ≤ 200000) × (byteAt (now file) «function_at» ≤ 8) ⌝ }
+    ensures { λ r. ⌜ r ≡ ownerCode (parameterOwner (parameterAt (parametersIn (now (file .entry)) «function_at») k)) ⌝ }
+{
+    if k < byte_at(file, function_at) {
+        if byte_at(file, function_at + 1 + 2 * k + 1) == 0 {
+            0
+        } else {
+            1
+        }
+    } else {
+        1
+    }
+}
+
+fn parts_code(left: u8, right: u8) -> u8
+    ensures { λ r. ⌜ r ≡ partsCode left right ⌝ }
+{
+    if left == 0 {
+        if right == 0 { 0 } else { 1 }
+    } else {
+        1
+    }
+}
+
+pub fn place_code(owner: u8, key: u8) -> u8
+    ensures { λ r. ⌜ r ≡ placeCode owner key ⌝ }
+{
+    if owner == 2 {
+        if key == 0 { 1 } else { key }
+    } else {
+        owner
+    }
+}
+
+// The name code of node n.
+pub fn name_code(file: &[u8], function_at: usize, nodes_at: usize, n: usize) -> u8
+    requires { ⌜ (n < nodeCount (now file)) × (Context (now file) «function_at» «nodes_at») ⌝ }
+    ensures { λ r. ⌜ r ≡ nameCode (nameOf (scopeIn (now (file .entry)) «function_at») (expressionIn (nodesIn (now (file .entry))) n)) ⌝ }
+{
+    let node = node_at(file, nodes_at, n);
+    let kind = node.kind;
+    match kind {
+        1 => 0,
+        3 => final_code(file, node.arg),
+        4 => 0,
+        5 => address_code(file, function_at, node.arg),
+        6 => 0,
+        7 => 0,
+        8 => 0,
+        _ => 1,
+    }
+}
+
+// The owner code of node n.
+pub fn owner_code(file: &[u8], function_at: usize, nodes_at: usize, n: usize) -> u8
+    requires { ⌜ (n < nodeCount (now file)) × (Context (now file) «function_at» «nodes_at») ⌝ }
+    ensures { λ r. ⌜ r ≡ ownerCode (ownerOf (scopeIn (now (file .entry)) «function_at») (expressionIn (nodesIn (now (file .entry))) n)) ⌝ }
+{
+    let node = node_at(file, nodes_at, n);
+    let kind = node.kind;
+    match kind {
+        1 => 0,
+        3 => place_code(field_owner(file, node.arg), 0),
+        4 => place_code(
+            field_owner(file, node.arg),
+            name_code(file, function_at, nodes_at, node.first),
+        ),
+        5 => parameter_code(file, function_at, node.arg),
+        6 => {
+            let left = owner_code(file, function_at, nodes_at, node.first);
+            let right = owner_code(file, function_at, nodes_at, node.second);
+            parts_code(left, right)
+        }
+        7 => parts_code(owner_code(file, function_at, nodes_at, node.first), 0),
+        8 => node.arg as u8,
+        _ => 0,
+    }
+}
+
+// Whether node n belongs to all.
+pub fn is_public(file: &[u8], function_at: usize, nodes_at: usize, n: usize) -> bool
+    requires { ⌜ (n < nodeCount (now file)) × (Context (now file) «function_at» «nodes_at») ⌝ }
+    ensures { λ r. ⌜ r ≡ isPublic (scopeIn (now (file .entry)) «function_at») (expressionIn (nodesIn (now (file .entry))) n) ⌝ }
+{
+    owner_code(file, function_at, nodes_at, n) == 0
+}

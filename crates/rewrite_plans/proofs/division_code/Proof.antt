@@ -1,0 +1,8 @@
+-- A public division is read.
+use Rattle.rewrite_plans.proofs.Laws.{division-read, division-not, division-private}
+use borrow.Author.Needs.{needs}
+use Rattle.rewrite_plans.proofs.division_code.Statement.{statement}
+use Rattle.rewrite_plans.proofs.division_code.Tie as tie
+
+pub division-code-spec : {M : Type 1} → statement M
+division-code-spec = tie.close (tie.spec (λ c κs. search needs) (λ c. division-read _ _ _ (c .before .is-division .ensures) (c .before .before .if1 .taken) (c .if2 .taken)) (λ c. division-not _ _ _ (c .before .is-division .ensures) (c .before .before .if1 .taken) (c .if2 .left)) (λ c. division-private _ _ (c .if1 .left)))

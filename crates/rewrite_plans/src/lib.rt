@@ -1,0 +1,89 @@
+// What rewriting does with a node: whether it is supplied in the body, read in a circuit, and which parts it has.
+use file_bytes::node_at;
+use rewrite_owners::owner_code;
+use rules_codes::is_division;
+ghost use mathlib.Core.Path.{_≡_};
+ghost use mathlib.Core.Bool.{cond, _&&_};
+ghost use Prim.Native.Nat.{_<_};
+ghost use lib.Dec.{eqb};
+ghost use Rattle.definitions.specs.ContractFile.{isDivision, nodeCount, operatorOf};
+ghost use Rattle.file_accepted.specs.Context.{Context, scopeIn};
+ghost use Rattle.rewrite_plans.specs.Plans.{nodeExpression, SuppliedCode, ReadCode, PartsOf};
+
+// How many parts a node has, and their numbers.
+pub struct Parts {
+    pub count: usize,
+    pub first: usize,
+    pub second: usize,
+}
+
+// 2 for a private operator or not, which is supplied for the caller; 0 for a public one.
+fn private_code(owner: usize) -> usize
+    ensures { λ r. ⌜ r ≡ cond (eqb owner 0) 0 2 ⌝ }
+{
+    if owner == 0 { 0 } else { 2 }
+}
+
+// 1 for a public division, which a circuit reads; 0 for any other operator.
+fn division_code(operator: u8, owner: usize) -> usize
+    ensures { λ r. ⌜ r ≡ cond (eqb owner 0 && isDivision (operatorOf operator)) 1 0 ⌝ }
+{
+    if owner == 0 {
+        if is_division(operator) { 1 } else { 0 }
+    } else {
+        0
+    }
+}
+
+// 0 where the body keeps node n; otherwise 1 + the code of the owner that it is supplied for.
+pub fn supplied_code(file: &[u8], function_at: usize, nodes_at: usize, n: usize) -> usize
+    requires { ⌜ (n < nodeCount (now file)) × (Context (now file) «function_at» «nodes_at») ⌝ }
+    ensures { λ r. ⌜ SuppliedCode (scopeIn (now (file .entry)) «function_at») (nodeExpression (now (file .entry)) n) r ⌝ }
+{
+    let node = node_at(file, nodes_at, n);
+    let kind = node.kind;
+    let owner = owner_code(file, function_at, nodes_at, n) as usize;
+    match kind {
+        6 => private_code(owner),
+        7 => private_code(owner),
+        8 => owner + 1,
+        _ => 0,
+    }
+}
+
+// 0 where a circuit keeps node n; otherwise 1 + the code of the owner that it is read of.
+pub fn read_code(file: &[u8], function_at: usize, nodes_at: usize, n: usize) -> usize
+    requires { ⌜ (n < nodeCount (now file)) × (Context (now file) «function_at» «nodes_at») ⌝ }
+    ensures { λ r. ⌜ ReadCode (scopeIn (now (file .entry)) «function_at») (nodeExpression (now (file .entry)) n) r ⌝ }
+{
+    let node = node_at(file, nodes_at, n);
+    let kind = node.kind;
+    let owner = owner_code(file, function_at, nodes_at, n) as usize;
+    match kind {
+        3 => owner + 1,
+        4 => owner + 1,
+        5 => owner + 1,
+        6 => division_code(node.arg as u8, owner),
+        _ => 0,
+    }
+}
+
+pub fn parts_of(file: &[u8], function_at: usize, nodes_at: usize, n: usize) -> Parts
+    requires { ⌜ (n < nodeCount (now file)) × (Context (now file) «function_at» «nodes_at») ⌝ }
+    ensures { λ r. ⌜ PartsOf (now (file .entry)) n r ⌝ }
+{
+    let node = node_at(file, nodes_at, n);
+    let kind = node.kind;
+    let count = match kind {
+        4 => 1,
+        6 => 2,
+        7 => 1,
+        8 => 1,
+        _ => 0,
+    };
+    Parts {
+        count: count,
+        first: node.first,
+        second: node.second,
+    }
+}

@@ -1,0 +1,100 @@
+-- Statements by the kind of their node, and branches: the node number falls.
+use mathlib.Core.Path.{_∙_}
+use native.Mathlib.Omega.{arith}
+use Prim.Native.Nat.{_+_, _*_}
+use Rattle.rewrite_statements.proofs.Statements.{still-logged, steps-less, first-ready, second-ready, sequence-logged, assign-field-ready, assign-field-logged, entry-value-inside, assign-entry-ready, assign-entry-logged, require-ready, require-logged, branches-less, condition-ready, then-ready, else-ready, conditional-logged, guard-slot, guard-small, inside-ready, branch-done}
+use Prim.Native.Nat.{ℕ, _<_}
+use borrow.Fn.Kinds.{In}
+use borrow.Fn.PlainCycle.{Measures, is, falls, and}
+use Rattle.rewrite_statements.proofs.branch_log.Reads as branch-log
+use Rattle.rewrite_statements.proofs.branch_log.Kinds as branch-log-kinds
+use Rattle.rewrite_statements.proofs.+branch_log+statement_log.Lts-branch_log as branch-log-lts
+use Rattle.rewrite_statements.proofs.statement_log.Reads as statement-log
+use Rattle.rewrite_statements.proofs.statement_log.Kinds as statement-log-kinds
+use Rattle.rewrite_statements.proofs.+branch_log+statement_log.Lts-statement_log as statement-log-lts
+use Rattle.rewrite_log.proofs.log_entry.Reads as log-entry-reads
+use Rattle.file_bytes.proofs.node_at.Reads as node-at-reads
+use Rattle.rewrite_expressions.proofs.body_log.Reads as body-log-reads
+use Rattle.rewrite_statements.proofs.assign_entry_log.Reads as assign-entry-log-reads
+use Rattle.rewrite_statements.proofs.assign_field_log.Reads as assign-field-log-reads
+use Rattle.rewrite_statements.proofs.+branch_log+statement_log.{statement}
+use Rattle.rewrite_statements.proofs.+branch_log+statement_log.Tie.{close}
+
+abbrev μ-branch-log : Measures 2 branch-log-kinds.ps ℕ
+μ-branch-log κs a = 2 * a .1 .1 .1 .0 + 1
+
+abbrev μ-statement-log : Measures 2 statement-log-kinds.ps ℕ
+μ-statement-log κs a = 2 * a .1 .1 .1 .0
+
+abbrev branch-log-at : ℕ → In 2 branch-log-kinds.ps
+branch-log-at t =
+    and 2 branch-log-kinds.ps (is 2 branch-log-kinds.ps μ-branch-log t) branch-log.Pre
+
+abbrev branch-log-below : ℕ → In 2 branch-log-kinds.ps
+branch-log-below t =
+    and 2 branch-log-kinds.ps (falls 2 branch-log-kinds.ps _<_ μ-branch-log t) branch-log.Pre
+
+abbrev statement-log-at : ℕ → In 2 statement-log-kinds.ps
+statement-log-at t =
+    and 2 statement-log-kinds.ps (is 2 statement-log-kinds.ps μ-statement-log t) statement-log.Pre
+
+abbrev statement-log-below : ℕ → In 2 statement-log-kinds.ps
+statement-log-below t =
+    and
+    2
+    statement-log-kinds.ps
+    (falls 2 statement-log-kinds.ps _<_ μ-statement-log t)
+    statement-log.Pre
+
+pub +branch-log+statement-log-spec : {M : Type 1} → statement M
++branch-log+statement-log-spec = close μ-branch-log μ-statement-log (λ t. branch-log-lts.spec (
+  log-entry-reads.Asked,
+  log-entry-reads.Learnt,
+  statement-log-below t,
+  statement-log.Post,
+)
+    (branch-log-at t)
+    branch-log.Post
+    (λ c κs. (guard-slot _ _ _ _ _ _ (c .before .before .before .pre .1), guard-small _ _ _ _ _ _ (c .before .before .before .pre .1)))
+    (λ c. omega (arith, guard-slot _ _ _ _ _ _ (c .before .before .before .before .before .before .pre .1) .few))
+    (λ c. omega (arith, guard-slot _ _ _ _ _ _ (c .before .before .before .before .before .before .pre .1) .few))
+    (λ c κs. (omega arith, inside-ready _ _ _ _ _ _ (c .before .before .before .before .before .before .before .pre .1) _ _ (c .before .before .before .log-entry .ensures)))
+    (λ c. c .before .before .statement-log .kept .1 .1 .1 .1 .1 .0 ∙ c .before .before .before .before .before .before .log-entry .kept .0)
+    (λ c. branch-done _ _ _ _ _ _ (c .before .before .before .before .before .before .before .before .before .before .pre .1) _ _ (c .before .before .before .before .before .before .log-entry .ensures) _ _ (c .before .before .statement-log .ensures)))
+    λ t. statement-log-lts.spec (
+      node-at-reads.Asked,
+      node-at-reads.Learnt,
+      statement-log-below t,
+      statement-log.Post,
+      assign-field-log-reads.Asked,
+      assign-field-log-reads.Learnt,
+      assign-entry-log-reads.Asked,
+      assign-entry-log-reads.Learnt,
+      body-log-reads.Asked,
+      body-log-reads.Learnt,
+      branch-log-below t,
+      branch-log.Post,
+    )
+    (statement-log-at t)
+    statement-log.Post
+    (λ c κs. (c .before .before .pre .1 .context .nearNodes, omega (arith, c .before .before .pre .1 .inside, c .before .before .pre .1 .context .fewNodes)))
+    (λ c κs. let less = steps-less _ _ _ (c .before .before .before .before .before .args .guard) _ _ _ (c .before .before .before .before .before .pre .1) _ (c .before .before .node-at .ensures .same) (c .before .match .keys1) in (omega arith, first-ready _ _ _ (c .before .before .before .before .before .args .guard) _ _ _ (c .before .before .before .before .before .pre .1) _ (c .before .before .node-at .ensures .same) (c .before .match .keys1)))
+    (λ c κs. let less = steps-less _ _ _ (c .before .before .before .before .before .before .before .before .before .args .guard) _ _ _ (c .before .before .before .before .before .before .before .before .before .pre .1) _ (c .before .before .before .before .before .before .node-at .ensures .same) (c .before .before .before .before .before .match .keys1) in (omega arith, second-ready _ _ _ (c .before .before .before .before .before .before .before .before .before .args .guard) _ _ _ (c .before .before .before .before .before .before .before .before .before .pre .1) _ (c .before .before .before .before .before .before .node-at .ensures .same) (c .before .before .before .before .before .match .keys1) _ _ (c .before .before .before .statement-log .ensures)))
+    (λ c κs. (c .before .before .node-at .ensures .smallArg, assign-field-ready _ _ _ (c .before .before .before .before .before .args .guard) _ _ _ (c .before .before .before .before .before .pre .1) _ (c .before .before .node-at .ensures .same) (c .before .match .keys2)))
+    (λ c κs. ((c .before .before .node-at .ensures .smallArg, entry-value-inside _ _ _ (c .before .before .before .before .before .args .guard) _ _ _ (c .before .before .before .before .before .pre .1) _ (c .before .before .node-at .ensures .same) (c .before .match .keys3)), assign-entry-ready _ _ _ (c .before .before .before .before .before .args .guard) _ _ _ (c .before .before .before .before .before .pre .1) _ (c .before .before .node-at .ensures .same) (c .before .match .keys3)))
+    (λ c κs. require-ready _ _ _ (c .before .before .before .before .before .args .guard) _ _ _ (c .before .before .before .before .before .pre .1) _ (c .before .before .node-at .ensures .same) (c .before .match .keys4))
+    (λ c κs. condition-ready _ _ _ (c .before .before .before .before .before .args .guard) _ _ _ (c .before .before .before .before .before .pre .1) _ (c .before .before .node-at .ensures .same) (c .before .match .keys5))
+    (λ c κs. let less = branches-less _ _ _ (c .before .before .before .before .before .before .before .before .before .args .guard) _ _ _ (c .before .before .before .before .before .before .before .before .before .pre .1) _ (c .before .before .before .before .before .before .node-at .ensures .same) (c .before .before .before .before .before .match .keys5) in (omega arith, then-ready _ _ _ (c .before .before .before .before .before .before .before .before .before .args .guard) _ _ _ (c .before .before .before .before .before .before .before .before .before .pre .1) _ (c .before .before .before .before .before .before .node-at .ensures .same) (c .before .before .before .before .before .match .keys5) _ _ (c .before .before .before .body-log2 .ensures)))
+    (λ c κs. let less = branches-less _ _ _ (c .before .before .before .before .before .before .before .before .before .before .before .before .before .args .guard) _ _ _ (c .before .before .before .before .before .before .before .before .before .before .before .before .before .pre .1) _ (c .before .before .before .before .before .before .before .before .before .before .node-at .ensures .same) (c .before .before .before .before .before .before .before .before .before .match .keys5) in (omega arith, else-ready _ _ _ (c .before .before .before .before .before .before .before .before .before .before .before .before .before .args .guard) _ _ _ (c .before .before .before .before .before .before .before .before .before .before .before .before .before .pre .1) _ (c .before .before .before .before .before .before .before .before .before .before .node-at .ensures .same) (c .before .before .before .before .before .before .before .before .before .match .keys5) _ _ (c .before .before .before .before .before .before .before .body-log2 .ensures) _ _ (c .before .before .before .branch-log .ensures)))
+    (λ c. c .before .before .statement-log2 .kept .1 .1 .1 .1 .1 .0 ∙ c .before .before .before .before .before .before .statement-log .kept .1 .1 .1 .1 .1 .0)
+    (λ c. sequence-logged _ _ _ (c .before .before .before .before .before .before .before .before .before .before .before .before .args .guard) _ _ _ (c .before .before .before .before .before .before .before .before .before .before .before .before .pre .1) _ (c .before .before .before .before .before .before .before .before .before .node-at .ensures .same) (c .before .before .before .before .before .before .before .before .match .keys1) _ _ (c .before .before .before .before .before .before .statement-log .ensures) _ _ (c .before .before .statement-log2 .ensures))
+    (λ c. c .before .before .assign-field-log .kept .1 .1 .1 .1 .1 .1 .0)
+    (λ c. assign-field-logged _ _ _ (c .before .before .before .before .before .before .before .before .args .guard) _ _ _ (c .before .before .before .before .before .before .before .before .pre .1) _ (c .before .before .before .before .before .node-at .ensures .same) (c .before .before .before .before .match .keys2) _ _ (c .before .before .assign-field-log .ensures))
+    (λ c. c .before .before .assign-entry-log .kept .1 .1 .1 .1 .1 .1 .1 .0)
+    (λ c. assign-entry-logged _ _ _ (c .before .before .before .before .before .before .before .before .args .guard) _ _ _ (c .before .before .before .before .before .before .before .before .pre .1) _ (c .before .before .before .before .before .node-at .ensures .same) (c .before .before .before .before .match .keys3) _ _ (c .before .before .assign-entry-log .ensures))
+    (λ c. c .before .before .body-log .kept .1 .1 .1 .1 .1 .0)
+    (λ c. require-logged _ _ _ (c .before .before .before .before .before .before .before .before .args .guard) _ _ _ (c .before .before .before .before .before .before .before .before .pre .1) _ (c .before .before .before .before .before .node-at .ensures .same) (c .before .before .before .before .match .keys4) _ _ (c .before .before .body-log .ensures))
+    (λ c. c .before .before .branch-log2 .kept .1 .1 .1 .1 .0 ∙ c .before .before .before .before .before .before .branch-log .kept .1 .1 .1 .1 .0 ∙ c .before .before .before .before .before .before .before .before .before .before .body-log2 .kept .1 .1 .1 .1 .1 .0)
+    (λ c. conditional-logged _ _ _ (c .before .before .before .before .before .before .before .before .before .before .before .before .before .before .before .before .args .guard) _ _ _ (c .before .before .before .before .before .before .before .before .before .before .before .before .before .before .before .before .pre .1) _ (c .before .before .before .before .before .before .before .before .before .before .before .before .before .node-at .ensures .same) (c .before .before .before .before .before .before .before .before .before .before .before .before .match .keys5) _ _ (c .before .before .before .before .before .before .before .before .before .before .body-log2 .ensures) _ _ (c .before .before .before .before .before .before .branch-log .ensures) _ _ (c .before .before .branch-log2 .ensures))
+    (λ c. let u = c .match .rest in
+    still-logged _ _ _ (c .before .before .before .before .args .guard) _ _ _ (c .before .before .before .before .pre .1) _ (c .before .node-at .ensures .same) (record { sequence = u .0 .0 .0 .0 .1; assignField = u .0 .0 .0 .1; assignEntry = u .0 .0 .1; require = u .0 .1; conditional = u .1 }))

@@ -1,0 +1,155 @@
+-- The log of a statement, by the kind of its node's record, from the logs of its parts.
+use mathlib.Core.Path.{_≡_, ap, sym, subst}
+use mathlib.Core.List.{List}
+use Prim.Native.Nat.{ℕ, _+_, _*_, _<_}
+use native.Mathlib.Omega.{arith}
+use Rattle.definitions.specs.ContractFile.{Statement, NodeRecord, nodeCount, nodeRecord}
+use Rattle.theory_trees.specs.Trees.{statementIn}
+use Rattle.file_accepted.specs.Context.{nodesIn, scopeIn}
+use Rattle.file_accepted.proofs.Statements.{Still, still-is, sequence-is, assign-field-is, assign-entry-is, require-is, conditional-is, steps-below, value-below, key-and-value-below, required-below, branches-below}
+use Rattle.rewrite_events.specs.Events.{Events, noEvents, inTurn, statementEvents}
+use Rattle.rewrite_log.specs.declared.Position.{Position}
+use Rattle.rewrite_log.specs.Entries.{guardOf, five}
+use Rattle.rewrite_log.specs.Logs.{Slot, Wrote, Room, Logged, SmallEntry}
+use Rattle.rewrite_log.proofs.Laws.{nothing-logged}
+use Rattle.rewrite_log.proofs.Turns.{turn-first, turn-second, turn-logged, branch-slot, branch-inside, branch-logged}
+use Rattle.rewrite_expressions.specs.Translations.{bodyOf, statementOf, Ready}
+use Rattle.rewrite_statements.specs.Placing.{assignFieldOf, assignEntryOf, branchOf}
+
+module _ (file : List ℕ) (functionStart nodesStart guard : ℕ) (n : ℕ) (before : List ℕ) (p : Position)
+    (ready : Ready file functionStart nodesStart n before p (statementOf file functionStart guard n)) (r : NodeRecord) (same : r ≡ nodeRecord file (nodesStart + 2 + 8 * n)) where
+  abbrev whole : Events
+  whole = statementOf file functionStart guard n
+
+  logged-as : (after : List ℕ) (q : Position) (events : Events) → whole ≡ events → Logged (nodesIn file) before after p q (events (p .variable))
+      → Logged (nodesIn file) before after p q (whole (p .variable))
+  logged-as after q events e h = subst (λ (x : Events). Logged (nodesIn file) before after p q (x (p .variable))) (sym e) h
+
+  room-as : (events : Events) → whole ≡ events → Room before p (events (p .variable))
+  room-as events e = subst (λ (x : Events). Room before p (x (p .variable))) e (ready .room)
+
+  part : (m : ℕ) (log : List ℕ) (q : Position) (events : Events) → m < n → Room log q (events (q .variable)) → Ready file functionStart nodesStart m log q events
+  part m log q events less room = record { inside = omega (arith, ready .inside); context = ready .context; room = room }
+
+  statement-as : (s : Statement) → statementIn (nodesIn file) n ≡ s → whole ≡ statementEvents (scopeIn file functionStart) s (guardOf guard)
+  statement-as s e = ap (λ (x : Statement). statementEvents (scopeIn file functionStart) x (guardOf guard)) e
+
+  pub still-logged : Still (r .kind) → Logged (nodesIn file) before before p p (whole (p .variable))
+  unfolding statementEvents noEvents
+  still-logged k =
+      logged-as before p noEvents (statement-as _ (still-is file functionStart nodesStart (ready .context) n (ready .inside) r same k)) (nothing-logged (nodesIn file) before p)
+
+  module _ (k : r .kind ≡ 17) where
+    sequence-events : whole ≡ inTurn (statementOf file functionStart guard (r .first)) (statementOf file functionStart guard (r .second))
+    unfolding statementEvents
+    sequence-events = statement-as _ (sequence-is file functionStart nodesStart (ready .context) n (ready .inside) r same k)
+
+    pub steps-less : (r .first < n) × (r .second < n)
+    steps-less = steps-below file functionStart nodesStart (ready .context) n (ready .inside) r same k
+
+    pub first-ready : Ready file functionStart nodesStart (r .first) before p (statementOf file functionStart guard (r .first))
+    first-ready = part (r .first) before p (statementOf file functionStart guard (r .first)) (steps-less .0) (turn-first (nodesIn file) before before p p _ (statementOf file functionStart guard (r .second)) (room-as _ sequence-events))
+
+    module _ (middle : List ℕ) (q : Position) (logged : Logged (nodesIn file) before middle p q (statementOf file functionStart guard (r .first) (p .variable))) where
+      pub second-ready : Ready file functionStart nodesStart (r .second) middle q (statementOf file functionStart guard (r .second))
+      second-ready = part (r .second) middle q (statementOf file functionStart guard (r .second)) (steps-less .1) (turn-second (nodesIn file) before middle p q (statementOf file functionStart guard (r .first)) (statementOf file functionStart guard (r .second)) (room-as _ sequence-events) logged)
+
+      pub sequence-logged : (after : List ℕ) (s : Position) → Logged (nodesIn file) middle after q s (statementOf file functionStart guard (r .second) (q .variable))
+          → Logged (nodesIn file) before after p s (whole (p .variable))
+      sequence-logged after s h =
+          logged-as after s _ sequence-events
+          (turn-logged (nodesIn file) before middle p q (statementOf file functionStart guard (r .first)) (statementOf file functionStart guard (r .second)) (room-as _ sequence-events) after s logged h)
+
+  module _ (k : r .kind ≡ 18) where
+    assign-field-events : whole ≡ assignFieldOf file functionStart guard (r .arg) (r .first)
+    unfolding statementEvents
+    assign-field-events = statement-as _ (assign-field-is file functionStart nodesStart (ready .context) n (ready .inside) r same k)
+
+    pub assign-field-ready : Ready file functionStart nodesStart (r .first) before p (assignFieldOf file functionStart guard (r .arg) (r .first))
+    assign-field-ready = part (r .first) before p (assignFieldOf file functionStart guard (r .arg) (r .first)) (value-below file functionStart nodesStart (ready .context) n (ready .inside) r same k) (room-as _ assign-field-events)
+
+    pub assign-field-logged : (after : List ℕ) (q : Position) → Logged (nodesIn file) before after p q (assignFieldOf file functionStart guard (r .arg) (r .first) (p .variable))
+        → Logged (nodesIn file) before after p q (whole (p .variable))
+    assign-field-logged after q h = logged-as after q (assignFieldOf file functionStart guard (r .arg) (r .first)) assign-field-events h
+
+  module _ (k : r .kind ≡ 19) where
+    assign-entry-events : whole ≡ assignEntryOf file functionStart guard (r .arg) (r .first) (r .second)
+    unfolding statementEvents
+    assign-entry-events = statement-as _ (assign-entry-is file functionStart nodesStart (ready .context) n (ready .inside) r same k)
+
+    pub entry-value-inside : r .second < nodeCount file
+    entry-value-inside = let less = key-and-value-below file functionStart nodesStart (ready .context) n (ready .inside) r same k .1 in omega (arith, ready .inside)
+
+    pub assign-entry-ready : Ready file functionStart nodesStart (r .first) before p (assignEntryOf file functionStart guard (r .arg) (r .first) (r .second))
+    assign-entry-ready = part (r .first) before p (assignEntryOf file functionStart guard (r .arg) (r .first) (r .second)) (key-and-value-below file functionStart nodesStart (ready .context) n (ready .inside) r same k .0) (room-as _ assign-entry-events)
+
+    pub assign-entry-logged : (after : List ℕ) (q : Position) → Logged (nodesIn file) before after p q (assignEntryOf file functionStart guard (r .arg) (r .first) (r .second) (p .variable))
+        → Logged (nodesIn file) before after p q (whole (p .variable))
+    assign-entry-logged after q h = logged-as after q (assignEntryOf file functionStart guard (r .arg) (r .first) (r .second)) assign-entry-events h
+
+  module _ (k : r .kind ≡ 20) where
+    require-events : whole ≡ bodyOf file functionStart guard (r .first)
+    unfolding statementEvents
+    require-events = statement-as _ (require-is file functionStart nodesStart (ready .context) n (ready .inside) r same k)
+
+    pub require-ready : Ready file functionStart nodesStart (r .first) before p (bodyOf file functionStart guard (r .first))
+    require-ready = part (r .first) before p (bodyOf file functionStart guard (r .first)) (required-below file functionStart nodesStart (ready .context) n (ready .inside) r same k) (room-as _ require-events)
+
+    pub require-logged : (after : List ℕ) (q : Position) → Logged (nodesIn file) before after p q (bodyOf file functionStart guard (r .first) (p .variable))
+        → Logged (nodesIn file) before after p q (whole (p .variable))
+    require-logged after q h = logged-as after q (bodyOf file functionStart guard (r .first)) require-events h
+
+  module _ (k : r .kind ≡ 21) where
+    abbrev condition : Events
+    condition = bodyOf file functionStart guard (r .first)
+
+    abbrev then : Events
+    then = branchOf file functionStart (r .second)
+
+    abbrev else : Events
+    else = branchOf file functionStart (r .third)
+
+    conditional-events : whole ≡ inTurn condition (inTurn then else)
+    unfolding statementEvents
+    conditional-events = statement-as _ (conditional-is file functionStart nodesStart (ready .context) n (ready .inside) r same k)
+
+    pub branches-less : (r .first < n) × ((r .second < n) × (r .third < n))
+    branches-less = branches-below file functionStart nodesStart (ready .context) n (ready .inside) r same k
+
+    pub condition-ready : Ready file functionStart nodesStart (r .first) before p condition
+    condition-ready = part (r .first) before p condition (branches-less .0) (turn-first (nodesIn file) before before p p condition (inTurn then else) (room-as _ conditional-events))
+
+    module _ (first : List ℕ) (q : Position) (logged : Logged (nodesIn file) before first p q (condition (p .variable))) where
+      both-room : Room first q (inTurn then else (q .variable))
+      both-room = turn-second (nodesIn file) before first p q condition (inTurn then else) (room-as _ conditional-events) logged
+
+      pub then-ready : Ready file functionStart nodesStart (r .second) first q then
+      then-ready = part (r .second) first q then (branches-less .1 .0) (turn-first (nodesIn file) first first q q then else both-room)
+
+      module _ (second : List ℕ) (s : Position) (chosen : Logged (nodesIn file) first second q s (then (q .variable))) where
+        pub else-ready : Ready file functionStart nodesStart (r .third) second s else
+        else-ready = part (r .third) second s else (branches-less .1 .1) (turn-second (nodesIn file) first second q s then else both-room chosen)
+
+        pub conditional-logged : (after : List ℕ) (t : Position) → Logged (nodesIn file) second after s t (else (s .variable))
+            → Logged (nodesIn file) before after p t (whole (p .variable))
+        conditional-logged after t h =
+            logged-as after t (inTurn condition (inTurn then else)) conditional-events
+            (turn-logged (nodesIn file) before first p q condition (inTurn then else) (room-as _ conditional-events) after t logged
+            (turn-logged (nodesIn file) first second q s then else both-room after t chosen h))
+
+module _ (file : List ℕ) (functionStart nodesStart n : ℕ) (before : List ℕ) (p : Position) (ready : Ready file functionStart nodesStart n before p (branchOf file functionStart n)) where
+  pub guard-slot : Slot before p 1
+  guard-slot = branch-slot (nodesIn file) _ before before p p (ready .room)
+
+  pub guard-small : SmallEntry (record { tag = 3; variable = p .variable; owner = 0; node = 0; last = 0 })
+  guard-small =
+      record { tag = omega arith; variable = omega (arith, guard-slot .few); owner = omega arith; node = omega arith; last = omega arith }
+
+  module _ (middle : List ℕ) (q : Position) (wrote : Wrote before middle p q (five 3 (p .variable) 0 0 0) 1) where
+    pub inside-ready : Ready file functionStart nodesStart n middle q (statementOf file functionStart (p .variable + 1) n)
+    inside-ready =
+        record { inside = ready .inside; context = ready .context; room = branch-inside (nodesIn file) (statementEvents (scopeIn file functionStart) _) before middle p q (ready .room) wrote }
+
+    pub branch-done : (after : List ℕ) (r : Position) → Logged (nodesIn file) middle after q r (statementOf file functionStart (p .variable + 1) n (q .variable))
+        → Logged (nodesIn file) before after p r (branchOf file functionStart n (p .variable))
+    branch-done after r h = branch-logged (nodesIn file) _ before middle p q (ready .room) wrote after r h

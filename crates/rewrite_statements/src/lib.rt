@@ -1,0 +1,184 @@
+// The events of a function's statements, logged in their order.
+use file_bytes::function_end;
+use file_bytes::node_at;
+use file_bytes::two_bytes_at;
+use rewrite_expressions::body_log;
+use rewrite_expressions::supply_log;
+use rewrite_log::Entry;
+use rewrite_log::Position;
+use rewrite_log::log_entry;
+use rewrite_owners::field_owner;
+use rewrite_owners::is_public;
+use rewrite_owners::name_code;
+use rewrite_owners::place_code;
+ghost use Prim.Native.Nat.{_<_, _≤_};
+ghost use Rattle.definitions.specs.ContractFile.{nodeCount};
+ghost use Rattle.file_accepted.specs.Context.{nodesIn};
+ghost use Rattle.file_accepted.specs.Functions.{rootAt};
+ghost use Rattle.rewrite_log.specs.Logs.{Logged};
+ghost use Rattle.rewrite_expressions.specs.Translations.{Ready, statementOf};
+ghost use Rattle.rewrite_statements.specs.Placing.{assignFieldOf, assignEntryOf, branchOf, startingAt, ReadyToPlace, Placed};
+
+// "A public value put into a private place is supplied as a cell of that place's owner code."
+pub fn place_log(
+    file: &[u8],
+    function_at: usize,
+    nodes_at: usize,
+    n: usize,
+    owner: usize,
+    guard: u16,
+    log: &mut [u16],
+    p: Position,
+) -> Position
+    requires { ⌜ ReadyToPlace (now file) «function_at» «nodes_at» n guard owner (now log) p ⌝ }
+    ensures { λ r. ⌜ Placed (now (file .entry)) «function_at» guard n owner (now (log .entry)) (now (log .exit)) p r ⌝ }
+{
+    if owner == 0 {
+        return body_log(file, function_at, nodes_at, n, guard, log, p);
+    }
+    if is_public(file, function_at, nodes_at, n) {
+        return supply_log(file, function_at, nodes_at, n, owner, guard, log, p);
+    }
+    body_log(file, function_at, nodes_at, n, guard, log, p)
+}
+
+// Field f takes node n.
+pub fn assign_field_log(
+    file: &[u8],
+    function_at: usize,
+    nodes_at: usize,
+    f: usize,
+    n: usize,
+    guard: u16,
+    log: &mut [u16],
+    p: Position,
+) -> Position
+    requires { ⌜ (f ≤ 255) × (Ready (now file) «function_at» «nodes_at» n (now log) p (assignFieldOf (now file) «function_at» guard f n)) ⌝ }
+    ensures { λ r. ⌜ Logged (nodesIn (now (file .entry))) (now (log .entry)) (now (log .exit)) p r (assignFieldOf (now (file .entry)) «function_at» guard f n (p .variable)) ⌝ }
+{
+    let owner = place_code(field_owner(file, f), 0) as usize;
+    place_log(file, function_at, nodes_at, n, owner, guard, log, p)
+}
+
+// The entry of mapping f at a key takes a value.
+pub fn assign_entry_log(
+    file: &[u8],
+    function_at: usize,
+    nodes_at: usize,
+    f: usize,
+    key: usize,
+    value: usize,
+    guard: u16,
+    log: &mut [u16],
+    p: Position,
+) -> Position
+    requires { ⌜ ((f ≤ 255) × (value < nodeCount (now file))) × (Ready (now file) «function_at» «nodes_at» key (now log) p (assignEntryOf (now file) «function_at» guard f key value)) ⌝ }
+    ensures { λ r. ⌜ Logged (nodesIn (now (file .entry))) (now (log .entry)) (now (log .exit)) p r (assignEntryOf (now (file .entry)) «function_at» guard f key value (p .variable)) ⌝ }
+{
+    let declared = field_owner(file, f);
+    let name = name_code(file, function_at, nodes_at, key);
+    let owner = place_code(declared, name) as usize;
+    let q = body_log(file, function_at, nodes_at, key, guard, log, p);
+    place_log(file, function_at, nodes_at, value, owner, guard, log, q)
+}
+
+// "Each branch begins by setting a guard variable of its own to true; constraints inside hold under the innermost guard."
+pub fn branch_log(
+    file: &[u8],
+    function_at: usize,
+    nodes_at: usize,
+    n: usize,
+    log: &mut [u16],
+    p: Position,
+) -> Position
+    requires { ⌜ Ready (now file) «function_at» «nodes_at» n (now log) p (branchOf (now file) «function_at» n) ⌝ }
+    ensures { λ r. ⌜ Logged (nodesIn (now (file .entry))) (now (log .entry)) (now (log .exit)) p r (branchOf (now (file .entry)) «function_at» n (p .variable)) ⌝ }
+{
+    let variable = p.variable;
+    let entry = Entry {
+        tag: 3,
+        variable: variable,
+        owner: 0,
+        node: 0,
+        last: 0,
+    };
+    let q = log_entry(log, p, entry, 1);
+    statement_log(
+        file,
+        function_at,
+        nodes_at,
+        n,
+        (variable + 1) as u16,
+        log,
+        q,
+    )
+}
+
+pub fn statement_log(
+    file: &[u8],
+    function_at: usize,
+    nodes_at: usize,
+    n: usize,
+    guard: u16,
+    log: &mut [u16],
+    p: Position,
+) -> Position
+    requires { ⌜ Ready (now file) «function_at» «nodes_at» n (now log) p (statementOf (now file) «function_at» guard n) ⌝ }
+    ensures { λ r. ⌜ Logged (nodesIn (now (file .entry))) (now (log .entry)) (now (log .exit)) p r (statementOf (now (file .entry)) «function_at» guard n (p .variable)) ⌝ }
+{
+    let node = node_at(file, nodes_at, n);
+    let kind = node.kind;
+    match kind {
+        17 => {
+            let q = statement_log(file, function_at, nodes_at, node.first, guard, log, p);
+            statement_log(file, function_at, nodes_at, node.second, guard, log, q)
+        }
+        18 => assign_field_log(
+            file,
+            function_at,
+            nodes_at,
+            node.arg,
+            node.first,
+            guard,
+            log,
+            p,
+        ),
+        19 => assign_entry_log(
+            file,
+            function_at,
+            nodes_at,
+            node.arg,
+            node.first,
+            node.second,
+            guard,
+            log,
+            p,
+        ),
+        20 => body_log(file, function_at, nodes_at, node.first, guard, log, p),
+        21 => {
+            let q = body_log(file, function_at, nodes_at, node.first, guard, log, p);
+            let r = branch_log(file, function_at, nodes_at, node.second, log, q);
+            branch_log(file, function_at, nodes_at, node.third, log, r)
+        }
+        _ => p,
+    }
+}
+
+// The events of a function's body, from the start of the log and a first variable on.
+pub fn function_log(
+    file: &[u8],
+    function_at: usize,
+    nodes_at: usize,
+    first: usize,
+    log: &mut [u16],
+) -> Position
+    requires { ⌜ Ready (now file) «function_at» «nodes_at» (rootAt (now file) «function_at») (now log) (startingAt first) (statementOf (now file) «function_at» 0 (rootAt (now file) «function_at»)) ⌝ }
+    ensures { λ r. ⌜ Logged (nodesIn (now (file .entry))) (now (log .entry)) (now (log .exit)) (startingAt first) r (statementOf (now (file .entry)) «function_at» 0 (rootAt (now (file .entry)) «function_at») first) ⌝ }
+{
+    let root = two_bytes_at(file, function_end(file, function_at) - 2);
+    let start = Position {
+        at: 0,
+        variable: first,
+    };
+    statement_log(file, function_at, nodes_at, root, 0, log, start)
+}

@@ -1,0 +1,123 @@
+-- The least fault of lists put together, of one sentence, and of a contract.
+use mathlib.Core.Path.{_≡_, refl}
+use mathlib.Core.Bool.{Bool, true, false, cond, _||_}
+use mathlib.Core.List.{List, [], _∷_, _++_}
+use Prim.Native.Nat.{ℕ, zero, suc, _+_, _≤_, min}
+use native.Mathlib.Omega.{arith}
+use lib.Dec.{eqb}
+use Rattle.definitions.specs.Basics.{any, firstThatHolds}
+use Rattle.definitions.specs.Numbers.{fault, contractFaults, contractSentences}
+use Rattle.definitions.specs.ContractFile.{Contract}
+use Rattle.rules_faults.specs.Faults.{firstOf, leastFault, numberOf}
+
+or-assoc : (a b c : Bool) → (a || (b || c)) ≡ ((a || b) || c)
+or-assoc true b c = refl
+or-assoc false b c = refl
+
+pub any-append : {A : Type 0} (test : A → Bool) (xs ys : List A) → any test (xs ++ ys) ≡ (any test xs || any test ys)
+unfolding any
+any-append test [] ys = refl
+any-append test (x ∷ xs) ys = rw (any-append test xs ys) (or-assoc (test x) (any test xs) (any test ys))
+
+first-above : (count n : ℕ) (test : ℕ → Bool) → n ≤ firstOf count n test
+unfolding firstOf
+first-above zero n test = omega arith
+first-above (suc count) n test = go (test n) (first-above count (suc n) test)
+  where
+    go : (b : Bool) → suc n ≤ firstOf count (suc n) test → n ≤ cond b n (firstOf count (suc n) test)
+    go true h = omega arith
+    go false h = omega arith
+
+first-either : (count n : ℕ) (one two both : ℕ → Bool) → ((m : ℕ) → both m ≡ (one m || two m)) → firstOf count n both ≡ min (firstOf count n one) (firstOf count n two)
+unfolding firstOf
+first-either zero n one two both h = omega arith
+first-either (suc count) n one two both h =
+    rw (h n, first-either count (suc n) one two both h)
+    (go (one n) (two n) (firstOf count (suc n) one) (firstOf count (suc n) two) (first-above count (suc n) one) (first-above count (suc n) two))
+  where
+    go : (a b : Bool) (x y : ℕ) → suc n ≤ x → suc n ≤ y → cond (a || b) n (min x y) ≡ min (cond a n x) (cond b n y)
+    go true true x y p q = omega arith
+    go true false x y p q = omega arith
+    go false true x y p q = omega arith
+    go false false x y p q = refl
+
+pub least-append : (xs ys : List ℕ) → leastFault (xs ++ ys) ≡ min (leastFault xs) (leastFault ys)
+unfolding leastFault
+least-append xs ys = first-either 8 8 _ _ _ (λ m. any-append (eqb m) xs ys)
+
+pub least-none : leastFault [] ≡ 16
+unfolding leastFault firstOf any
+least-none = refl
+
+-- A sentence by itself; the premise is decided for each of the numbers 8 to 15.
+pub least-one : (holds : Bool) (n : ℕ) → leastFault (n ∷ []) ≡ n → leastFault (fault holds n) ≡ cond holds n 16
+least-one true n h = h
+least-one false n h = least-none
+
+abbrev pub Counted : ℕ → Type 0
+Counted n = leastFault (n ∷ []) ≡ n
+
+module _ where
+  pub counted-8 : Counted 8
+  unfolding leastFault firstOf any
+  counted-8 = refl
+
+  pub counted-9 : Counted 9
+  unfolding leastFault firstOf any
+  counted-9 = refl
+
+  pub counted-10 : Counted 10
+  unfolding leastFault firstOf any
+  counted-10 = refl
+
+  pub counted-11 : Counted 11
+  unfolding leastFault firstOf any
+  counted-11 = refl
+
+  pub counted-12 : Counted 12
+  unfolding leastFault firstOf any
+  counted-12 = refl
+
+  pub counted-13 : Counted 13
+  unfolding leastFault firstOf any
+  counted-13 = refl
+
+  pub counted-14 : Counted 14
+  unfolding leastFault firstOf any
+  counted-14 = refl
+
+  pub counted-15 : Counted 15
+  unfolding leastFault firstOf any
+  counted-15 = refl
+
+first-sentence : (a b c d e f g h : Bool)
+    → firstThatHolds 8 (a ∷ b ∷ c ∷ d ∷ e ∷ f ∷ g ∷ h ∷ [])
+    ≡ numberOf (cond a 8 (cond b 9 (cond c 10 (cond d 11 (cond e 12 (cond f 13 (cond g 14 (cond h 15 16))))))))
+unfolding firstThatHolds
+first-sentence true b c d e f g h = refl
+first-sentence false true c d e f g h = refl
+first-sentence false false true d e f g h = refl
+first-sentence false false false true e f g h = refl
+first-sentence false false false false true f g h = refl
+first-sentence false false false false false true g h = refl
+first-sentence false false false false false false true h = refl
+first-sentence false false false false false false false true = refl
+first-sentence false false false false false false false false = refl
+
+-- "The first sentence that holds gives the number; 0 means accepted."
+pub least-sentence : (contract : Contract) → firstThatHolds 8 (contractSentences contract) ≡ numberOf (leastFault (contractFaults contract))
+unfolding leastFault firstOf
+least-sentence contract = first-sentence _ _ _ _ _ _ _ _
+
+first-bounded : (count n : ℕ) (test : ℕ → Bool) → firstOf count n test ≤ n + count
+unfolding firstOf
+first-bounded zero n test = omega arith
+first-bounded (suc count) n test = go (test n) (first-bounded count (suc n) test)
+  where
+    go : (b : Bool) → firstOf count (suc n) test ≤ suc n + count → cond b n (firstOf count (suc n) test) ≤ n + suc count
+    go true h = omega arith
+    go false h = omega arith
+
+pub least-bounded : (faults : List ℕ) → leastFault faults ≤ 16
+unfolding leastFault
+least-bounded faults = first-bounded 8 8 (λ n. any (eqb n) faults)

@@ -1,0 +1,140 @@
+// What is found of an expression: its data type, owner, name and least fault; of constants and places.
+use rules_codes::code_if;
+use rules_codes::data_type;
+use rules_codes::place_owner;
+use rules_codes::unread;
+use rules_faults::both;
+use rules_faults::either;
+use rules_faults::least;
+use rules_faults::number_if;
+use rules_links::Classes;
+ghost use mathlib.Core.Path.{_≡_};
+ghost use mathlib.Core.Bool.{true};
+ghost use Rattle.definitions.specs.Numbers.{targetInTables};
+ghost use Rattle.rules_links.specs.Names.{linkedBy};
+ghost use Rattle.rules_codes.specs.Codes.{isFieldCode};
+ghost use Rattle.rules_judgements.specs.Judging.{Present, Final, constantJudged, meJudged, finalNameCode, fieldJudged, entryFault, entryJudged, argumentName, parameterJudged};
+
+// Owner as its code; name as the name's owner code, 0 for none; least fault, 16 for none.
+pub struct Judged {
+    pub kind: u8,
+    pub owner: u8,
+    pub name: u8,
+    pub fault: u8,
+}
+
+// A field's shape, data type and owner code.
+pub struct Declared {
+    pub shape: u8,
+    pub kind: u8,
+    pub owner: u8,
+}
+
+// A parameter's data type and owner code; one that is missing reads as a private bool.
+pub struct Given {
+    pub kind: u8,
+    pub owner: u8,
+}
+
+pub fn constant_judged(code: u8) -> Judged
+    ensures { λ r. ⌜ r ≡ constantJudged code ⌝ }
+{
+    Judged {
+        kind: data_type(code),
+        owner: 0,
+        name: 0,
+        fault: 16,
+    }
+}
+
+pub fn me_judged() -> Judged
+    ensures { λ r. ⌜ r ≡ meJudged ⌝ }
+{
+    Judged {
+        kind: 2,
+        owner: 0,
+        name: 1,
+        fault: 16,
+    }
+}
+
+fn final_name(f: u8, d: Declared) -> u8
+    requires { ⌜ Final f d ⌝ }
+    ensures { λ r. ⌜ r ≡ finalNameCode f d ⌝ }
+{
+    if d.shape == 1 { 16 + f } else { 0 }
+}
+
+// "8. The field's shape doesn't suit the node (3 takes 0 or 1 ..)"
+pub fn field_judged(classes: Classes, f: u8, d: Declared) -> Judged
+    requires { ⌜ (Final f d) × (isFieldCode (d .owner) ≡ true) ⌝ }
+    ensures { λ r. ⌜ r ≡ fieldJudged (linkedBy (classes .of)) f d ⌝ }
+{
+    let owner = place_owner(d.owner, 0);
+    let name = final_name(f, d);
+    let fault = least(number_if(d.shape == 2, 8), unread(classes, owner));
+    Judged {
+        kind: d.kind,
+        owner: owner,
+        name: name,
+        fault: fault,
+    }
+}
+
+// "8. .. 4 and 19 take 2"; "9. .. keys are addresses"; "10. A key isn't public, or a tagged mapping's key isn't a name."
+pub fn entry_fault(d: Declared, key: Judged) -> u8
+    ensures { λ r. ⌜ r ≡ entryFault d key ⌝ }
+{
+    let shape = number_if(!(d.shape == 2), 8);
+    let kind = number_if(!(key.kind == 2), 9);
+    let unnamed = both(d.owner == 2, key.name == 0);
+    least(
+        least(shape, kind),
+        number_if(either(!(key.owner == 0), unnamed), 10),
+    )
+}
+
+pub fn entry_judged(classes: Classes, d: Declared, key: Judged) -> Judged
+    requires { ⌜ (isFieldCode (d .owner) ≡ true) × (targetInTables (key .name) ≡ true) ⌝ }
+    ensures { λ r. ⌜ r ≡ entryJudged (linkedBy (classes .of)) d key ⌝ }
+{
+    let owner = place_owner(d.owner, key.name);
+    let fault = least(
+        least(key.fault, entry_fault(d, key)),
+        unread(classes, owner),
+    );
+    Judged {
+        kind: d.kind,
+        owner: owner,
+        name: 0,
+        fault: fault,
+    }
+}
+
+// "A name is me, a final, or a public address parameter."
+pub fn argument_name(k: u8, p: Given) -> u8
+    requires { ⌜ Present k p ⌝ }
+    ensures { λ r. ⌜ r ≡ argumentName k p ⌝ }
+{
+    if p.owner == 0 {
+        code_if(p.kind == 2, 128 + k)
+    } else {
+        0
+    }
+}
+
+// "8. .. a parameter is missing"
+pub fn parameter_judged(classes: Classes, k: u8, count: u8, p: Given) -> Judged
+    requires { ⌜ Present k p ⌝ }
+    ensures { λ r. ⌜ r ≡ parameterJudged (linkedBy (classes .of)) k count p ⌝ }
+{
+    let owner = code_if(!(p.owner == 0), 1);
+    let name = argument_name(k, p);
+    let fault = least(number_if(count <= k, 8), unread(classes, owner));
+    Judged {
+        kind: p.kind,
+        owner: owner,
+        name: name,
+        fault: fault,
+    }
+}

@@ -1,0 +1,37 @@
+-- `rules_links::joined` meets its contract: the classes passed are exchanged, those ahead are as before.
+use mathlib.Core.Path.{_≡_}
+use Prim.Native.Nat.{_≤_, _<_, _-_}
+use native.Mathlib.Omega.{arith}
+use borrow.Author.Needs.{needs}
+use lib.ListN.{length}
+use Rattle.rules_links.proofs.Joining.{UpTo, up-to-start, up-to-next}
+use Rattle.rules_links.proofs.joined.Statement.{statement}
+use Rattle.rules_links.proofs.joined.Tie as tie
+
+abbrev Inv-loop : tie.InvT-loop
+Inv-loop old new next₀ i₀ next i = (i ≤ 256) × (UpTo old new i (next₀ .of) (next .of))
+
+abbrev μ-loop : tie.MeasureT-loop
+μ-loop old new next₀ i₀ next i = 256 - i
+
+long : (c : tie.Start Inv-loop μ-loop) → length (c .args .classes .of) ≡ 256
+long c = search needs
+
+pub joined-spec : {M : Type 1} → statement M
+joined-spec =
+    tie.close
+    (tie.spec
+    Inv-loop
+    μ-loop
+    (λ c. (omega arith, up-to-start _ _ _))
+    (λ c. search needs)
+    (λ c κs. search needs)
+    (λ c. search needs)
+    (λ c. search needs)
+    (λ c. search needs)
+    (λ c. let inv = c .before .before .before .loop .inv in
+    let n = long (c .before .before .before .before) in
+    let s = inv .1 .size in
+    let h : c .before .before .before .loop .i < length (c .before .before .before .loop .next .of) = omega arith in
+    (omega arith, up-to-next _ _ _ _ _ _ h (inv .1) (c .exchange .ensures)))
+    (λ c. record { each = λ j h. c .before .loop .inv .1 .passed j (omega arith) }))

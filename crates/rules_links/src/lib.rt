@@ -1,0 +1,68 @@
+// Links between names as classes: names of one class are linked. A class number stands at each name's owner code.
+ghost use mathlib.Core.Path.{_≡_};
+ghost use mathlib.Core.Bool.{true};
+ghost use lib.Dec.{eqb};
+ghost use lib.ListN.{getD};
+ghost use Rattle.definitions.specs.Owners.{noLinks, withLinkOf};
+ghost use Rattle.definitions.specs.Numbers.{targetInTables};
+ghost use Rattle.rules_links.specs.Names.{linkedBy, nameWith, exchanged, Exchanged};
+
+pub struct Classes {
+    pub of: [u8; 256],
+}
+
+fn exchange(class: u8, old: u8, new: u8) -> u8
+    ensures { λ r. ⌜ r ≡ exchanged old new class ⌝ }
+{
+    if class == old { new } else { class }
+}
+
+// A name is linked to itself alone.
+pub fn no_links() -> Classes
+    ensures { λ r. ⌜ linkedBy (r .of) ≡ noLinks ⌝ }
+{
+    let mut classes = Classes { of: [0; 256] };
+    let mut i: usize = 0;
+    while i < 256 {
+        classes.of[i] = i as u8;
+        i += 1;
+    }
+    classes
+}
+
+pub fn same_class(classes: Classes, a: u8, b: u8) -> bool
+    ensures { λ r. ⌜ r ≡ eqb (getD (classes .of) a 0) (getD (classes .of) b 0) ⌝ }
+{
+    let i = a as usize;
+    let j = b as usize;
+    classes.of[i] == classes.of[j]
+}
+
+// Each class number that is `old` becomes `new`.
+fn joined(classes: Classes, old: u8, new: u8) -> Classes
+    ensures { λ r. ⌜ Exchanged old new (classes .of) (r .of) ⌝ }
+{
+    let mut next = classes;
+    let mut i: usize = 0;
+    while i < 256 {
+        next.of[i] = exchange(next.of[i], old, new);
+        i += 1;
+    }
+    next
+}
+
+// The names of two owner codes become linked; code 0 is no name.
+pub fn with_link(classes: Classes, a: u8, b: u8) -> Classes
+    requires { ⌜ (targetInTables a ≡ true) × (targetInTables b ≡ true) ⌝ }
+    ensures { λ r. ⌜ linkedBy (r .of) ≡ withLinkOf (nameWith a) (nameWith b) (linkedBy (classes .of)) ⌝ }
+{
+    if a == 0 {
+        return classes;
+    }
+    if b == 0 {
+        return classes;
+    }
+    let i = a as usize;
+    let j = b as usize;
+    joined(classes, classes.of[i], classes.of[j])
+}

@@ -1,0 +1,81 @@
+// What is found of operators, not and reveal, from what is found of their operands.
+use rules_codes::is_division;
+use rules_codes::operands_fit;
+use rules_codes::parts_owner;
+use rules_codes::result_type;
+use rules_codes::unread;
+use rules_faults::both;
+use rules_faults::either;
+use rules_faults::least;
+use rules_faults::number_if;
+use rules_judgements::Judged;
+use rules_links::Classes;
+ghost use mathlib.Core.Path.{_≡_};
+ghost use mathlib.Core.Bool.{true};
+ghost use Rattle.definitions.specs.Numbers.{targetInTables};
+ghost use Rattle.rules_links.specs.Names.{linkedBy};
+ghost use Rattle.rules_operators.specs.Operating.{operatorFault, operatorJudged, negationJudged, revealJudged};
+
+// "9. A data type doesn't fit"; "12. Operator 3 or 4 has a private operand."
+fn operator_fault(classes: Classes, code: u8, left: Judged, right: Judged) -> u8
+    requires { ⌜ (targetInTables (left .owner) ≡ true) × (targetInTables (right .owner) ≡ true) ⌝ }
+    ensures { λ r. ⌜ r ≡ operatorFault (linkedBy (classes .of)) code left right ⌝ }
+{
+    let kind = number_if(!operands_fit(code, left.kind, right.kind), 9);
+    let private = either(!(left.owner == 0), !(right.owner == 0));
+    let divisor = number_if(both(is_division(code), private), 12);
+    let read = least(
+        least(
+            least(least(left.fault, right.fault), kind),
+            unread(classes, left.owner),
+        ),
+        unread(classes, right.owner),
+    );
+    least(read, divisor)
+}
+
+pub fn operator_judged(classes: Classes, code: u8, left: Judged, right: Judged) -> Judged
+    requires { ⌜ (targetInTables (left .owner) ≡ true) × (targetInTables (right .owner) ≡ true) ⌝ }
+    ensures { λ r. ⌜ r ≡ operatorJudged (linkedBy (classes .of)) code left right ⌝ }
+{
+    let fault = operator_fault(classes, code, left, right);
+    Judged {
+        kind: result_type(code),
+        owner: parts_owner(left.owner, right.owner),
+        name: 0,
+        fault: fault,
+    }
+}
+
+pub fn negation_judged(classes: Classes, part: Judged) -> Judged
+    requires { ⌜ targetInTables (part .owner) ≡ true ⌝ }
+    ensures { λ r. ⌜ r ≡ negationJudged (linkedBy (classes .of)) part ⌝ }
+{
+    let fault = least(
+        least(part.fault, number_if(!(part.kind == 0), 9)),
+        unread(classes, part.owner),
+    );
+    Judged {
+        kind: 0,
+        owner: parts_owner(part.owner, 0),
+        name: 0,
+        fault: fault,
+    }
+}
+
+// "13. A reveal's operand belongs to all."
+pub fn reveal_judged(classes: Classes, target: u8, fits: bool, part: Judged) -> Judged
+    requires { ⌜ targetInTables (part .owner) ≡ true ⌝ }
+    ensures { λ r. ⌜ r ≡ revealJudged (linkedBy (classes .of)) target fits part ⌝ }
+{
+    let read = least(
+        least(part.fault, number_if(!fits, 8)),
+        unread(classes, part.owner),
+    );
+    Judged {
+        kind: part.kind,
+        owner: target,
+        name: 0,
+        fault: least(read, number_if(part.owner == 0, 13)),
+    }
+}

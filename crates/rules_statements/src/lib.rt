@@ -1,0 +1,122 @@
+// The faults of a statement's node and the links after it, by recursion over its parts.
+use file_bytes::node_at;
+use rules_assignments::condition_fault;
+use rules_assignments::entry_put_fault;
+use rules_assignments::field_fault;
+use rules_expressions::judge;
+use rules_expressions::learn;
+use rules_faults::least;
+use rules_links::Classes;
+use rules_scopes::Parameters;
+use rules_scopes::field_at;
+ghost use mathlib.Core.Path.{_≡_};
+ghost use Prim.Native.Nat.{_<_};
+ghost use Rattle.definitions.specs.ContractFile.{nodeCount, assignField, assignEntry};
+ghost use Rattle.definitions.specs.Numbers.{statementFaults, conditionFaults};
+ghost use Rattle.rules_faults.specs.Faults.{leastFault};
+ghost use Rattle.rules_links.specs.Names.{linkedBy};
+ghost use Rattle.rules_scopes.specs.Trees.{nodesOf, expressionOn, statementOn};
+ghost use Rattle.rules_scopes.specs.Scopes.{Ready, scopeAt};
+ghost use Rattle.rules_statements.specs.Checking.{CheckedAs};
+
+// Least fault, 16 for none, and the links for what follows.
+pub struct Checked {
+    pub fault: u8,
+    pub classes: Classes,
+}
+
+fn outcome(fault: u8, classes: Classes) -> Checked
+    ensures { λ r. ⌜ r ≡ record { fault = fault; classes = classes } ⌝ }
+{
+    Checked {
+        fault: fault,
+        classes: classes,
+    }
+}
+
+// Field `arg` takes the value of node `first`.
+fn field_takes(
+    file: &[u8],
+    nodes_at: usize,
+    p: Parameters,
+    classes: Classes,
+    arg: u8,
+    first: usize,
+) -> u8
+    requires { ⌜ (first < nodeCount (now file)) × (Ready (now file) «nodes_at» p) ⌝ }
+    ensures { λ r. ⌜ leastFault (statementFaults (scopeAt (now (file .entry)) p) (linkedBy (classes .of)) (assignField arg (expressionOn (nodesOf (now (file .entry))) first))) ≡ r ⌝ }
+{
+    let value = judge(file, nodes_at, p, classes, first);
+    field_fault(classes, field_at(file, arg), value)
+}
+
+// The entry of mapping `arg` at the key of node `first` takes the value of node `second`.
+fn entry_takes(
+    file: &[u8],
+    nodes_at: usize,
+    p: Parameters,
+    classes: Classes,
+    arg: u8,
+    first: usize,
+    second: usize,
+) -> u8
+    requires { ⌜ (first < nodeCount (now file)) × (second < nodeCount (now file)) × (Ready (now file) «nodes_at» p) ⌝ }
+    ensures { λ r. ⌜ leastFault (statementFaults (scopeAt (now (file .entry)) p) (linkedBy (classes .of)) (assignEntry arg (expressionOn (nodesOf (now (file .entry))) first) (expressionOn (nodesOf (now (file .entry))) second))) ≡ r ⌝ }
+{
+    let key = judge(file, nodes_at, p, classes, first);
+    let value = judge(file, nodes_at, p, classes, second);
+    entry_put_fault(classes, field_at(file, arg), key, value)
+}
+
+// The condition of node `first`.
+fn condition_is(file: &[u8], nodes_at: usize, p: Parameters, classes: Classes, first: usize) -> u8
+    requires { ⌜ (first < nodeCount (now file)) × (Ready (now file) «nodes_at» p) ⌝ }
+    ensures { λ r. ⌜ leastFault (conditionFaults (scopeAt (now (file .entry)) p) (linkedBy (classes .of)) (expressionOn (nodesOf (now (file .entry))) first)) ≡ r ⌝ }
+{
+    condition_fault(judge(file, nodes_at, p, classes, first))
+}
+
+pub fn judge_statement(
+    file: &[u8],
+    nodes_at: usize,
+    p: Parameters,
+    classes: Classes,
+    n: usize,
+) -> Checked
+    requires { ⌜ (n < nodeCount (now file)) × (Ready (now file) «nodes_at» p) ⌝ }
+    ensures { λ r. ⌜ CheckedAs (scopeAt (now (file .entry)) p) (linkedBy (classes .of)) (statementOn (nodesOf (now (file .entry))) n) r ⌝ }
+{
+    let node = node_at(file, nodes_at, n);
+    let kind = node.kind;
+    let arg = node.arg as u8;
+    let first = node.first;
+    let second = node.second;
+    let third = node.third;
+    let unchanged = outcome(16, classes);
+    match kind {
+        17 => {
+            let one = judge_statement(file, nodes_at, p, classes, first);
+            let between = one.classes;
+            let two = judge_statement(file, nodes_at, p, between, second);
+            let after = two.classes;
+            outcome(least(one.fault, two.fault), after)
+        }
+        18 => outcome(field_takes(file, nodes_at, p, classes, arg, first), classes),
+        19 => outcome(
+            entry_takes(file, nodes_at, p, classes, arg, first, second),
+            classes,
+        ),
+        20 => outcome(
+            condition_is(file, nodes_at, p, classes, first),
+            learn(file, nodes_at, p, classes, first),
+        ),
+        21 => {
+            let condition = condition_is(file, nodes_at, p, classes, first);
+            let yes = judge_statement(file, nodes_at, p, classes, second);
+            let no = judge_statement(file, nodes_at, p, classes, third);
+            let after = unchanged.classes;
+            outcome(least(least(condition, yes.fault), no.fault), after)
+        }
+        _ => unchanged,
+    }
+}

@@ -1,0 +1,99 @@
+-- Demand 3, by induction over two lists of calls.
+use mathlib.Core.Path.{_≡_, refl, ap, ap₂, sym, _∙_, subst}
+use mathlib.Core.Bool.{true, _||_, cond, not}
+use mathlib.Core.List.{List, [], _∷_}
+use Prim.Native.Nat.{ℕ, zero, suc}
+use lib.Dec.{eqb}
+use lib.ListN.{getD, take}
+use Rattle.definitions.specs.ContractFile.{parameterAt, contractIn}
+use Rattle.definitions.specs.Original.{disclosedBy, originalDiscloses}
+use Rattle.definitions.specs.Ledger.{Ledger, functionOfLedger, callNumber, ledgerAfterCall}
+use Rattle.definitions.specs.View.{viewBytes, Request, Run, isTaken, runAfter, disclosedIn, viewsAfter, disclosures, AlikeFor, Paired, finished, bothRefused, bothTaken}
+use Rattle.theory_secrecy.proofs.Views.{AlikeLedgers, alike-views}
+use Rattle.theory_demands.proofs.HonestCall.{addressOfCall, openedPlaces, bodyOfCall}
+use Rattle.theory_demands.proofs.Faithful.{FaithfulRun, taken-number, refused-run, same-file, faithful-after}
+use Rattle.theory_demands.proofs.AlikeCalls.{aligned, alike-after}
+
+-- What a call discloses to the party, on the opened places.
+abbrev DisclosedOn : ℕ → Ledger → ℕ → ℕ → List ℕ → List ℕ
+DisclosedOn party l f c a = disclosedBy ((contractIn (l .file)) .fields) (addressOfCall l f c a) a party (openedPlaces l f c a) (bodyOfCall l f c a)
+
+disclosed-taken : (party : ℕ) (run : Run) → FaithfulRun run → (r : Request) → isTaken run r ≡ true
+    → disclosedIn party run r ≡ DisclosedOn party (run .ledger) (r .function) (r .caller) (r .arguments)
+unfolding disclosedIn originalDiscloses
+disclosed-taken party run h r e =
+    ap (λ b. cond b (originalDiscloses (contractIn ((run .ledger) .file)) (run .original) (r .function) (r .caller) (r .arguments) party) []) e
+    ∙ ap (λ (o : List ℕ). originalDiscloses (contractIn ((run .ledger) .file)) o (r .function) (r .caller) (r .arguments) party) (sym (h .opened))
+
+-- The second call may stand on another ledger with the same file and call number, and name function and caller by equal numbers.
+module _ (party : ℕ) (l : Ledger) (f c : ℕ) (a a′ : List ℕ) (clear : callNumber l f c a ≡ 0)
+    (arguments : (k : ℕ) → not ((parameterAt ((functionOfLedger l f) .parameters) k) .private) || eqb c party ≡ true → getD a k 0 ≡ getD a′ k 0) where
+  abbrev SecondCall : Ledger → ℕ → ℕ → Type 0
+  SecondCall m f′ c′ =
+      callNumber m f′ c′ a′ ≡ 0 → DisclosedOn party l f c a ≡ DisclosedOn party m f′ c′ a′
+      → AlikeLedgers party (ledgerAfterCall l f c a) (ledgerAfterCall m f′ c′ a′)
+
+  alike-call : (m : Ledger) (f′ c′ : ℕ) → AlikeLedgers party l m → l .file ≡ m .file → f ≡ f′ → c ≡ c′ → SecondCall m f′ c′
+  alike-call m f′ c′ h file function caller =
+      let same : aligned l m ≡ m =
+      λ i. record {
+        file = file i;
+        call = h .call i;
+        function = m .function;
+        caller = m .caller;
+        outcome = m .outcome;
+        parameters = m .parameters;
+        variables = m .variables;
+        places = m .places;
+      } in
+      let first : SecondCall (aligned l m) f c = λ clear′ disclosed. alike-after party l m f c a a′ clear clear′ (h .places) arguments disclosed in
+      subst (λ (n : ℕ). SecondCall m f′ n) caller (subst (λ (n : ℕ). SecondCall m n c) function (subst (λ (n : Ledger). SecondCall n f c) same first))
+
+module _ (party : ℕ) where
+  -- Two runs that the party cannot tell apart.
+  pub record AlikeRuns (run run′ : Run) : Type 0 where
+    pub faithful : FaithfulRun run
+    pub faithful′ : FaithfulRun run′
+    pub file : (run .ledger) .file ≡ (run′ .ledger) .file
+    pub ledgers : AlikeLedgers party (run .ledger) (run′ .ledger)
+
+  alike-runs-after : (run run′ : Run) → AlikeRuns run run′ → (r r′ : Request) → isTaken run r ≡ true → isTaken run′ r′ ≡ true
+      → AlikeFor party (contractIn ((run .ledger) .file)) r r′ → disclosedIn party run r ≡ disclosedIn party run′ r′ → AlikeRuns (runAfter run r) (runAfter run′ r′)
+  unfolding runAfter
+  alike-runs-after run run′ h r r′ e e′ same disclosed =
+      record {
+        faithful = faithful-after run (h .faithful) r;
+        faithful′ = faithful-after run′ (h .faithful′) r′;
+        file = same-file run r ∙ h .file ∙ sym (same-file run′ r′);
+        ledgers =
+            alike-call party (run .ledger) (r .function) (r .caller) (r .arguments) (r′ .arguments) (taken-number run r e) (same .arguments) (run′ .ledger) (r′ .function)
+            (r′ .caller) (h .ledgers) (h .file) (same .function) (same .caller) (taken-number run′ r′ e′)
+            (sym (disclosed-taken party run (h .faithful) r e) ∙ disclosed ∙ disclosed-taken party run′ (h .faithful′) r′ e′);
+      }
+
+  cons-head : {x y : List ℕ} {xs ys : List (List ℕ)} → x ∷ xs ≡ y ∷ ys → x ≡ y
+  cons-head e = cc
+
+  cons-tail : {x y : List ℕ} {xs ys : List (List ℕ)} → x ∷ xs ≡ y ∷ ys → xs ≡ ys
+  cons-tail e = cc
+
+  -- As far as the disclosures agree, so do the views.
+  pub views-agree : {run run′ : Run} {rs rs′ : List Request} → Paired party run run′ rs rs′ → (n : ℕ) → AlikeRuns run run′
+      → take n (disclosures party run rs) ≡ take n (disclosures party run′ rs′) → take n (viewsAfter party run rs) ≡ take n (viewsAfter party run′ rs′)
+  unfolding viewsAfter disclosures
+  views-agree finished n h d = refl
+  views-agree (bothRefused e e′ pairs) zero h d = refl
+  views-agree (bothTaken e e′ same pairs) zero h d = refl
+  views-agree (bothRefused {run} {run′} {r} {r′} {rs} {rs′} e e′ pairs) (suc n) h d =
+      let s = refused-run run r e in
+      let s′ = refused-run run′ r′ e′ in
+      let later : take n (disclosures party run rs) ≡ take n (disclosures party run′ rs′) =
+      ap (λ (x : Run). take n (disclosures party x rs)) (sym s) ∙ cons-tail d ∙ ap (λ (x : Run). take n (disclosures party x rs′)) s′ in
+      let views : take n (viewsAfter party (runAfter run r) rs) ≡ take n (viewsAfter party (runAfter run′ r′) rs′) =
+      ap (λ (x : Run). take n (viewsAfter party x rs)) s ∙ views-agree pairs n h later ∙ ap (λ (x : Run). take n (viewsAfter party x rs′)) (sym s′) in
+      let now : viewBytes party ((runAfter run r) .ledger) ≡ viewBytes party ((runAfter run′ r′) .ledger) =
+      ap (λ (x : Run). viewBytes party (x .ledger)) s ∙ alike-views (h .ledgers) ∙ ap (λ (x : Run). viewBytes party (x .ledger)) (sym s′) in
+      ap₂ (λ x y. x ∷ y) now views
+  views-agree (bothTaken {run} {run′} {r} {r′} {rs} {rs′} e e′ same pairs) (suc n) h d =
+      let k = alike-runs-after run run′ h r r′ e e′ same (cons-head d) in
+      ap₂ (λ x y. x ∷ y) (alike-views (k .ledgers)) (views-agree pairs n k (cons-tail d))

@@ -1,0 +1,48 @@
+-- The parts are written one behind another.
+use mathlib.Core.Path.{_≡_, refl}
+use Prim.Native.Nat.{_+_, _*_, _≤_, min}
+use lib.ListN.{length}
+use native.Mathlib.Omega.{arith}
+use Rattle.ledger_struct.proofs.Flat.{unmapped}
+use Rattle.view_bytes.proofs.Views.{view-length, view-stored}
+use borrow.Author.Needs.{needs}
+use Rattle.view_bytes.proofs.view_bytes.Statement.{statement}
+use Rattle.view_bytes.proofs.view_bytes.Tie as tie
+
+eight : (c : tie.Start) → length (c .args .l .parameters) ≡ 8
+eight c = search (unmapped, needs)
+
+variables : (c : tie.Start) → length (c .args .l .variables) ≡ 1024
+variables c = search (unmapped, needs)
+
+places : (c : tie.Start) → length (c .args .l .places) ≡ 1024
+places c = search (unmapped, needs)
+
+-- The whole length, by the three counts.
+room : (c : tie.Start)
+    → 5 + 10 * min (c .args .l .«parameter_count») 8 + 10 * min (c .args .l .«variable_count») 1024 + 10 * min (c .args .l .«place_count») 1024 ≤ length (c .args .out .now)
+room c =
+    let long = view-length (c .args .l) (eight c) (variables c) (places c) (c .args .party) _ _ _ refl refl refl in
+    omega (arith, c .pre)
+
+pub view-bytes-spec : {M : Type 1} → statement M
+view-bytes-spec =
+    tie.close
+    (tie.spec
+    (λ c κs. search needs)
+    (λ c κs. search needs)
+    (λ c κs. omega (arith, room (c .before .before .before .before .before .before .before)))
+    (λ c κs. omega (arith, room (c .before .before .before .before .before .before .before .before .before .before .before), c .before .before .before .put-head .kept .0))
+    (λ c. search needs)
+    (λ c. search needs)
+    (λ c κs. omega (arith, room (c .before .before .before .before .before .before .before .before .before .before .before .before .before .before .before), c .before .before .before .put-eight .kept .1 .1 .1 .0, c .before .before .before .before .before .before .before .put-head .kept .0, c .before .before .before .before .before .before .before .before .before .before .at-most .ensures))
+    (λ c. search needs)
+    (λ c. search needs)
+    (λ c. search needs)
+    (λ c. search needs)
+    (λ c κs. omega
+    (arith, room (c .before .before .before .before .before .before .before .before .before .before .before .before .before .before .before .before .before .before .before), c .before .before .before .put-items .kept .1 .1 .1 .0, c .before .before .before .before .before .before .before .put-eight .kept .1 .1 .1 .0, c .before .before .before .before .before .before .before .before .before .before .before .put-head .kept .0, c .before .before .before .before .before .before .before .before .before .before .before .before .before .before .at-most .ensures, c .before .before .before .before .before .before .before .before .before .before .before .before .before .at-most2 .ensures))
+    (λ c. search needs)
+    (λ c. let s = c .before .before .before .before .before .before .before .before .before .before .before .before .before .before .before .before .before .before .before .before .before .before in
+    view-stored (s .args .l) (eight s) (variables s) (places s) (s .args .party) _ _ _ _ _ _ _ (c .before .before .before .before .before .before .before .before .before .before .before .before .before .before .before .before .before .at-most .ensures) (c .before .before .before .before .before .before .before .before .before .before .before .before .before .before .before .before .at-most2 .ensures)
+    (s .pre) (c .before .before .before .before .before .before .before .before .before .before .before .before .before .before .put-head .ensures) (c .before .before .before .before .before .before .before .before .before .before .put-eight .ensures) (c .before .before .before .before .before .before .put-items .ensures) (c .before .before .put-items2 .ensures)))

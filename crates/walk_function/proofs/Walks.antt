@@ -1,0 +1,131 @@
+-- The steps of walking a function: its log, its nodes and constraints, and the walk of what is written there.
+use mathlib.Core.Path.{_≡_, ap, _∙_}
+use mathlib.Core.Bool.{Bool}
+use mathlib.Core.List.{List}
+use Prim.Native.Nat.{ℕ, _*_, _-_, _/_}
+use native.Mathlib.Omega.{arith}
+use lib.ListN.{length, take}
+use Rattle.definitions.specs.Rewriting.{WrittenFunction, sizes, numberedAll, commandTree, functionTrees}
+use Rattle.definitions.specs.Ledger as ledger
+use Rattle.memory_buffer.proofs.Laws.{front-stored}
+use Rattle.theory_laws.proofs.Written.{nodes-length}
+use Rattle.memory_buffer.proofs.Laws.{stored-length}
+use Rattle.file_accepted.specs.Context.{Context, nodesIn, fieldsIn}
+use Rattle.file_accepted.specs.Functions.{rootAt}
+use Rattle.ledger_contents.specs.Contents.{contentsOf}
+use Rattle.write_nodes.proofs.Laws.{size-positive}
+use Rattle.rewrite_log.specs.declared.Position.{Position}
+use Rattle.rewrite_log.specs.Logs.{Logged}
+use Rattle.write_logged_steps.proofs.Held.{stored-holds}
+use Rattle.rewrite_expressions.specs.Translations.{Ready, statementOf}
+use Rattle.rewrite_statements.specs.Placing.{startingAt}
+use Rattle.write_trees.specs.Trees.{commandIn}
+use Rattle.write_trees.specs.Table.{tableOf}
+use Rattle.write_trees.proofs.Functions.{all-length}
+use Rattle.ledger_circuits.specs.Circuits.{addressFrom, constraintsFrom}
+use Rattle.write_trees.specs.Numbers.{constraintNumbers}
+use Rattle.walk_commands.specs.Walk.{afterFrom, completesFrom, Ran}
+use Rattle.write_function_room.specs.Functions.{writtenIn, privateIn, eventsIn}
+use Rattle.walk_narrow_trees.specs.Narrow.{Bytes, functionNodes, WrittenBack}
+use Rattle.walk_narrow_trees.proofs.Functions.{function-back}
+use Rattle.walk_function_nodes.specs.declared.Extent.{Extent}
+use Rattle.walk_function_nodes.specs.Functions.{FunctionReady, FunctionPut}
+use Rattle.walk_function_nodes.proofs.Parts.{sizes-are, constraints-bound}
+use Rattle.walk_function.specs.Walks.{LastReady, WalkReady}
+use Rattle.write_trees.proofs.Numbers.{constraint-numbers-length}
+
+module _ (file : List ℕ) (at nodesStart : ℕ) (log numbers scratch roots nodes : List ℕ) (ready : WalkReady file at nodesStart log numbers scratch roots nodes) where
+  context-here : Context file at nodesStart
+  context-here = rw (ready .place) (ready .room .context)
+
+  module _ (private : ℕ) (counted : private ≡ privateIn file at) where
+    pub log-ready : Ready file at nodesStart (rootAt file at) log (startingAt private) (statementOf file at 0 (rootAt file at))
+    log-ready =
+        rw counted
+        (record {
+          inside = ready .room .root;
+          context = context-here;
+          room = record { space = omega (arith, ready .room .events, ready .logSpace); few = omega (arith, ready .room .variables) };
+        })
+
+    module _ (logAfter : List ℕ) (end : Position) (logged : Logged (nodesIn file) log logAfter (startingAt private) end (statementOf file at 0 (rootAt file at) private)) where
+      events-logged : Logged (nodesIn file) log logAfter (startingAt (privateIn file at)) end (eventsIn file at)
+      events-logged = rw counted at logged
+
+      entries-are : end .at / 5 ≡ length (eventsIn file at)
+      entries-are = omega (arith, events-logged .next)
+
+      pub function-ready : FunctionReady file at nodesStart logAfter (end .at / 5) private numbers scratch roots nodes
+      function-ready =
+          record {
+            constraints =
+                record {
+                  logged =
+                      record {
+                        place = ready .place;
+                        room = ready .room;
+                        privateIs = counted;
+                        numbers = events-logged .numbers;
+                        told = events-logged .entries;
+                        held = stored-holds log logAfter (events-logged .numbers) 0 (omega arith) (events-logged .held);
+                        count = entries-are;
+                      };
+                  space = omega (arith, entries-are, ready .room .events, ready .numbersSpace);
+                  bytes = omega (arith, ready .room .nodes, ready .nodesSpace);
+                };
+            scratchSpace = omega (arith, entries-are, ready .room .events, ready .scratchSpace);
+            rootsSpace = omega (arith, entries-are, ready .room .events, ready .rootsSpace);
+          }
+
+  module _ (bytes : Bytes file) (numbersAfter nodesAfter : List ℕ) (r : Extent) (put : FunctionPut (writtenIn file at) numbers numbersAfter nodes nodesAfter r) where
+    abbrev function : WrittenFunction
+    function = writtenIn file at
+
+    back : WrittenBack function
+    back = function-back file at 0 0 bytes (ready .room)
+
+    node-count : length (functionNodes function) ≡ 8 * sizes (functionTrees function)
+    node-count = nodes-length (numberedAll 0 (functionTrees function)) ∙ ap (λ (n : ℕ). 8 * n) (all-length (functionTrees function) 0)
+
+    nodes-front : take (8 * r .nodes) nodesAfter ≡ functionNodes function
+    nodes-front = front-stored nodes nodesAfter (functionNodes function) (8 * r .nodes) (put .contents) (omega (arith, put .nodes, node-count))
+
+    numbers-front : take (4 * r .constraints) numbersAfter ≡ constraintNumbers 0 (function .constraints)
+    numbers-front =
+        front-stored numbers numbersAfter (constraintNumbers 0 (function .constraints)) (4 * r .constraints) (put .noted)
+        (omega (arith, put .constraints, constraint-numbers-length 0 (function .constraints)))
+
+    nodes-kept : length nodesAfter ≡ length nodes
+    nodes-kept = ap length (put .contents) ∙ stored-length nodes 0 (functionNodes function) (omega (arith, node-count, ready .room .nodes, ready .nodesSpace))
+
+    numbers-kept : length numbersAfter ≡ length numbers
+    numbers-kept =
+        ap length (put .noted)
+        ∙ stored-length numbers 0 (constraintNumbers 0 (function .constraints))
+        (omega (arith, constraint-numbers-length 0 (function .constraints), constraints-bound file at (ready .room), ready .numbersSpace))
+
+    pub last-ready : LastReady nodesAfter (r .nodes) numbersAfter (r .constraints) file
+    last-ready =
+        record {
+          some = omega (arith, put .nodes, sizes-are file at, size-positive (commandTree (function .body)));
+          bytes = omega (arith, nodes-kept, put .nodes, ready .room .nodes, ready .nodesSpace);
+          space = omega (arith, numbers-kept, put .constraints, constraints-bound file at (ready .room), ready .numbersSpace);
+          readable = rw nodes-front (back .readable);
+          fewFields = context-here .fewFields;
+        }
+
+    constraints-are : constraintsFrom (tableOf (take (8 * r .nodes) nodesAfter)) (take (4 * r .constraints) numbersAfter) ≡ function .constraints
+    constraints-are = rw (nodes-front, numbers-front) (back .constraints)
+
+    body-is : commandIn (tableOf (take (8 * r .nodes) nodesAfter)) (r .nodes - 1) ≡ function .body
+    body-is = rw (nodes-front, put .nodes) (back .body)
+
+    pub function-walked : (addresses parameters : List ℕ) (s end : ledger.State) (answer : Bool)
+        → Ran
+        (completesFrom file addresses parameters (constraintsFrom (tableOf (take (8 * r .nodes) nodesAfter)) (take (4 * r .constraints) numbersAfter)) s
+        (commandIn (tableOf (take (8 * r .nodes) nodesAfter)) (r .nodes - 1)))
+        (afterFrom file addresses parameters s (commandIn (tableOf (take (8 * r .nodes) nodesAfter)) (r .nodes - 1))) end answer
+        → Ran (ledger.walkCompletes (addressFrom addresses) (fieldsIn file) (contentsOf parameters) (function .constraints) s (function .body))
+        (ledger.stateAfter (addressFrom addresses) (fieldsIn file) (contentsOf parameters) s (function .body)) end answer
+    unfolding completesFrom afterFrom
+    function-walked addresses parameters s end answer ran = rw (constraints-are, body-is) at ran

@@ -1,0 +1,35 @@
+-- The log, the nodes and constraints written from it, and the walk of what is written.
+use native.Mathlib.Omega.{arith}
+use Rattle.walk_narrow_trees.specs.Narrow.{Bytes}
+use Rattle.walk_function.proofs.Walks.{log-ready, function-ready, last-ready, function-walked}
+use borrow.Author.Needs.{needs}
+use Rattle.walk_function.proofs.walk_function.Statement.{statement}
+use Rattle.walk_function.proofs.walk_function.Tie as tie
+use Rattle.write_function_room.proofs.Room.{private-counted}
+
+pub walk-function-spec : {M : Type 1} → statement M
+walk-function-spec =
+    tie.close
+    (tie.spec
+    (λ c κs. search needs)
+    (λ c. search needs)
+    (λ c κs. search needs)
+    (λ c κs. let s = c .before .before .before .before .before .before .before .before .before .before .before .before .before in
+    let counted = private-counted (s .args .file .now) (s .args .function-at) _ _ (c .before .before .byte-at .ensures .0) (c .before .count-private .ensures) in
+    log-ready _ _ _ _ _ _ _ _ (s .pre) _ counted)
+    (λ c κs. let s = c .before .before .before .before .before .before .before .before .before .before .before .before .before .before .before .before .before .before .before .before .before .before in
+    let counted = private-counted (s .args .file .now) (s .args .function-at) _ _ (c .before .before .before .before .before .before .before .before .before .before .before .byte-at .ensures .0) (c .before .before .before .before .before .before .before .before .before .before .count-private .ensures) in
+    function-ready _ _ _ _ _ _ _ _ (s .pre) _ counted _ _ (c .before .before .before .before .before .before .before .before .function-log .ensures))
+    (λ c κs. let s = c .before .before .before .before .before .before .before .before .before .before .before .before .before .before .before .before .before .before .before .before .before .before .before .before .before .before .before .before .before .before .before .before .before .before .before in
+    let bytes : Bytes (s .args .file .now) = record { small = λ i. omega (arith, c .before .before .before .before .before .before .before .before .before .before .before .before .before .before .before .before .before .before .before .before .before .before .before .before .before .before .before .before .before .before .before .before .before .before .shared-slice-known .given i) } in
+    last-ready _ _ _ _ _ _ _ _ (s .pre) bytes _ _ _ (c .before .before .before .before .before .before .before .before .before .before .before .before .put-function .ensures))
+    (λ c. search needs)
+    (λ c. search needs)
+    (λ c. search needs)
+    (λ c. search needs)
+    (λ c. search needs)
+    (λ c. search needs)
+    (λ c. search needs)
+    (λ c. let s = c .before .before .before .before .before .before .before .before .before .before .before .before .before .before .before .before .before .before .before .before .before .before .before .before .before .before .before .before .before .before .before .before .before .before .before .before .before .before .before .before in
+    let bytes : Bytes (s .args .file .now) = record { small = λ i. omega (arith, c .before .before .before .before .before .before .before .before .before .before .before .before .before .before .before .before .before .before .before .before .before .before .before .before .before .before .before .before .before .before .before .before .before .before .before .before .before .before .before .shared-slice-known .given i) } in
+    function-walked _ _ _ _ _ _ _ _ (s .pre) bytes _ _ _ (c .before .before .before .before .before .before .before .before .before .before .before .before .before .before .before .before .before .put-function .ensures) _ _ _ _ _ (c .before .before .before .before .run-last .ensures)))

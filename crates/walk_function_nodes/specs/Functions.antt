@@ -1,0 +1,60 @@
+-- What writing one function's nodes and constraints needs and owes.
+use mathlib.Core.Path.{_≡_}
+use mathlib.Core.List.{List, [], _++_}
+use Prim.Native.Nat.{ℕ, zero, suc, _+_, _*_, _≤_}
+use lib.ListN.{length}
+use Rattle.definitions.specs.Basics.{flatMap}
+use Rattle.definitions.specs.ContractFile.{nodesAt}
+use Rattle.definitions.specs.Rewriting.{WrittenFunction, Tree, sizes, numberedAll, nodeBytes, claimTrees, functionTrees}
+use Rattle.memory_buffer.specs.Buffer.{stored}
+use Rattle.file_accepted.specs.Context.{nodesIn}
+use Rattle.rewrite_log.specs.Entries.{Entries}
+use Rattle.write_logged_steps.specs.Held.{Holds}
+use Rattle.write_function_room.specs.Functions.{writtenIn, privateIn, eventsIn, FunctionRoom}
+use Rattle.write_circuits.specs.declared.Circuits.{Circuits}
+use Rattle.write_circuits.specs.Circuits.{four}
+use Rattle.write_trees.specs.Numbers.{constraintNumbers}
+use Rattle.walk_function_nodes.specs.declared.Extent.{Extent}
+
+-- The constraints of private parameters, whose variables have numbers from i on.
+unfoldable pub openingNumbers : ℕ → ℕ → List ℕ
+openingNumbers i zero = []
+openingNumbers i (suc n) = four 0 i 1 65535 ++ openingNumbers (suc i) n
+
+-- The trees of a function's circuits.
+abbrev pub circuitTrees : WrittenFunction → List Tree
+circuitTrees w = flatMap (λ c. claimTrees (c .claim)) (w .constraints)
+
+-- The log holds the events of a function's body from its start on.
+pub record FunctionLogged (file : List ℕ) (functionStart nodesStart : ℕ) (log : List ℕ) (entries private : ℕ) : Type 0 where
+  pub place : nodesStart ≡ nodesAt file
+  pub room : FunctionRoom file functionStart 0 0
+  pub privateIs : private ≡ privateIn file functionStart
+  pub numbers : List ℕ
+  pub told : Entries (nodesIn file) (eventsIn file functionStart) numbers
+  pub held : Holds log numbers 0
+  pub count : entries ≡ length (eventsIn file functionStart)
+
+pub record ConstraintsReady (file : List ℕ) (functionStart nodesStart : ℕ) (log : List ℕ) (entries private : ℕ) (numbers out : List ℕ) : Type 0 where
+  pub logged : FunctionLogged file functionStart nodesStart log entries private
+  pub space : 4 * (entries + 8) ≤ length numbers
+  pub bytes : 8 * sizes (functionTrees (writtenIn file functionStart)) ≤ length out
+
+-- The constraints' numbers are stored in one buffer and their circuits' nodes in another, and they are so many behind the private ones.
+pub record ConstraintsPut (w : WrittenFunction) (private : ℕ) (numbers numbersAfter out after : List ℕ) (r : Circuits) : Type 0 where
+  pub noted : numbersAfter ≡ stored numbers 0 (constraintNumbers 0 (w .constraints))
+  pub contents : after ≡ stored out 0 (flatMap nodeBytes (numberedAll 0 (circuitTrees w)))
+  pub nodes : r .nodes ≡ sizes (circuitTrees w)
+  pub count : private + r .count ≡ length (w .constraints)
+
+pub record FunctionReady (file : List ℕ) (functionStart nodesStart : ℕ) (log : List ℕ) (entries private : ℕ) (numbers scratch roots out : List ℕ) : Type 0 where
+  pub constraints : ConstraintsReady file functionStart nodesStart log entries private numbers out
+  pub scratchSpace : 5 * entries ≤ length scratch
+  pub rootsSpace : entries + 8 ≤ length roots
+
+-- A function's nodes, numbered from 0, and its constraints' numbers, and how many they are.
+pub record FunctionPut (w : WrittenFunction) (numbers numbersAfter out after : List ℕ) (r : Extent) : Type 0 where
+  pub noted : numbersAfter ≡ stored numbers 0 (constraintNumbers 0 (w .constraints))
+  pub contents : after ≡ stored out 0 (flatMap nodeBytes (numberedAll 0 (functionTrees w)))
+  pub nodes : r .nodes ≡ sizes (functionTrees w)
+  pub constraints : r .constraints ≡ length (w .constraints)

@@ -1,0 +1,105 @@
+// 01, Runs and views: the nodes of one written function, numbered from 0, and its constraints as flat numbers, for a call to walk.
+use write_bodies::write_function_body;
+use write_circuits::Circuits;
+use write_circuits::put_circuits;
+use write_circuits::put_four;
+ghost use mathlib.Core.Path.{_≡_};
+ghost use Prim.Native.Nat.{_*_, _≤_};
+ghost use lib.ListN.{length};
+ghost use Rattle.memory_buffer.specs.Buffer.{stored};
+ghost use Rattle.write_function_room.specs.Functions.{writtenIn};
+ghost use Rattle.walk_function_nodes.specs.Functions.{openingNumbers, ConstraintsReady, ConstraintsPut, FunctionReady, FunctionPut};
+
+// How many nodes were written, and how many constraints were noted.
+pub struct Extent {
+    pub nodes: usize,
+    pub constraints: usize,
+}
+
+// The constraints of so many private parameters, each ".. that it opens for the caller": no guard, the caller's owner code, 65,535 for "opens".
+fn put_openings(numbers: &mut [u16], private: usize)
+    requires { ⌜ (private ≤ 8) × (4 * private ≤ length (now numbers)) ⌝ }
+    ensures { λ _. ⌜ now (numbers .exit) ≡ stored (now (numbers .entry)) 0 (openingNumbers 0 private) ⌝ }
+{
+    let mut i: usize = 0;
+    while i < private {
+        put_four(numbers, 4 * i, 0, i as u16, 1, 65535);
+        i += 1;
+    }
+}
+
+// A function's constraints: those of its private parameters, then those that the log of its body's events claims, with their circuits.
+fn put_constraints(
+    file: &[u8],
+    function_at: usize,
+    nodes_at: usize,
+    log: &[u16],
+    entries: usize,
+    private: usize,
+    numbers: &mut [u16],
+    out: &mut [u8],
+) -> Circuits
+    requires { ⌜ ConstraintsReady (now file) «function_at» «nodes_at» (now log) entries private (now numbers) (now out) ⌝ }
+    ensures { λ r. ⌜ ConstraintsPut (writtenIn (now (file .entry)) «function_at») private (now (numbers .entry)) (now (numbers .exit)) (now (out .entry)) (now (out .exit)) r ⌝ }
+{
+    put_openings(numbers, private);
+    put_circuits(
+        file,
+        function_at,
+        nodes_at,
+        log,
+        0,
+        entries,
+        numbers,
+        4 * private,
+        out,
+        0,
+        0,
+    )
+}
+
+// The nodes of the function that begins at a place, and its constraints; `scratch` and `roots` are scratch space.
+pub fn put_function(
+    file: &[u8],
+    function_at: usize,
+    nodes_at: usize,
+    log: &[u16],
+    entries: usize,
+    private: usize,
+    numbers: &mut [u16],
+    scratch: &mut [u16],
+    roots: &mut [u16],
+    out: &mut [u8],
+) -> Extent
+    requires { ⌜ FunctionReady (now file) «function_at» «nodes_at» (now log) entries private (now numbers) (now scratch) (now roots) (now out) ⌝ }
+    ensures { λ r. ⌜ FunctionPut (writtenIn (now (file .entry)) «function_at») (now (numbers .entry)) (now (numbers .exit)) (now (out .entry)) (now (out .exit)) r ⌝ }
+{
+    let circuits = put_constraints(
+        file,
+        function_at,
+        nodes_at,
+        log,
+        entries,
+        private,
+        numbers,
+        out,
+    );
+    let nodes = circuits.nodes;
+    let count = private + circuits.count;
+    let body = write_function_body(
+        file,
+        function_at,
+        nodes_at,
+        private,
+        0 < count,
+        scratch,
+        roots,
+        out,
+        8 * nodes,
+        nodes,
+    );
+    Extent {
+        nodes: nodes + body,
+        constraints: count,
+    }
+}

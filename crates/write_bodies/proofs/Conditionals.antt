@@ -1,0 +1,154 @@
+-- A conditional behind the steps of its condition, from its condition and its branches.
+use mathlib.Core.Path.{_≡_, refl, ap, sym, subst, _∙_}
+use mathlib.Core.List.{List}
+use Prim.Native.Nat.{ℕ, _+_, _*_, _-_, _≤_}
+use native.Mathlib.Omega.{arith}
+use lib.ListN.{length, take}
+use Rattle.definitions.specs.Basics.{flatMap}
+use Rattle.definitions.specs.ContractFile.{Statement, NodeRecord}
+use Rattle.definitions.specs.Rewriting.{Command, Step, inBody, stepsBefore, nodeBytes, commandTree}
+use Rattle.theory_laws.proofs.Records.{kind-as}
+use Rattle.theory_trees.specs.Trees.{expressionIn, statementIn}
+use Rattle.memory_buffer.specs.Buffer.{stored}
+use Rattle.file_accepted.specs.Context.{nodesIn, scopeIn}
+use Rattle.file_accepted.proofs.Statements.{conditional-is, branches-below}
+use Rattle.rewrite_events.specs.Events.{variableCount}
+use Rattle.write_nodes.specs.Numbering.{Room, Numbered}
+use Rattle.write_nodes.proofs.Laws.{room-as, numbered-as}
+use Rattle.write_expressions.specs.Forms.{bodyForm}
+use Rattle.write_steps.specs.Steps.{closers}
+use Rattle.write_steps.proofs.Nesting.{nested-size}
+use Rattle.write_steps.proofs.Nested.{nested-rest-room, nested-close-room, numbered-nested}
+use Rattle.write_bodies.specs.declared.Extent.{Extent}
+use Rattle.write_bodies.specs.declared.Condition.{Condition}
+use Rattle.write_bodies.specs.Parts.{commandOf, eventsOf, branchCommand, statementTree, eventsAt, branchEvents, branchVariables, conditionEvents, conditionSteps, recordAt}
+use Rattle.write_bodies.specs.Bodies.{StatementReady, StatementWritten, ConditionReady, ConditionWritten, elseGuard, BranchesReady, BranchesWritten}
+use Rattle.write_bodies.proofs.Guards.{steps-few}
+use Rattle.write_bodies.proofs.Commands.{branching-command, branching-events, branching-variables}
+
+module _ (file : List ℕ) (functionStart nodesStart n i : ℕ) (scratch roots out : List ℕ) (at base : ℕ) (ready : StatementReady file functionStart nodesStart n i scratch roots out at base)
+    (r : NodeRecord) (same : r ≡ recordAt file nodesStart n) (kind : (recordAt file nodesStart n) .kind ≡ 21) where
+  own-kind : r .kind ≡ 21
+  own-kind = kind-as (recordAt file nodesStart n) r 21 (sym same) kind
+
+  is : statementIn (nodesIn file) n
+      ≡ Statement.conditional (expressionIn (nodesIn file) (r .first)) (statementIn (nodesIn file) (r .second)) (statementIn (nodesIn file) (r .third))
+  is = conditional-is file functionStart nodesStart (ready .context) n (ready .inside) r same own-kind
+
+  abbrev guard : ℕ
+  guard = i + variableCount (conditionEvents file functionStart (r .first) i)
+
+  abbrev steps : List Step
+  steps = conditionSteps file functionStart (r .first) i
+
+  abbrev rest : Command
+  rest =
+      Command.conditional ((inBody (scopeIn file functionStart) (expressionIn (nodesIn file) (r .first)) i) .form)
+      (branchCommand (scopeIn file functionStart) (statementIn (nodesIn file) (r .second)) guard)
+      (branchCommand (scopeIn file functionStart) (statementIn (nodesIn file) (r .third)) (elseGuard file functionStart r guard))
+
+  tree-is : statementTree file functionStart n i ≡ commandTree (stepsBefore steps rest)
+  tree-is =
+      ap (λ (s : Statement). commandTree (commandOf (scopeIn file functionStart) s i)) is
+      ∙ ap commandTree (branching-command (scopeIn file functionStart) (expressionIn (nodesIn file) (r .first)) (statementIn (nodesIn file) (r .second)) (statementIn (nodesIn file) (r .third)) i)
+
+  events-are : length (eventsAt file functionStart n i)
+      ≡ length (conditionEvents file functionStart (r .first) i)
+      + (branchEvents file functionStart (r .second) guard + branchEvents file functionStart (r .third) (elseGuard file functionStart r guard))
+  events-are =
+      ap (λ (s : Statement). length (eventsOf (scopeIn file functionStart) s i)) is
+      ∙ branching-events (scopeIn file functionStart) (expressionIn (nodesIn file) (r .first)) (statementIn (nodesIn file) (r .second)) (statementIn (nodesIn file) (r .third)) i
+
+  variables-are : variableCount (eventsAt file functionStart n i)
+      ≡ variableCount (conditionEvents file functionStart (r .first) i)
+      + (branchVariables file functionStart (r .second) guard + branchVariables file functionStart (r .third) (elseGuard file functionStart r guard))
+  variables-are =
+      ap (λ (s : Statement). variableCount (eventsOf (scopeIn file functionStart) s i)) is
+      ∙ branching-variables (scopeIn file functionStart) (expressionIn (nodesIn file) (r .first)) (statementIn (nodesIn file) (r .second)) (statementIn (nodesIn file) (r .third)) i
+
+  room-own : Room out at base (commandTree (stepsBefore steps rest))
+  room-own = room-as out at base _ _ tree-is (ready .room)
+
+  enough : length steps ≤ length roots
+  enough =
+      let fewer = steps-few (scopeIn file functionStart) (conditionEvents file functionStart (r .first) i) in
+      let events = events-are in
+      omega (arith, ready .steps)
+
+  pub condition-ready : ConditionReady file functionStart nodesStart (r .first) i scratch roots out at base
+  condition-ready =
+      let less = branches-below file functionStart nodesStart (ready .context) n (ready .inside) r same own-kind .0 in
+      let events = events-are in
+      let variables = variables-are in
+      record {
+        inside = omega (arith, ready .inside);
+        context = ready .context;
+        space = omega (arith, ready .space);
+        few = omega (arith, ready .few);
+        enough = enough;
+        then = branchCommand (scopeIn file functionStart) (statementIn (nodesIn file) (r .second)) guard;
+        else = branchCommand (scopeIn file functionStart) (statementIn (nodesIn file) (r .third)) (elseGuard file functionStart r guard);
+        room = room-own;
+      }
+
+  module _ (rootsAfter after : List ℕ) (c : Condition) (w : ConditionWritten file functionStart (r .first) i roots rootsAfter out after at base c) where
+    abbrev place : ℕ
+    place = at + 8 * c .nodes
+
+    abbrev number : ℕ
+    number = base + c .nodes
+
+    rest-room : Room (w .between) place number (commandTree rest)
+    rest-room = nested-rest-room out roots at base steps rest room-own enough (w .between) rootsAfter (record { count = c .count; nodes = c .nodes }) (w .put)
+
+    pub condition-fits : (c .count ≤ length roots) × ((place ≤ length out) × (number + c .count ≤ 65535))
+    condition-fits =
+        let total = nested-size steps rest in
+        (omega (arith, w .put .count, enough), (omega (arith, w .put .nodes, room-own .bytes), omega (arith, w .put .nodes, w .put .count, room-own .numbers)))
+
+    pub branches-ready : (scratchNow rootsNow : List ℕ) → length scratchNow ≡ length scratch → length rootsNow ≡ length rootsAfter - c .count → length rootsAfter ≡ length roots
+        → BranchesReady file functionStart nodesStart n (recordAt file nodesStart n) (c .form) (c .next) scratchNow rootsNow after place number
+    unfolding commandTree
+    branches-ready scratchNow rootsNow a b d =
+        let fewer = steps-few (scopeIn file functionStart) (conditionEvents file functionStart (r .first) i) in
+        let count = w .put .count in
+        let fits = condition-fits .0 in
+        let events = events-are in
+        let variables = variables-are in
+        subst (λ (x : NodeRecord). BranchesReady file functionStart nodesStart n x (c .form) (c .next) scratchNow rootsNow after place number) same
+        (rw (w .next)
+        (record {
+          inside = ready .inside;
+          context = ready .context;
+          kind = own-kind;
+          space = omega (arith, ready .space);
+          steps = omega (arith, ready .steps);
+          few = omega (arith, ready .few);
+          held = w .between;
+          condition = bodyForm (scopeIn file functionStart) (expressionIn (nodesIn file) (r .first)) i;
+          room = rest-room;
+          written = w .written;
+        }))
+
+    module _ (later : List ℕ) (e : Extent) (v : BranchesWritten file functionStart (recordAt file nodesStart n) (c .form) (c .next) after later place number e) where
+      branches-own : BranchesWritten file functionStart r (c .form) guard after later place number e
+      branches-own =
+          subst (λ (k : ℕ). BranchesWritten file functionStart r (c .form) k after later place number e) (w .next)
+          (subst (λ (x : NodeRecord). BranchesWritten file functionStart x (c .form) (c .next) after later place number e) (sym same) v)
+
+      rest-written : Numbered (w .between) later place number (commandTree rest) (e .nodes)
+      unfolding commandTree
+      rest-written = branches-own .for (w .between) (bodyForm (scopeIn file functionStart) (expressionIn (nodesIn file) (r .first)) i) rest-room (w .written)
+
+      pub close-room : (1 ≤ e .nodes) × ((c .count ≤ length rootsAfter) × ((number + e .nodes - 1 + c .count ≤ 65535) × (place + 8 * e .nodes + 8 * c .count ≤ length later)))
+      close-room = nested-close-room out roots at base steps rest room-own enough (w .between) rootsAfter (record { count = c .count; nodes = c .nodes }) (w .put) later (e .nodes) rest-written
+
+      pub conditional-written : (rootsNow last : List ℕ) → take (c .count) rootsNow ≡ take (c .count) rootsAfter
+          → last ≡ stored later (place + 8 * e .nodes) (flatMap nodeBytes (closers (take (c .count) rootsNow) (number + e .nodes - 1)))
+          → StatementWritten file functionStart n i out last at base (record { nodes = c .nodes + e .nodes + c .count; next = e .next })
+      conditional-written rootsNow last front h =
+          let closed : last ≡ stored later (place + 8 * e .nodes) (flatMap nodeBytes (closers (take (c .count) rootsAfter) (number + e .nodes - 1))) = rw front at h in
+          record {
+            written = numbered-as out at base last _ _ _ _ tree-is refl (numbered-nested out roots at base steps rest room-own enough (w .between) rootsAfter (record { count = c .count; nodes = c .nodes }) (w .put) later (e .nodes) rest-written last closed);
+            next = omega (arith, branches-own .next, variables-are);
+          }

@@ -1,0 +1,66 @@
+-- The trees of a file's statements and branches as they are written, and how many events and variables they have. None of it depends on a guard.
+use mathlib.Core.Bool.{Bool, cond}
+use mathlib.Core.List.{List, map}
+use Prim.Native.Nat.{ℕ, _+_, _*_}
+use lib.ListN.{length}
+use Rattle.definitions.specs.ContractFile.{boolean, Statement, Scope, NodeRecord, nodeRecord, parameterRecords, parameterOf}
+use Rattle.definitions.specs.Rewriting.{BodyExpression, Command, always, Step, privateParameters, openings, rewriteStatement, Tree, leaf, twoChildren, commandTree}
+use Rattle.theory_trees.specs.Trees.{expressionIn, statementIn}
+use Rattle.file_accepted.specs.Context.{nodesIn, scopeIn}
+use Rattle.file_accepted.specs.Functions.{rootAt}
+use Rattle.rewrite_events.specs.Events.{Event, variableCount, stepsOf, bodyEvents, statementEvents}
+
+module _ (scope : Scope) where
+  abbrev pub commandOf : Statement → ℕ → Command
+  commandOf s i = (rewriteStatement scope s always i) .command
+
+  abbrev pub eventsOf : Statement → ℕ → List Event
+  eventsOf s i = statementEvents scope s always i
+
+  -- "Each branch begins by setting a guard variable of its own to true": the guard is variable j.
+  abbrev pub branchCommand : Statement → ℕ → Command
+  branchCommand s j = Command.sequence (Command.setVariable j (BodyExpression.constant boolean 1)) (commandOf s (j + 1))
+
+  abbrev pub branchEventCount : Statement → ℕ → ℕ
+  branchEventCount s j = length (eventsOf s (j + 1)) + 1
+
+  abbrev pub branchVariableCount : Statement → ℕ → ℕ
+  branchVariableCount s j = variableCount (eventsOf s (j + 1)) + 1
+
+-- The same of node n of a file, in the function that begins at a place.
+module _ (file : List ℕ) (functionStart : ℕ) where
+  abbrev pub statementTree : ℕ → ℕ → Tree
+  statementTree n i = commandTree (commandOf (scopeIn file functionStart) (statementIn (nodesIn file) n) i)
+
+  abbrev pub eventsAt : ℕ → ℕ → List Event
+  eventsAt n i = eventsOf (scopeIn file functionStart) (statementIn (nodesIn file) n) i
+
+  abbrev pub branchTree : ℕ → ℕ → Tree
+  branchTree n j = commandTree (branchCommand (scopeIn file functionStart) (statementIn (nodesIn file) n) j)
+
+  abbrev pub branchEvents : ℕ → ℕ → ℕ
+  branchEvents n j = branchEventCount (scopeIn file functionStart) (statementIn (nodesIn file) n) j
+
+  abbrev pub branchVariables : ℕ → ℕ → ℕ
+  branchVariables n j = branchVariableCount (scopeIn file functionStart) (statementIn (nodesIn file) n) j
+
+  -- The events of a condition, and the steps before it.
+  abbrev pub conditionEvents : ℕ → ℕ → List Event
+  conditionEvents n i = bodyEvents (scopeIn file functionStart) always (expressionIn (nodesIn file) n) i
+
+  abbrev pub conditionSteps : ℕ → ℕ → List Step
+  conditionSteps n i = stepsOf (scopeIn file functionStart) (conditionEvents n i)
+
+-- The record of node n.
+abbrev pub recordAt : List ℕ → ℕ → ℕ → NodeRecord
+recordAt file nodesStart n = nodeRecord file (nodesStart + 2 + 8 * n)
+
+-- The reads of the private ones among parameters that stand in a file from a place on, the first of them number k; the first variable is number i.
+abbrev pub openingSteps : List ℕ → ℕ → ℕ → ℕ → ℕ → List Step
+openingSteps file place left k i = (openings (privateParameters k (map parameterOf (parameterRecords left file place))) i) .steps
+
+-- A function's root statement, and a verify behind it.
+abbrev pub passageTree : List ℕ → ℕ → ℕ → Bool → Tree
+passageTree file functionStart private verified =
+    let body = statementTree file functionStart (rootAt file functionStart) private in
+    cond verified (twoChildren 17 0 body (leaf 23 0 0 0)) body

@@ -1,0 +1,507 @@
+// 01, Rewriting: the nodes of a function's written body, statement by statement.
+use file_bytes::byte_at;
+use file_bytes::function_end;
+use file_bytes::node_at;
+use file_bytes::two_bytes_at;
+use memory_buffer::put_number;
+use rewrite_expressions::body_log;
+use rewrite_log::Position;
+use rewrite_statements::statement_log;
+use write_expressions::write_body_form;
+use write_nodes::put_above_three;
+use write_nodes::put_above_two;
+use write_nodes::put_leaf;
+use write_nodes::put_setting;
+use write_stepped_statements::write_single;
+use write_steps::Steps;
+use write_steps::close_steps;
+use write_steps::put_steps;
+ghost use mathlib.Core.Path.{_≡_};
+ghost use mathlib.Core.Bool.{true};
+ghost use Prim.Native.Nat.{_+_, _*_, _≤_};
+ghost use Rattle.definitions.specs.Rewriting.{commandTree};
+ghost use Rattle.theory_trees.specs.Trees.{statementIn};
+ghost use Rattle.file_accepted.specs.Context.{nodesIn};
+ghost use Rattle.write_nodes.specs.Numbering.{Numbered};
+ghost use Rattle.write_steps.specs.Steps.{StepsRoom, StepsPut};
+ghost use Rattle.write_function_room.specs.Functions.{writtenIn};
+ghost use Rattle.write_stepped_statements.proofs.Rewritten.{isSimple};
+ghost use Rattle.write_bodies.specs.Bodies.{StatementReady, StatementWritten, BranchReady, BranchWritten, ConditionReady, ConditionWritten, BranchesReady, BranchesWritten, PassageReady, BodyReady};
+ghost use Rattle.write_bodies.specs.Parts.{recordAt, openingSteps, passageTree};
+
+// How many nodes were written, and the number of the next variable.
+pub struct Extent {
+    pub nodes: usize,
+    pub next: usize,
+}
+
+// How many steps stand before a condition, how many nodes they and its form have, and the number of the next variable.
+pub struct Condition {
+    pub count: usize,
+    pub nodes: usize,
+    pub form: usize,
+    pub next: usize,
+}
+
+// A statement that holds no other, behind its steps.
+fn write_simple(
+    file: &[u8],
+    function_at: usize,
+    nodes_at: usize,
+    n: usize,
+    i: usize,
+    scratch: &mut [u16],
+    roots: &mut [u16],
+    out: &mut [u8],
+    at: usize,
+    base: usize,
+) -> Extent
+    requires { ⌜ (isSimple (statementIn (nodesIn (now file)) n) ≡ true) × (StatementReady (now file) «function_at» «nodes_at» n i (now scratch) (now roots) (now out) at base) ⌝ }
+    ensures { λ r. ⌜ StatementWritten (now (file .entry)) «function_at» n i (now (out .entry)) (now (out .exit)) at base r ⌝ }
+{
+    let start = Position { at: 0, variable: i };
+    let end = statement_log(file, function_at, nodes_at, n, 0, scratch, start);
+    let entries = end.at / 5;
+    let nodes = write_single(
+        file,
+        function_at,
+        nodes_at,
+        scratch,
+        0,
+        entries,
+        n,
+        i,
+        roots,
+        out,
+        at,
+        base,
+    );
+    Extent {
+        nodes: nodes,
+        next: end.variable,
+    }
+}
+
+// The steps before a condition, and its form.
+fn write_condition(
+    file: &[u8],
+    function_at: usize,
+    nodes_at: usize,
+    n: usize,
+    i: usize,
+    scratch: &mut [u16],
+    roots: &mut [u16],
+    out: &mut [u8],
+    at: usize,
+    base: usize,
+) -> Condition
+    requires { ⌜ ConditionReady (now file) «function_at» «nodes_at» n i (now scratch) (now roots) (now out) at base ⌝ }
+    ensures { λ r. ⌜ ConditionWritten (now (file .entry)) «function_at» n i (now (roots .entry)) (now (roots .exit)) (now (out .entry)) (now (out .exit)) at base r ⌝ }
+{
+    let start = Position { at: 0, variable: i };
+    let end = body_log(file, function_at, nodes_at, n, 0, scratch, start);
+    let entries = end.at / 5;
+    let steps = put_steps(
+        file,
+        function_at,
+        nodes_at,
+        scratch,
+        0,
+        entries,
+        roots,
+        0,
+        out,
+        at,
+        base,
+    );
+    let place = at + 8 * steps.nodes;
+    let first = base + steps.nodes;
+    let form = write_body_form(file, function_at, nodes_at, n, i, out, place, first);
+    Condition {
+        count: steps.count,
+        nodes: steps.nodes,
+        form: form,
+        next: end.variable,
+    }
+}
+
+// "Each branch begins by setting a guard variable of its own to true": node n behind guard j.
+fn write_branch(
+    file: &[u8],
+    function_at: usize,
+    nodes_at: usize,
+    n: usize,
+    j: usize,
+    scratch: &mut [u16],
+    roots: &mut [u16],
+    out: &mut [u8],
+    at: usize,
+    base: usize,
+) -> Extent
+    requires { ⌜ BranchReady (now file) «function_at» «nodes_at» n j (now scratch) (now roots) (now out) at base ⌝ }
+    ensures { λ r. ⌜ BranchWritten (now (file .entry)) «function_at» n j (now (out .entry)) (now (out .exit)) at base r ⌝ }
+{
+    put_leaf(1, 0, 1, 0, out, at);
+    put_setting(j, 1, out, at, base);
+    let inside = write_statement(
+        file,
+        function_at,
+        nodes_at,
+        n,
+        j + 1,
+        scratch,
+        roots,
+        out,
+        at + 16,
+        base + 2,
+    );
+    let nodes = put_above_two(17, 0, 2, inside.nodes, out, at, base);
+    Extent {
+        nodes: nodes,
+        next: inside.next,
+    }
+}
+
+// The two branches of conditional n and its own node, behind a condition of so many nodes; the first guard is variable j.
+fn write_branches(
+    file: &[u8],
+    function_at: usize,
+    nodes_at: usize,
+    n: usize,
+    form: usize,
+    j: usize,
+    scratch: &mut [u16],
+    roots: &mut [u16],
+    out: &mut [u8],
+    at: usize,
+    base: usize,
+) -> Extent
+    requires { ⌜ BranchesReady (now file) «function_at» «nodes_at» n (recordAt (now file) «nodes_at» n) form j (now scratch) (now roots) (now out) at base ⌝ }
+    ensures { λ r. ⌜ BranchesWritten (now (file .entry)) «function_at» (recordAt (now (file .entry)) «nodes_at» n) form j (now (out .entry)) (now (out .exit)) at base r ⌝ }
+{
+    let node = node_at(file, nodes_at, n);
+    let a = at + 8 * form;
+    let b = base + form;
+    let then = write_branch(
+        file,
+        function_at,
+        nodes_at,
+        node.second,
+        j,
+        scratch,
+        roots,
+        out,
+        a,
+        b,
+    );
+    let c = a + 8 * then.nodes;
+    let d = b + then.nodes;
+    let k = then.next;
+    let last = write_branch(
+        file,
+        function_at,
+        nodes_at,
+        node.third,
+        k,
+        scratch,
+        roots,
+        out,
+        c,
+        d,
+    );
+    let nodes = put_above_three(21, form, then.nodes, last.nodes, out, at, base);
+    Extent {
+        nodes: nodes,
+        next: last.next,
+    }
+}
+
+// A conditional behind the steps of its condition. The steps' roots stay before those of the branches.
+fn write_conditional(
+    file: &[u8],
+    function_at: usize,
+    nodes_at: usize,
+    n: usize,
+    i: usize,
+    scratch: &mut [u16],
+    roots: &mut [u16],
+    out: &mut [u8],
+    at: usize,
+    base: usize,
+) -> Extent
+    requires { ⌜ ((recordAt (now file) «nodes_at» n) .kind ≡ 21) × (StatementReady (now file) «function_at» «nodes_at» n i (now scratch) (now roots) (now out) at base) ⌝ }
+    ensures { λ r. ⌜ StatementWritten (now (file .entry)) «function_at» n i (now (out .entry)) (now (out .exit)) at base r ⌝ }
+{
+    let first = node_at(file, nodes_at, n).first;
+    let c = write_condition(
+        file,
+        function_at,
+        nodes_at,
+        first,
+        i,
+        scratch,
+        roots,
+        out,
+        at,
+        base,
+    );
+    let count = c.count;
+    let place = at + 8 * c.nodes;
+    let number = base + c.nodes;
+    let rest = write_branches(
+        file,
+        function_at,
+        nodes_at,
+        n,
+        c.form,
+        c.next,
+        scratch,
+        &mut roots[count..],
+        out,
+        place,
+        number,
+    );
+    let top = number + rest.nodes - 1;
+    close_steps(roots, count, top, out, place + 8 * rest.nodes);
+    Extent {
+        nodes: c.nodes + rest.nodes + count,
+        next: rest.next,
+    }
+}
+
+// Statement n, whose first variable is number i; `scratch` and `roots` are scratch space.
+pub fn write_statement(
+    file: &[u8],
+    function_at: usize,
+    nodes_at: usize,
+    n: usize,
+    i: usize,
+    scratch: &mut [u16],
+    roots: &mut [u16],
+    out: &mut [u8],
+    at: usize,
+    base: usize,
+) -> Extent
+    requires { ⌜ StatementReady (now file) «function_at» «nodes_at» n i (now scratch) (now roots) (now out) at base ⌝ }
+    ensures { λ r. ⌜ StatementWritten (now (file .entry)) «function_at» n i (now (out .entry)) (now (out .exit)) at base r ⌝ }
+{
+    let node = node_at(file, nodes_at, n);
+    let kind = node.kind;
+    match kind {
+        17 => write_sequence(
+            file,
+            function_at,
+            nodes_at,
+            n,
+            i,
+            scratch,
+            roots,
+            out,
+            at,
+            base,
+        ),
+        21 => write_conditional(
+            file,
+            function_at,
+            nodes_at,
+            n,
+            i,
+            scratch,
+            roots,
+            out,
+            at,
+            base,
+        ),
+        _ => write_simple(
+            file,
+            function_at,
+            nodes_at,
+            n,
+            i,
+            scratch,
+            roots,
+            out,
+            at,
+            base,
+        ),
+    }
+}
+
+// Two statements and the sequence above them.
+fn write_sequence(
+    file: &[u8],
+    function_at: usize,
+    nodes_at: usize,
+    n: usize,
+    i: usize,
+    scratch: &mut [u16],
+    roots: &mut [u16],
+    out: &mut [u8],
+    at: usize,
+    base: usize,
+) -> Extent
+    requires { ⌜ ((recordAt (now file) «nodes_at» n) .kind ≡ 17) × (StatementReady (now file) «function_at» «nodes_at» n i (now scratch) (now roots) (now out) at base) ⌝ }
+    ensures { λ r. ⌜ StatementWritten (now (file .entry)) «function_at» n i (now (out .entry)) (now (out .exit)) at base r ⌝ }
+{
+    let node = node_at(file, nodes_at, n);
+    let first = write_statement(
+        file,
+        function_at,
+        nodes_at,
+        node.first,
+        i,
+        scratch,
+        roots,
+        out,
+        at,
+        base,
+    );
+    let j = first.next;
+    let a = at + 8 * first.nodes;
+    let b = base + first.nodes;
+    let second = write_statement(
+        file,
+        function_at,
+        nodes_at,
+        node.second,
+        j,
+        scratch,
+        roots,
+        out,
+        a,
+        b,
+    );
+    let nodes = put_above_two(17, 0, first.nodes, second.nodes, out, at, base);
+    Extent {
+        nodes: nodes,
+        next: second.next,
+    }
+}
+
+// "First, each private parameter is read": the steps of the parameters from number k on, which stand in the file from a place on; the
+// first variable is number i.
+fn put_openings(
+    file: &[u8],
+    place: usize,
+    left: usize,
+    k: usize,
+    i: usize,
+    roots: &mut [u16],
+    out: &mut [u8],
+    at: usize,
+    base: usize,
+) -> Steps
+    requires { ⌜ (k + left ≤ 8) × ((i ≤ k) × ((place + 2 * left ≤ 1000000) × (StepsRoom (now out) (now roots) at base i (openingSteps (now file) place left k i)))) ⌝ }
+    ensures { λ r. ⌜ StepsPut (now (out .entry)) (now (out .exit)) (now (roots .entry)) (now (roots .exit)) at base i (openingSteps (now (file .entry)) place left k i) r ⌝ }
+{
+    if left == 0 {
+        return Steps { count: 0, nodes: 0 };
+    }
+    let next = place + 2;
+    if byte_at(file, place + 1) == 0 {
+        return put_openings(file, next, left - 1, k + 1, i, roots, out, at, base);
+    }
+    put_leaf(5, k as u8, 0, 0, out, at);
+    put_setting(i, 1, out, at, base);
+    put_number(roots, i, (base + 1) as u16);
+    let later = put_openings(
+        file,
+        next,
+        left - 1,
+        k + 1,
+        i + 1,
+        roots,
+        out,
+        at + 16,
+        base + 2,
+    );
+    Steps {
+        count: later.count + 1,
+        nodes: 2 + later.nodes,
+    }
+}
+
+// "A verify ends the body if any constraint exists."
+fn write_passage(
+    file: &[u8],
+    function_at: usize,
+    nodes_at: usize,
+    private: usize,
+    verified: bool,
+    scratch: &mut [u16],
+    roots: &mut [u16],
+    out: &mut [u8],
+    at: usize,
+    base: usize,
+) -> usize
+    requires { ⌜ PassageReady (now file) «function_at» «nodes_at» private verified (now scratch) (now roots) (now out) at base ⌝ }
+    ensures { λ r. ⌜ Numbered (now (out .entry)) (now (out .exit)) at base (passageTree (now (file .entry)) «function_at» private verified) r ⌝ }
+{
+    let root = two_bytes_at(file, function_end(file, function_at) - 2);
+    let body = write_statement(
+        file,
+        function_at,
+        nodes_at,
+        root,
+        private,
+        scratch,
+        roots,
+        out,
+        at,
+        base,
+    );
+    let nodes = body.nodes;
+    if verified {
+        put_leaf(23, 0, 0, 0, out, at + 8 * nodes);
+        put_above_two(17, 0, nodes, 1, out, at, base)
+    } else {
+        nodes
+    }
+}
+
+// The body of the function that begins at a place, behind the reads of its private parameters.
+pub fn write_function_body(
+    file: &[u8],
+    function_at: usize,
+    nodes_at: usize,
+    private: usize,
+    verified: bool,
+    scratch: &mut [u16],
+    roots: &mut [u16],
+    out: &mut [u8],
+    at: usize,
+    base: usize,
+) -> usize
+    requires { ⌜ BodyReady (now file) «function_at» «nodes_at» private verified (now scratch) (now roots) (now out) at base ⌝ }
+    ensures { λ r. ⌜ Numbered (now (out .entry)) (now (out .exit)) at base (commandTree ((writtenIn (now (file .entry)) «function_at») .body)) r ⌝ }
+{
+    let parameters = byte_at(file, function_at);
+    let opened = put_openings(
+        file,
+        function_at + 1,
+        parameters,
+        0,
+        0,
+        roots,
+        out,
+        at,
+        base,
+    );
+    let count = opened.count;
+    let place = at + 8 * opened.nodes;
+    let number = base + opened.nodes;
+    let rest = write_passage(
+        file,
+        function_at,
+        nodes_at,
+        private,
+        verified,
+        scratch,
+        &mut roots[count..],
+        out,
+        place,
+        number,
+    );
+    close_steps(roots, count, number + rest - 1, out, place + 8 * rest);
+    opened.nodes + rest + count
+}

@@ -1,0 +1,144 @@
+// 01, Rewriting: the circuits of a log's claims written behind one another, and the claims' numbers and bytes.
+use memory_append::append_two_bytes;
+use memory_buffer::put_number;
+use write_expressions::write_circuit_form;
+ghost use mathlib.Core.Path.{_≡_};
+ghost use Prim.Native.Nat.{_+_, _*_, _<_, _≤_};
+ghost use lib.ListN.{length, getD};
+ghost use Rattle.memory_buffer.specs.Buffer.{stored};
+ghost use Rattle.memory_append.specs.Append.{Appended};
+ghost use Rattle.file_accepted.specs.Context.{Context, nodesIn, scopeIn};
+ghost use Rattle.write_nodes.specs.Numbering.{Room, Numbered};
+ghost use Rattle.write_circuits.specs.Circuits.{four, circuitAt, claimsIn, Claimable, EntryClaimable, CircuitsRoom, CircuitsPut, sixBytes, sixesFrom};
+
+pub struct Circuits {
+    pub count: usize,
+    pub nodes: usize,
+}
+
+// A claim's guard, variable, owner code and root.
+pub fn put_four(numbers: &mut [u16], noted: usize, guard: u16, variable: u16, owner: u16, root: u16)
+    requires { ⌜ noted + 4 ≤ length (now numbers) ⌝ }
+    ensures { λ _. ⌜ now (numbers .exit) ≡ stored (now (numbers .entry)) noted (four guard variable owner root) ⌝ }
+{
+    put_number(numbers, noted, guard);
+    put_number(numbers, noted + 1, variable);
+    put_number(numbers, noted + 2, owner);
+    put_number(numbers, noted + 3, root);
+}
+
+// The circuit of one claim, whose first variable is the one behind the claim's own.
+fn put_circuit(
+    file: &[u8],
+    function_at: usize,
+    nodes_at: usize,
+    log: &[u16],
+    from: usize,
+    out: &mut [u8],
+    at: usize,
+    base: usize,
+) -> usize
+    requires { ⌜ (Context (now file) «function_at» «nodes_at») × ((EntryClaimable (now file) «function_at» (now log) from) × (Room (now out) at base (circuitAt (scopeIn (now file) «function_at») (nodesIn (now file)) (now log) from))) ⌝ }
+    ensures { λ r. ⌜ Numbered (now (out .entry)) (now (out .exit)) at base (circuitAt (scopeIn (now (file .entry)) «function_at») (nodesIn (now (file .entry))) (now (log .entry)) from) r ⌝ }
+{
+    let first = log[from + 1] as usize + 1;
+    let n = log[from + 3] as usize;
+    write_circuit_form(file, function_at, nodes_at, n, first, out, at, base)
+}
+
+// The numbers of one claim, whose circuit has this root.
+fn put_claim(log: &[u16], from: usize, root: u16, numbers: &mut [u16], noted: usize)
+    requires { ⌜ (from + 5 ≤ length (now log)) × (noted + 4 ≤ length (now numbers)) ⌝ }
+    ensures { λ _. ⌜ now (numbers .exit) ≡ stored (now (numbers .entry)) noted (four (getD (now (log .entry)) (from + 4) 0) (getD (now (log .entry)) (from + 1) 0) (getD (now (log .entry)) (from + 2) 0) root) ⌝ }
+{
+    put_four(
+        numbers,
+        noted,
+        log[from + 4],
+        log[from + 1],
+        log[from + 2],
+        root,
+    );
+}
+
+// The circuits of the claims among `left` entries of a log, with the claims' numbers noted from place `noted` on.
+pub fn put_circuits(
+    file: &[u8],
+    function_at: usize,
+    nodes_at: usize,
+    log: &[u16],
+    from: usize,
+    left: usize,
+    numbers: &mut [u16],
+    noted: usize,
+    out: &mut [u8],
+    at: usize,
+    base: usize,
+) -> Circuits
+    requires { ⌜ (Context (now file) «function_at» «nodes_at») × ((Claimable (now file) «function_at» (now log) from left) × (CircuitsRoom (now out) (now numbers) at base noted (claimsIn (now file) «function_at» (now log) from left))) ⌝ }
+    ensures { λ r. ⌜ CircuitsPut (now (out .entry)) (now (out .exit)) (now (numbers .entry)) (now (numbers .exit)) at base noted (claimsIn (now (file .entry)) «function_at» (now (log .entry)) from left) r ⌝ }
+{
+    if left == 0 {
+        Circuits { count: 0, nodes: 0 }
+    } else if log[from] == 1 {
+        let nodes = put_circuit(file, function_at, nodes_at, log, from, out, at, base);
+        put_claim(log, from, (base + nodes - 1) as u16, numbers, noted);
+        let later = put_circuits(
+            file,
+            function_at,
+            nodes_at,
+            log,
+            from + 5,
+            left - 1,
+            numbers,
+            noted + 4,
+            out,
+            at + 8 * nodes,
+            base + nodes,
+        );
+        Circuits {
+            count: later.count + 1,
+            nodes: nodes + later.nodes,
+        }
+    } else {
+        put_circuits(
+            file,
+            function_at,
+            nodes_at,
+            log,
+            from + 5,
+            left - 1,
+            numbers,
+            noted,
+            out,
+            at,
+            base,
+        )
+    }
+}
+
+// "each guard (0, or 1 + variable), variable, root .., two bytes each"
+fn append_claim(guard: u16, variable: u16, root: u16, out: &mut [u8], at: usize) -> usize
+    requires { ⌜ at + 6 ≤ length (now out) ⌝ }
+    ensures { λ r. ⌜ Appended (now (out .entry)) (now (out .exit)) at (sixBytes guard variable root) r ⌝ }
+{
+    let next = append_two_bytes(guard as usize, out, at);
+    let last = append_two_bytes(variable as usize, out, next);
+    append_two_bytes(root as usize, out, last)
+}
+
+// The bytes of the claims whose numbers are the first `count` fours.
+pub fn append_claims(numbers: &[u16], count: usize, out: &mut [u8], from: usize) -> usize
+    requires { ⌜ (4 * count ≤ length (now numbers)) × (from + 6 * count ≤ length (now out)) ⌝ }
+    ensures { λ r. ⌜ Appended (now (out .entry)) (now (out .exit)) from (sixesFrom (now (numbers .entry)) 0 count) r ⌝ }
+{
+    let mut at = from;
+    let mut i = 0;
+    let mut left = count;
+    while 0 < left {
+        at = append_claim(numbers[i], numbers[i + 1], numbers[i + 3], out, at);
+        i += 4;
+        left -= 1;
+    }
+    at
+}

@@ -1,0 +1,34 @@
+-- The fronts of the two buffers are the parts of the written file.
+use mathlib.Core.Path.{ap, sym, _∙_}
+use native.Mathlib.Omega.{arith}
+use lib.ListN.{length}
+use Rattle.memory_buffer.proofs.Laws.{front-stored}
+use Rattle.write_contract.proofs.Answers.{accepted-parts}
+use Rattle.write_parts.proofs.Parts.{parts-fit, parts-make, nodes-long}
+use borrow.Author.Needs.{needs}
+use Rattle.write_contract.proofs.write_accepted.Statement.{statement}
+use Rattle.write_contract.proofs.write_accepted.Tie as tie
+
+pub write-accepted-spec : {M : Type 1} → statement M
+write-accepted-spec =
+    tie.close
+    (tie.spec
+    (λ c. search needs)
+    (λ c. search needs)
+    (λ c κs. search needs)
+    (λ c. omega (arith, parts-fit (c .before .before .before .before .before .before .before .before .args .file .now) _ _ _ _ _ _ (c .before .before .before .write-parts .ensures) (c .before .before .before .before .before .before .before .before .pre)))
+    (λ c. omega (arith, parts-fit (c .before .before .before .before .before .before .before .before .args .file .now) _ _ _ _ _ _ (c .before .before .before .write-parts .ensures) (c .before .before .before .before .before .before .before .before .pre)))
+    (λ c. let put = c .before .before .before .before .write-parts .ensures in let front = front-stored _ _ _ _ (put .headings) (put .end) in put .end ∙ sym (ap length front))
+    (λ c. omega (arith, parts-fit (c .before .before .before .before .before .before .before .before .before .args .file .now) _ _ _ _ _ _ (c .before .before .before .before .write-parts .ensures) (c .before .before .before .before .before .before .before .before .before .pre)))
+    (λ c. let put = c .before .before .before .before .before .write-parts .ensures in let back = front-stored _ _ _ _ (put .nodes) (nodes-long (c .before .before .before .before .before .before .before .before .before .before .args .file .now) _ _ _ _ _ _ put (c .before .before .before .before .before .before .before .before .before .before .pre)) in nodes-long (c .before .before .before .before .before .before .before .before .before .before .args .file .now) _ _ _ _ _ _ put (c .before .before .before .before .before .before .before .before .before .before .pre) ∙ sym (ap length back))
+    (λ c κs. let put = c .before .before .before .before .before .before .write-parts .ensures in
+    let fit = parts-fit (c .before .before .before .before .before .before .before .before .before .before .before .args .file .now) _ _ _ _ _ _ (c .before .before .before .before .before .before .write-parts .ensures) (c .before .before .before .before .before .before .before .before .before .before .before .pre) in
+    let front = ap length (front-stored _ _ _ _ (put .headings) (put .end)) in
+    let back = ap length (front-stored _ _ _ _ (put .nodes) (nodes-long (c .before .before .before .before .before .before .before .before .before .before .before .args .file .now) _ _ _ _ _ _ put (c .before .before .before .before .before .before .before .before .before .before .before .pre))) in
+    let long = nodes-long (c .before .before .before .before .before .before .before .before .before .before .before .args .file .now) _ _ _ _ _ _ put (c .before .before .before .before .before .before .before .before .before .before .before .pre) in
+    (omega (arith, put .end), omega arith))
+    (λ c. search needs)
+    (λ c. let put = c .before .before .before .before .before .before .before .before .before .write-parts .ensures in
+    let front = front-stored _ _ _ _ (put .headings) (put .end) in
+    let back = front-stored _ _ _ _ (put .nodes) (nodes-long (c .before .before .before .before .before .before .before .before .before .before .before .before .before .before .args .file .now) _ _ _ _ _ _ put (c .before .before .before .before .before .before .before .before .before .before .before .before .before .before .pre)) in
+    accepted-parts (c .before .before .before .before .before .before .before .before .before .before .before .before .before .before .args .file .now) _ _ _ _ _ _ _ _ _ (c .before .before .before .before .before .before .before .before .before .before .before .before .before .before .pre) (parts-make (c .before .before .before .before .before .before .before .before .before .before .before .before .before .before .args .file .now) _ _ _ _ _ _ put (c .before .before .before .before .before .before .before .before .before .before .before .before .before .before .pre)) front back (c .before .before .hand-out .ensures)))

@@ -1,0 +1,67 @@
+// 01, Rewriting: a contract file checked and written into lent memory.
+use check_contract::check;
+use memory_append::append;
+use memory_append::append_two_bytes;
+use write_parts::write_parts;
+ghost use mathlib.Core.Path.{_≡_};
+ghost use mathlib.Core.List.{_++_};
+ghost use Prim.Native.Nat.{_≤_};
+ghost use lib.ListN.{length};
+ghost use Rattle.definitions.specs.Basics.{twoBytes};
+ghost use Rattle.definitions.specs.Numbers.{checkNumber};
+ghost use Rattle.definitions.specs.Rewriting.{writeNumber, writtenLength, outputAfterWriting};
+ghost use Rattle.write_contract.specs.Answers.{Promised, HandedOut};
+
+// A number, 0 where the file is written, and the written file's length.
+pub struct Answer {
+    pub number: u8,
+    pub length: usize,
+}
+
+// "16. The lent output is too short": else headings, count of nodes and nodes stand there, one behind another.
+fn hand_out(headings: &[u8], nodes: &[u8], count: usize, out: &mut [u8]) -> Answer
+    requires { ⌜ (length (now headings) ≤ 49152) × (length (now nodes) ≤ 49152) ⌝ }
+    ensures { λ r. ⌜ HandedOut (now (headings .entry) ++ twoBytes count ++ now (nodes .entry)) (now (out .entry)) (now (out .exit)) (r .number) (r .length) ⌝ }
+{
+    let total = headings.len() + 2 + nodes.len();
+    if out.len() < total {
+        return Answer {
+            number: 16,
+            length: 0,
+        };
+    }
+    let middle = append(headings, out, 0);
+    let next = append_two_bytes(count, out, middle);
+    append(nodes, out, next);
+    Answer {
+        number: 0,
+        length: total,
+    }
+}
+
+// Both parts are made in buffers that always suffice; what is handed out is copied from them.
+fn write_accepted(file: &[u8], out: &mut [u8]) -> Answer
+    requires { ⌜ checkNumber (now file) ≡ 0 ⌝ }
+    ensures { λ r. ⌜ Promised (now (file .entry)) (now (out .entry)) (now (out .exit)) (r .number) (r .length) ⌝ }
+{
+    let mut headings = [0u8; 49152];
+    let mut nodes = [0u8; 49152];
+    let parts = write_parts(file, &mut headings[..], &mut nodes[..]);
+    let end = parts.end;
+    let bytes = 8 * parts.nodes;
+    hand_out(&headings[..end], &nodes[..bytes], parts.nodes, out)
+}
+
+// A wrong writer that this rules out: one that writes a byte before it refuses; one that leaves a byte behind the written file changed.
+pub fn write(file: &[u8], out: &mut [u8]) -> Answer
+    ensures { λ r. ⌜ (r .number ≡ writeNumber (now (file .entry)) (length (now (out .entry)))) × ((r .length ≡ writtenLength (now (file .entry)) (length (now (out .entry)))) × (now (out .exit) ≡ outputAfterWriting (now (file .entry)) (now (out .entry)))) ⌝ }
+{
+    let number = check(file);
+    if 0 < number {
+        return Answer {
+            number: number,
+            length: 0,
+        };
+    }
+    write_accepted(file, out)
+}

@@ -1,0 +1,140 @@
+-- Each function of an accepted file can be written, behind those before it and alone.
+use mathlib.Core.Path.{_≡_, ap, _∙_}
+use mathlib.Core.Bool.{Bool, true, false, cond}
+use mathlib.Core.List.{List, [], _∷_}
+use Prim.Native.Nat.{ℕ, zero, suc, _+_, _*_, _-_, _<_, _≤_}
+use native.Mathlib.Omega.{arith}
+use lib.ListN.{length}
+use Rattle.definitions.specs.ContractFile.{Statement, Parameter, Function, functionAt, byteAt, functionCount, nodesAt, nodeCount, sectionsOf, contractOf}
+use Rattle.definitions.specs.Numbers.{checkNumber}
+use Rattle.definitions.specs.Rewriting.{always, privateParameters}
+use Rattle.file_accepted.proofs.Declarations.{parameters-count}
+use Rattle.file_bytes.proofs.Sections.{count-of-nodes}
+use Rattle.theory_accepted.specs.Settled.{Settled}
+use Rattle.theory_accepted.proofs.Sentences.{accepted-settled}
+use Rattle.theory_trees.specs.Trees.{statementIn}
+use Rattle.file_accepted.specs.Context.{nodesIn, fieldsIn, parametersIn, scopeIn, Context}
+use Rattle.file_accepted.specs.Functions.{functionStart, rootAt}
+use Rattle.file_accepted.proofs.Accepted.{few-functions, context-of}
+use Rattle.file_accepted.proofs.Functions.{functions-count, function-in, root-below}
+use Rattle.rewrite_events.specs.Events.{variableCount}
+use Rattle.theory_trees.specs.Sizes.{statementSize}
+use Rattle.rewrite_events.proofs.Lengths.{statement-length}
+use Rattle.write_variables.specs.Variables.{ownersFit}
+use Rattle.write_parameters.specs.Parameters.{privateCount}
+use Rattle.write_room.specs.Sizes.{bodiesSize}
+use Rattle.write_room.proofs.Functions.{rewritten-weight}
+use Rattle.write_room.proofs.Room.{nodes-suffice, room-suffices}
+use Rattle.write_function_room.specs.Functions.{functionIn, privateIn, eventsIn, headingsBefore, nodesBefore, FunctionRoom}
+use Rattle.write_function_room.proofs.Sparse.{variables-sparse}
+use Rattle.rewrite_event_owners.proofs.Files.{owners-listed}
+use Rattle.write_function_room.proofs.Owners.{owners-fit}
+use Rattle.write_function_room.proofs.Written.{before-step, headings-before-step, written-length}
+
+body-within : (gs : List Function) (f : ℕ) → f < length gs → statementSize ((functionAt gs f) .body) ≤ bodiesSize gs
+unfolding bodiesSize
+body-within [] f h = absurd (omega arith)
+body-within (g ∷ gs) zero h = omega arith
+body-within (g ∷ gs) (suc f) h = omega (arith, body-within gs f (omega arith))
+
+private-few : (k : ℕ) (ps : List Parameter) → length (privateParameters k ps) ≤ length ps
+unfolding privateParameters
+private-few k [] = omega arith
+private-few k (p ∷ ps) = go (p .private) (private-few (suc k) ps)
+  where
+    go : (b : Bool) → length (privateParameters (suc k) ps) ≤ length ps → length (cond b (k ∷ privateParameters (suc k) ps) (privateParameters (suc k) ps)) ≤ suc (length ps)
+    go true h = omega arith
+    go false h = omega arith
+
+private-within : (file : List ℕ) (at : ℕ) → privateIn file at ≤ byteAt file at
+unfolding privateCount parametersIn
+private-within file at = omega (arith, private-few 0 (parametersIn file at), parameters-count file at)
+
+-- What stands before a later function is no less than what stands before and in an earlier one.
+module _ (file : List ℕ) where
+  before-grows : (f more : ℕ) → f + more ≤ functionCount file → nodesBefore file f ≤ nodesBefore file (f + more)
+  before-grows f zero h = let e : f + 0 ≡ f = omega arith in rw e (omega arith)
+  before-grows f (suc more) h =
+      let e : f + suc more ≡ suc (f + more) = omega arith in
+      rw e (omega (arith, before-grows f more (omega arith), before-step file (f + more) (omega arith)))
+
+  headings-grow : (f more : ℕ) → f + more ≤ functionCount file → headingsBefore file f ≤ headingsBefore file (f + more)
+  headings-grow f zero h = let e : f + 0 ≡ f = omega arith in rw e (omega arith)
+  headings-grow f (suc more) h =
+      let e : f + suc more ≡ suc (f + more) = omega arith in
+      rw e (omega (arith, headings-grow f more (omega arith), headings-before-step file (f + more) (omega arith)))
+
+module _ (file : List ℕ) (accepted : checkNumber file ≡ 0) where
+  settled : Settled file
+  settled = accepted-settled file accepted
+
+  pub functions-few : functionCount file ≤ 16
+  functions-few = few-functions file (settled .counts)
+
+  pub file-fits : headingsBefore file (functionCount file) + 2 + 8 * nodesBefore file (functionCount file) ≤ 49152
+  file-fits = omega (arith, room-suffices file accepted, written-length file)
+
+  module _ (f : ℕ) (inside : f < functionCount file) where
+    abbrev start : ℕ
+    start = functionStart file f
+
+    pub function-context : Context file start (nodesAt file)
+    function-context = context-of file f (settled .counts) (settled .tables) (settled .numbers) (settled .sorts) inside
+
+    pub function-root : rootAt file start < nodeCount file
+    function-root = root-below file f (settled .numbers) inside
+
+    abbrev body : Statement
+    body = statementIn (nodesIn file) (rootAt file start)
+
+    -- The nodes of the body are nodes of the file.
+    body-small : statementSize body ≤ 512
+    body-small =
+        let same = ap (λ (g : Function). statementSize (g .body)) (function-in file f inside) in
+        let counted = functions-count file in
+        let one = body-within ((contractOf (sectionsOf file)) .functions) f (omega arith) in
+        omega (arith, nodes-suffice file accepted, count-of-nodes file, function-context .fewNodes)
+
+    events-few : length (eventsIn file start) ≤ 1536
+    events-few = omega (arith, statement-length (scopeIn file start) body always (privateIn file start), body-small)
+
+    variables-few : privateIn file start + variableCount (eventsIn file start) ≤ 1024
+    variables-few =
+        omega (arith, variables-sparse (scopeIn file start) body always (privateIn file start), body-small, private-within file start, function-context .fewParameters)
+
+    owners-small : ownersFit (eventsIn file start)
+    owners-small =
+        owners-fit (eventsIn file start) (owners-listed file start function-context (rootAt file start) always (privateIn file start))
+
+    pub function-room : FunctionRoom file start (headingsBefore file f) (nodesBefore file f)
+    function-room =
+        let more : suc f + (functionCount file - suc f) ≡ functionCount file = omega arith in
+        let nodes = rw more at (before-grows file (suc f) (functionCount file - suc f) (omega arith)) in
+        let headings = rw more at (headings-grow file (suc f) (functionCount file - suc f) (omega arith)) in
+        record {
+          context = function-context;
+          root = function-root;
+          events = events-few;
+          variables = variables-few;
+          owners = owners-small;
+          heading = omega (arith, file-fits, headings-before-step file f inside);
+          nodes = omega (arith, file-fits, before-step file f inside);
+        }
+
+    pub function-room-alone : FunctionRoom file start 0 0
+    function-room-alone =
+        let few = parameters-count file start in
+        let weight = rewritten-weight (fieldsIn file) 0 (functionIn file start) (omega (arith, function-context .fewParameters)) in
+        record {
+          context = function-context;
+          root = function-root;
+          events = events-few;
+          variables = variables-few;
+          owners = owners-small;
+          heading = omega (arith, body-small);
+          nodes = omega (arith, body-small);
+        }
+
+-- The count that code makes of the private parameters.
+pub private-counted : (file : List ℕ) (at count private : ℕ) → count ≡ byteAt file at → private ≡ privateCount count file (at + 1) → private ≡ privateIn file at
+private-counted file at count private e h = h ∙ ap (λ (n : ℕ). privateCount n file (at + 1)) e

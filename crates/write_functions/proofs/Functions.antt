@@ -1,0 +1,99 @@
+-- A function's circuits, then its body: the nodes of both together, and room for the body and the heading.
+use mathlib.Core.Path.{_≡_, ap, sym, _∙_}
+use mathlib.Core.Bool.{Bool}
+use mathlib.Core.List.{List, [], _∷_, _++_}
+use Prim.Native.Nat.{ℕ, _+_, _*_, _≤_}
+use native.Mathlib.Omega.{arith}
+use lib.Dec.{ltb}
+use lib.ListN.{length}
+use Rattle.definitions.specs.Basics.{flatMap}
+use Rattle.definitions.specs.Rewriting.{Tree, size, sizes, numberedAll, nodeBytes, commandTree, functionTrees, functionBytes}
+use Rattle.write_nodes.proofs.Laws.{one-tree}
+use Rattle.theory_laws.proofs.Written.{nodes-length}
+use Rattle.memory_buffer.specs.Buffer.{stored}
+use Rattle.memory_buffer.proofs.Laws.{stored-length}
+use Rattle.memory_append.specs.Append.{Appended}
+use Rattle.file_accepted.specs.Context.{scopeIn}
+use Rattle.write_nodes.specs.Numbering.{treeBytes, Numbered}
+use Rattle.write_nodes.proofs.Laws.{nodes-append, run-then}
+use Rattle.write_trees.proofs.Functions.{numbered-append, all-length}
+use Rattle.write_bodies.specs.Bodies.{BodyReady}
+use Rattle.write_function_room.specs.Functions.{writtenIn, eventsIn}
+use Rattle.write_functions.specs.declared.Parts.{Parts}
+use Rattle.write_functions.specs.Writing.{circuitsIn, CircuitsReady, CircuitsWritten, HeadingReady, FunctionReady, FunctionWritten}
+use Rattle.write_functions.proofs.Written.{constraints-few, constraints-counted, trees-are, trees-counted}
+use Rattle.write_functions.proofs.Logs.{context-at}
+
+-- The bytes of trees with one more behind them.
+bytes-then : (ts : List Tree) (t : Tree) (n : ℕ)
+    → flatMap nodeBytes (numberedAll n (ts ++ (t ∷ []))) ≡ flatMap nodeBytes (numberedAll n ts) ++ treeBytes (n + sizes ts) t
+bytes-then ts t n =
+    ap (flatMap nodeBytes) (numbered-append ts (t ∷ []) n) ∙ nodes-append (numberedAll n ts) (numberedAll (n + sizes ts) (t ∷ []))
+    ∙ ap (λ (l : List ℕ). flatMap nodeBytes (numberedAll n ts) ++ l) (one-tree (n + sizes ts) t)
+
+trees-length : (ts : List Tree) (n : ℕ) → length (flatMap nodeBytes (numberedAll n ts)) ≡ 8 * sizes ts
+trees-length ts n = nodes-length (numberedAll n ts) ∙ ap (λ (k : ℕ). 8 * k) (all-length ts n)
+
+module _ (file : List ℕ) (at nodesStart : ℕ) (log scratch roots numbers claims headings : List ℕ) (from : ℕ) (nodes : List ℕ) (base : ℕ)
+    (ready : FunctionReady file at nodesStart log scratch roots numbers claims headings from nodes base) where
+  pub circuits-ready : CircuitsReady file at nodesStart log numbers nodes base
+  circuits-ready =
+      record { from = from; room = ready .room; nodesPlace = ready .nodesPlace; logSpace = ready .logSpace; numberSpace = ready .numberSpace; nodeSpace = ready .nodeSpace }
+
+  module _ (logAfter numbersAfter between : List ℕ) (parts : Parts) (written : CircuitsWritten file at logAfter numbersAfter nodes between base parts) where
+    pub nodes-few : 8 * (base + parts .nodes) + 8 * size (commandTree ((writtenIn file at) .body)) ≤ 49152
+    nodes-few = omega (arith, ready .room .nodes, trees-counted file at, written .nodes)
+
+    pub constraints-fit : parts .private + parts .claims ≤ 65535
+    constraints-fit =
+        omega (arith, written .told .private, written .told .claims, constraints-few (scopeIn file at) (eventsIn file at), ready .room .events, ready .room .variables)
+
+    kept : length between ≡ length nodes
+    kept =
+        let long = trees-length (circuitsIn file at) base in
+        let few = nodes-few in
+        ap length (written .contents) ∙ stored-length nodes (8 * base) (flatMap nodeBytes (numberedAll base (circuitsIn file at))) (omega (arith, ready .nodeSpace, written .nodes))
+
+    pub body-ready : (verified : Bool) → verified ≡ ltb 0 (parts .private + parts .claims)
+        → BodyReady file at nodesStart (parts .private) verified scratch roots between (8 * (base + parts .nodes)) (base + parts .nodes)
+    body-ready verified test =
+        let few = nodes-few in
+        let same = kept in
+        let counted : parts .private + parts .claims ≡ length ((writtenIn file at) .constraints) =
+        omega (arith, constraints-counted file at, written .told .private, written .told .claims) in
+        record {
+          context = context-at file at nodesStart from base (ready .nodesPlace) (ready .room);
+          root = ready .room .root;
+          privateIs = written .told .private;
+          verifies = test ∙ ap (ltb 0) counted;
+          space = omega (arith, ready .room .events, ready .scratchSpace);
+          steps = omega (arith, ready .room .events, ready .rootSpace);
+          few = omega (arith, ready .room .variables);
+          room = record { bytes = omega (arith, ready .nodeSpace); numbers = omega arith };
+        }
+
+    module _ (after : List ℕ) (body : ℕ) (put : Numbered between after (8 * (base + parts .nodes)) (base + parts .nodes) (commandTree ((writtenIn file at) .body)) body) where
+      pub total-is : parts .nodes + body ≡ sizes (functionTrees (writtenIn file at))
+      total-is = omega (arith, written .nodes, put .nodes, trees-counted file at)
+
+      pub total-few : parts .nodes + body ≤ 49152
+      total-few = let total = total-is in omega (arith, ready .room .nodes)
+
+      pub heading-ready : HeadingReady file at logAfter numbersAfter claims headings from parts base (parts .nodes + body)
+      heading-ready = record { room = ready .room; told = written .told; whole = total-is; claimSpace = ready .claimSpace; headingSpace = ready .headingSpace }
+
+      nodes-stored : after ≡ stored nodes (8 * base) (flatMap nodeBytes (numberedAll base (functionTrees (writtenIn file at))))
+      nodes-stored =
+          let circuits = circuitsIn file at in
+          let tree = commandTree ((writtenIn file at) .body) in
+          let long = trees-length circuits base in
+          let few = nodes-few in
+          let later : after ≡ stored between (8 * (base + sizes circuits)) (treeBytes (base + sizes circuits) tree) = rw (written .nodes) at (put .contents) in
+          run-then nodes between after (flatMap nodeBytes (numberedAll base circuits)) (treeBytes (base + sizes circuits) tree) (8 * base) (8 * (base + sizes circuits)) (written .contents) later
+          (omega arith) (omega (arith, ready .nodeSpace, written .nodes))
+          ∙ ap (stored nodes (8 * base)) (sym (bytes-then circuits tree base) ∙ ap (λ (ts : List Tree). flatMap nodeBytes (numberedAll base ts)) (sym (trees-are file at)))
+
+      pub function-written : (headingsAfter : List ℕ) (end : ℕ) → Appended headings headingsAfter from (functionBytes base (writtenIn file at)) end
+          → FunctionWritten file at headings headingsAfter from nodes after base (record { end = end; nodes = parts .nodes + body })
+      function-written headingsAfter end appended =
+          record { heading = appended .contents; end = appended .place; contents = nodes-stored; count = total-is }

@@ -1,0 +1,148 @@
+// 01, Rewriting: one function written, "per function circuits, in constraint order, come before the body", and its heading.
+use file_bytes::byte_at;
+use rewrite_statements::function_log;
+use write_bodies::write_function_body;
+use write_circuits::append_claims;
+use write_circuits::put_circuits;
+use write_headings::append_heading;
+use write_parameters::count_private;
+ghost use Rattle.definitions.specs.Rewriting.{functionBytes};
+ghost use Rattle.memory_append.specs.Append.{Appended};
+ghost use Rattle.write_function_room.specs.Functions.{writtenIn};
+ghost use Rattle.write_functions.specs.Writing.{CircuitsReady, CircuitsWritten, HeadingReady, FunctionReady, FunctionWritten};
+
+// How many private parameters there are, where the log of the body's events ends, how many variables they make, how many
+// constraints they claim, and how many nodes the circuits have.
+pub struct Parts {
+    pub private: usize,
+    pub logged: usize,
+    pub made: usize,
+    pub claims: usize,
+    pub nodes: usize,
+}
+
+pub struct Extent {
+    pub end: usize,
+    pub nodes: usize,
+}
+
+// The log of the body's events, the circuits of its claims as nodes, and the claims' numbers.
+fn write_circuits(
+    file: &[u8],
+    function_at: usize,
+    nodes_at: usize,
+    log: &mut [u16],
+    numbers: &mut [u16],
+    out: &mut [u8],
+    base: usize,
+) -> Parts
+    requires { ⌜ CircuitsReady (now file) «function_at» «nodes_at» (now log) (now numbers) (now out) base ⌝ }
+    ensures { λ r. ⌜ CircuitsWritten (now (file .entry)) «function_at» (now (log .exit)) (now (numbers .exit)) (now (out .entry)) (now (out .exit)) base r ⌝ }
+{
+    let parameters = byte_at(file, function_at);
+    let private = count_private(file, function_at + 1, parameters);
+    let end = function_log(file, function_at, nodes_at, private, log);
+    let circuits = put_circuits(
+        file,
+        function_at,
+        nodes_at,
+        log,
+        0,
+        end.at / 5,
+        numbers,
+        0,
+        out,
+        8 * base,
+        base,
+    );
+    Parts {
+        private: private,
+        logged: end.at,
+        made: end.variable - private,
+        claims: circuits.count,
+        nodes: circuits.nodes,
+    }
+}
+
+// The heading of a function whose nodes are `total`, the first of them number `base`.
+fn write_heading(
+    file: &[u8],
+    function_at: usize,
+    log: &[u16],
+    numbers: &[u16],
+    claims: &mut [u8],
+    headings: &mut [u8],
+    from: usize,
+    parts: Parts,
+    base: usize,
+    total: usize,
+) -> usize
+    requires { ⌜ HeadingReady (now file) «function_at» (now log) (now numbers) (now claims) (now headings) from parts base total ⌝ }
+    ensures { λ r. ⌜ Appended (now (headings .entry)) (now (headings .exit)) from (functionBytes base (writtenIn (now (file .entry)) «function_at»)) r ⌝ }
+{
+    let logged = parts.logged;
+    let claimed = append_claims(numbers, parts.claims, claims, 0);
+    append_heading(
+        file,
+        function_at,
+        parts.made,
+        &log[..logged],
+        &claims[..claimed],
+        base + total - 1,
+        headings,
+        from,
+    )
+}
+
+// The nodes of the function that begins at a place go behind the `base` nodes that are there, and its heading stands from place
+// `from` on. The first five buffers are scratch space.
+pub fn write_function(
+    file: &[u8],
+    function_at: usize,
+    nodes_at: usize,
+    log: &mut [u16],
+    scratch: &mut [u16],
+    roots: &mut [u16],
+    numbers: &mut [u16],
+    claims: &mut [u8],
+    headings: &mut [u8],
+    from: usize,
+    nodes: &mut [u8],
+    base: usize,
+) -> Extent
+    requires { ⌜ FunctionReady (now file) «function_at» «nodes_at» (now log) (now scratch) (now roots) (now numbers) (now claims) (now headings) from (now nodes) base ⌝ }
+    ensures { λ r. ⌜ FunctionWritten (now (file .entry)) «function_at» (now (headings .entry)) (now (headings .exit)) from (now (nodes .entry)) (now (nodes .exit)) base r ⌝ }
+{
+    let parts = write_circuits(file, function_at, nodes_at, log, numbers, nodes, base);
+    let constraints = parts.private + parts.claims;
+    let first = base + parts.nodes;
+    let body = write_function_body(
+        file,
+        function_at,
+        nodes_at,
+        parts.private,
+        0 < constraints,
+        scratch,
+        roots,
+        nodes,
+        8 * first,
+        first,
+    );
+    let total = parts.nodes + body;
+    let end = write_heading(
+        file,
+        function_at,
+        log,
+        numbers,
+        claims,
+        headings,
+        from,
+        parts,
+        base,
+        total,
+    );
+    Extent {
+        end: end,
+        nodes: total,
+    }
+}

@@ -1,0 +1,18 @@
+-- The keys, and their count before them.
+use mathlib.Core.Path.{refl}
+use Rattle.write_headings.proofs.Parts.{keys-counted}
+use borrow.Author.Needs.{needs}
+use Rattle.write_headings.proofs.append_key_part.Statement.{statement}
+use Rattle.write_headings.proofs.append_key_part.Tie as tie
+
+pub append-key-part-spec : {M : Type 1} → statement M
+append-key-part-spec =
+    tie.close
+    (tie.spec
+    (λ c. search needs)
+    (λ c κs. search needs)
+    (λ c. search needs)
+    (λ c. search needs)
+    (λ c κs. search needs)
+    (λ c. search needs)
+    (λ c. keys-counted (c .before .before .before .before .before .before .before .before .before .before .args .out .now) (c .before .before .before .before .before .before .before .before .before .before .args .at) (c .before .before .before .before .before .before .before .before .before .before .args .log .now) (c .before .before .before .before .before .before .before .before .before .before .pre) _ _ _ _ _ (c .before .before .before .before .before .before .append-keys .ensures) refl (c .before .before .append-two-bytes .ensures)))

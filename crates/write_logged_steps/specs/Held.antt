@@ -1,0 +1,22 @@
+-- A log that holds numbers from a place on, and read events whose values can be written.
+use mathlib.Core.Path.{_≡_}
+use mathlib.Core.List.{List, [], _∷_, _++_}
+use Prim.Native.Nat.{ℕ, _+_, _≤_}
+use lib.ListN.{length}
+use Rattle.definitions.specs.ContractFile.{Scope}
+use Rattle.rewrite_events.specs.Events.{Event, suppliedEvent, claimedEvent, readEvent, guardEvent}
+use Rattle.write_variable_counts.specs.Counts.{bodyCount}
+
+pub record Holds (log numbers : List ℕ) (from : ℕ) : Type 0 where
+  pub front : List ℕ
+  pub back : List ℕ
+  pub split : log ≡ front ++ (numbers ++ back)
+  pub place : from ≡ length front
+
+-- The variables of what is read have numbers up to a limit.
+unfoldable pub ReadsWithin : Scope → ℕ → List Event → Type 0
+ReadsWithin scope limit [] = Unit {0}
+ReadsWithin scope limit (suppliedEvent i o e ∷ events) = ReadsWithin scope limit events
+ReadsWithin scope limit (claimedEvent g i o e ∷ events) = ReadsWithin scope limit events
+ReadsWithin scope limit (readEvent s j o e ∷ events) = (s + bodyCount scope e ≤ limit) × ReadsWithin scope limit events
+ReadsWithin scope limit (guardEvent i ∷ events) = ReadsWithin scope limit events

@@ -1,0 +1,32 @@
+-- The loop's invariant: the claims left are left to append.
+use mathlib.Core.Path.{_≡_, refl}
+use Prim.Native.Nat.{_-_, _≤_}
+use native.Mathlib.Omega.{arith}
+use lib.ListN.{length}
+use borrow.Author.Needs.{needs}
+use Rattle.memory_append.specs.Append.{Appending}
+use Rattle.write_parameters.specs.Parameters.{openingClaims}
+use Rattle.write_parameters.proofs.Openings.{claims-start, claim-room, claim-appended, claims-done}
+use Rattle.write_parameters.proofs.append_opening_claims.Statement.{statement}
+use Rattle.write_parameters.proofs.append_opening_claims.Tie as tie
+
+abbrev Inv-loop : tie.InvT-loop
+Inv-loop count out₀ from variable₀ at₀ out variable at =
+    (Appending out₀ out from at (openingClaims 0 count) (openingClaims variable (count - variable))) × (variable ≤ count) × (length out ≡ length out₀)
+
+abbrev μ-loop : tie.MeasureT-loop
+μ-loop count out₀ from variable₀ at₀ out variable at = count - variable
+
+pub append-opening-claims-spec : {M : Type 1} → statement M
+append-opening-claims-spec =
+    tie.close
+    (tie.spec
+    Inv-loop
+    μ-loop
+    (λ c. (claims-start (c .before .args .out .now) (c .before .args .from) (c .before .args .count) (c .before .pre), omega arith, refl))
+    (λ c κs. claim-room (c .before .before .before .before .args .out .now) (c .before .before .before .before .args .from) (c .before .before .before .before .args .count) (c .before .before .before .before .pre) _ _ (c .before .before .loop .variable) (omega arith) (c .before .before .loop .inv .0))
+    (λ c. search needs)
+    (λ c. search needs)
+    (λ c. (claim-appended (c .before .before .before .before .before .before .before .args .out .now) (c .before .before .before .before .before .before .before .args .from) (c .before .before .before .before .before .before .before .args .count) (c .before .before .before .before .before .before .before .pre) _ _ (c .before .before .before .before .before .loop .variable) (omega arith) (c .before .before .before .before .before .loop .inv .0) _ _ (c .before .before .append-opening-claim .ensures), omega arith, search needs))
+    (λ c. search needs)
+    (λ c. claims-done (c .before .before .before .args .out .now) (c .before .before .before .args .from) (c .before .before .before .args .count) (c .before .before .before .pre) _ _ (c .before .loop .variable) (omega arith) (c .before .loop .inv .0)))

@@ -1,0 +1,32 @@
+-- The loop's invariant: the variables left are left to append.
+use mathlib.Core.Path.{_≡_, refl}
+use native.Mathlib.Omega.{arith}
+use lib.ListN.{length}
+use borrow.Author.Needs.{needs}
+use Rattle.memory_append.specs.Append.{Appending}
+use Rattle.memory_append.proofs.Laws.{appending-start}
+use Rattle.write_parameters.specs.Parameters.{openingVariables}
+use Rattle.write_parameters.proofs.Openings.{pair-room, pair-appended, pairs-done}
+use Rattle.write_parameters.proofs.append_opening_variables.Statement.{statement}
+use Rattle.write_parameters.proofs.append_opening_variables.Tie as tie
+
+abbrev Inv-loop : tie.InvT-loop
+Inv-loop count out₀ from left₀ at₀ out left at = (Appending out₀ out from at (openingVariables count) (openingVariables left)) × (length out ≡ length out₀)
+
+abbrev μ-loop : tie.MeasureT-loop
+μ-loop count out₀ from left₀ at₀ out left at = left
+
+pub append-opening-variables-spec : {M : Type 1} → statement M
+append-opening-variables-spec =
+    tie.close
+    (tie.spec
+    Inv-loop
+    μ-loop
+    (λ c. (appending-start _ _ _, refl))
+    (λ c κs. let room = pair-room (c .before .before .before .before .args .out .now) (c .before .before .before .before .args .from) (c .before .before .before .before .args .count) (c .before .before .before .before .pre) _ _ (c .before .before .loop .left) (omega arith) (c .before .before .loop .inv .0) in omega arith)
+    (λ c κs. let room = pair-room (c .before .before .before .before .before .before .before .before .args .out .now) (c .before .before .before .before .before .before .before .before .args .from) (c .before .before .before .before .before .before .before .before .args .count) (c .before .before .before .before .before .before .before .before .pre) _ _ (c .before .before .before .before .before .before .loop .left) (omega arith) (c .before .before .before .before .before .before .loop .inv .0) in omega arith)
+    (λ c. search needs)
+    (λ c. search needs)
+    (λ c. (pair-appended (c .before .before .before .before .before .before .before .before .before .before .before .args .out .now) (c .before .before .before .before .before .before .before .before .before .before .before .args .from) (c .before .before .before .before .before .before .before .before .before .before .before .args .count) (c .before .before .before .before .before .before .before .before .before .before .before .pre) _ _ (c .before .before .before .before .before .before .before .before .before .loop .left) (omega arith) (c .before .before .before .before .before .before .before .before .before .loop .inv .0) _ _ _ _ (c .before .before .before .before .before .before .append-byte .ensures) (c .before .before .append-byte2 .ensures), search needs))
+    (λ c. search needs)
+    (λ c. pairs-done (c .before .before .before .args .out .now) (c .before .before .before .args .from) (c .before .before .before .args .count) (c .before .before .before .pre) _ _ (c .before .loop .left) (omega arith) (c .before .loop .inv .0)))

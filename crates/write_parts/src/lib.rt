@@ -1,0 +1,86 @@
+// 01, Rewriting: the written file in two buffers, one of fields and functions' headings, one of nodes.
+use file_bytes::function_end;
+use file_bytes::read_layout;
+use memory_append::append_byte;
+use write_fields::append_field_section;
+use write_functions::Extent;
+use write_functions::write_function;
+ghost use Rattle.definitions.specs.ContractFile.{functionCount};
+ghost use Rattle.write_parts.specs.Parts.{Ready, Scratch, FunctionsReady, FunctionsPut, PartsPut};
+
+// The functions, whose first begins at a place of the file: their headings from a place on, their nodes from the front.
+fn write_functions(
+    file: &[u8],
+    first: usize,
+    count: usize,
+    nodes_at: usize,
+    log: &mut [u16],
+    scratch: &mut [u16],
+    roots: &mut [u16],
+    numbers: &mut [u16],
+    claims: &mut [u8],
+    headings: &mut [u8],
+    from: usize,
+    nodes: &mut [u8],
+) -> Extent
+    requires { ⌜ (FunctionsReady (now file) first count «nodes_at» from (now headings) (now nodes)) × (Scratch (now log) (now scratch) (now roots) (now numbers) (now claims)) ⌝ }
+    ensures { λ r. ⌜ FunctionsPut (now (file .entry)) (functionCount (now (file .entry))) from (now (headings .entry)) (now (headings .exit)) (now (nodes .entry)) (now (nodes .exit)) (r .end) (r .nodes) ⌝ }
+{
+    let mut function_at = first;
+    let mut f = 0;
+    let mut end = from;
+    let mut base = 0;
+    while f < count {
+        let extent = write_function(
+            file,
+            function_at,
+            nodes_at,
+            log,
+            scratch,
+            roots,
+            numbers,
+            claims,
+            headings,
+            end,
+            nodes,
+            base,
+        );
+        end = extent.end;
+        base += extent.nodes;
+        function_at = function_end(file, function_at);
+        f += 1;
+    }
+    Extent {
+        end: end,
+        nodes: base,
+    }
+}
+
+// The whole file: fields, count of functions, functions.
+pub fn write_parts(file: &[u8], headings: &mut [u8], nodes: &mut [u8]) -> Extent
+    requires { ⌜ Ready (now file) (now headings) (now nodes) ⌝ }
+    ensures { λ r. ⌜ PartsPut (now (file .entry)) (now (headings .entry)) (now (headings .exit)) (now (nodes .entry)) (now (nodes .exit)) (r .end) (r .nodes) ⌝ }
+{
+    let layout = read_layout(file);
+    let fields = append_field_section(file, headings, 0);
+    let from = append_byte(layout.functions as u8, headings, fields);
+    let mut log = [0u16; 7680];
+    let mut scratch = [0u16; 7680];
+    let mut roots = [0u16; 1544];
+    let mut numbers = [0u16; 6144];
+    let mut claims = [0u8; 9216];
+    write_functions(
+        file,
+        layout.functions_at + 1,
+        layout.functions,
+        layout.nodes_at,
+        &mut log[..],
+        &mut scratch[..],
+        &mut roots[..],
+        &mut numbers[..],
+        &mut claims[..],
+        headings,
+        from,
+        nodes,
+    )
+}

@@ -1,0 +1,45 @@
+-- 01, Numbers, 16: "49,152 bytes always suffice."
+use mathlib.Core.Path.{_≡_}
+use mathlib.Core.List.{List, [], _∷_, map}
+use Prim.Native.Nat.{ℕ, _≤_}
+use native.Mathlib.Omega.{arith}
+use lib.ListN.{length, length-map}
+use Rattle.definitions.specs.ContractFile.{FunctionRecord, sectionsOf, fieldOf, Node, nodeOf, functionOf, contractOf}
+use Rattle.definitions.specs.Numbers.{checkNumber}
+use Rattle.definitions.specs.Rewriting.{writtenFile}
+use Rattle.theory_trees.specs.Trees.{Falling}
+use Rattle.write_room.specs.Sizes.{bodiesSize}
+use Rattle.write_room.specs.Counting.{sumOf}
+use Rattle.write_room.proofs.Functions.{contract-length}
+use Rattle.write_room.proofs.Counting.{treeSize, trees-covered}
+use Rattle.write_room.proofs.Acceptance.{few-parameters, counts, roots-inside, falling, used-once}
+
+bodies-within : (nodes : List Node) (falling : Falling nodes) (rs : List FunctionRecord)
+    → bodiesSize (map (functionOf nodes) rs) ≤ sumOf (treeSize nodes falling) (map (λ r. r .root) rs)
+unfolding bodiesSize sumOf
+bodies-within nodes falling [] = omega arith
+bodies-within nodes falling (r ∷ rs) = let h = bodies-within nodes falling rs in omega arith
+
+-- The bodies of an accepted file have together no more nodes than the file.
+pub nodes-suffice : (file : List ℕ) → checkNumber file ≡ 0 → bodiesSize ((contractOf (sectionsOf file)) .functions) ≤ length ((sectionsOf file) .nodes)
+unfolding contractOf
+nodes-suffice file accepted =
+    let nodes = map nodeOf ((sectionsOf file) .nodes) in
+    let falling = falling file accepted in
+    let m = length-map ((sectionsOf file) .nodes) nodeOf in
+    let roots = map (λ r. r .root) ((sectionsOf file) .functions) in
+    let within = bodies-within nodes falling ((sectionsOf file) .functions) in
+    let covered = trees-covered nodes falling roots (rw m (roots-inside file accepted)) (λ n l. used-once file accepted n (omega arith)) in
+    omega arith
+
+pub room-suffices : (file : List ℕ) → checkNumber file ≡ 0 → length (writtenFile file) ≤ 49152
+unfolding writtenFile contractOf
+room-suffices file accepted =
+    let s = sectionsOf file in
+    let nodes = map nodeOf (s .nodes) in
+    let few = counts file accepted in
+    let whole = contract-length (contractOf s) (few-parameters nodes (s .functions) (few .parameters)) in
+    let bodies = nodes-suffice file accepted in
+    let f = length-map (s .fields) fieldOf in
+    let g = length-map (s .functions) (functionOf nodes) in
+    omega arith

@@ -1,0 +1,33 @@
+-- `write_simple_statements::write_statement_form` meets its contract.
+use native.Mathlib.Omega.{arith}
+use Rattle.theory_laws.proofs.Records.{kind-as}
+use Rattle.file_accepted.proofs.Statements.{sequence-is, conditional-is, still-is}
+use Rattle.write_nodes.proofs.Laws.{room-any, numbered-as, numbered-leaf}
+use Rattle.write_simple_statements.proofs.Statements.{form-of-sequence, form-of-conditional, form-of-skip}
+use Rattle.write_simple_statements.proofs.write_statement_form.Statement.{statement}
+use Rattle.write_simple_statements.proofs.write_statement_form.Tie as tie
+
+pub write-statement-form-spec : {M : Type 1} → statement M
+write-statement-form-spec =
+    tie.close
+    (tie.spec
+    (λ c κs. (c .before .before .pre .1 .0 .nearNodes, omega (arith, c .before .before .pre .1 .0 .fewNodes)))
+    (λ c κs. room-any _ _ _ _ (c .before .before .before .before .before .pre .1 .1 .1))
+    (λ c κs. (kind-as _ _ 18 (c .before .before .node-at .ensures .same) (c .before .match .keys2), c .before .before .before .before .before .pre))
+    (λ c κs. (kind-as _ _ 19 (c .before .before .node-at .ensures .same) (c .before .match .keys3), c .before .before .before .before .before .pre))
+    (λ c κs. (kind-as _ _ 20 (c .before .before .node-at .ensures .same) (c .before .match .keys4), c .before .before .before .before .before .pre))
+    (λ c κs. room-any _ _ _ _ (c .before .before .before .before .before .pre .1 .1 .1))
+    (λ c κs. room-any _ _ _ _ (c .before .before .before .before .before .pre .1 .1 .1))
+    (λ c. c .before .before .put-leaf .kept .1 .1 .1 .1 .0)
+    (λ c. numbered-as _ _ _ _ _ _ _ _ (form-of-sequence _ _ _ _ _ (sequence-is _ _ _ (c .before .before .before .before .before .before .before .before .pre .1 .0) _ (c .before .before .before .before .before .before .before .before .pre .0) _ (c .before .before .before .before .before .node-at .ensures .same) (c .before .before .before .before .match .keys1))) (c .before .before .put-leaf .ensures .1) (numbered-leaf _ _ _ _ _ _ _ _ (c .before .before .put-leaf .ensures .0)))
+    (λ c. c .before .before .write-field-form .kept .1 .1 .1 .1 .1 .0)
+    (λ c. c .before .before .write-field-form .ensures)
+    (λ c. c .before .before .write-entry-form .kept .1 .1 .1 .1 .1 .0)
+    (λ c. c .before .before .write-entry-form .ensures)
+    (λ c. c .before .before .write-require-form .kept .1 .1 .1 .1 .1 .0)
+    (λ c. c .before .before .write-require-form .ensures)
+    (λ c. c .before .before .put-leaf2 .kept .1 .1 .1 .1 .0)
+    (λ c. numbered-as _ _ _ _ _ _ _ _ (form-of-conditional _ _ _ _ _ _ (conditional-is _ _ _ (c .before .before .before .before .before .before .before .before .pre .1 .0) _ (c .before .before .before .before .before .before .before .before .pre .0) _ (c .before .before .before .before .before .node-at .ensures .same) (c .before .before .before .before .match .keys5))) (c .before .before .put-leaf2 .ensures .1) (numbered-leaf _ _ _ _ _ _ _ _ (c .before .before .put-leaf2 .ensures .0)))
+    (λ c. c .before .before .put-leaf3 .kept .1 .1 .1 .1 .0)
+    (λ c. let u = c .before .before .before .before .match .rest in
+    numbered-as _ _ _ _ _ _ _ _ (form-of-skip _ _ _ (still-is _ _ _ (c .before .before .before .before .before .before .before .before .pre .1 .0) _ (c .before .before .before .before .before .before .before .before .pre .0) _ (c .before .before .before .before .before .node-at .ensures .same) (record { sequence = u .0 .0 .0 .0 .1; assignField = u .0 .0 .0 .1; assignEntry = u .0 .0 .1; require = u .0 .1; conditional = u .1 }))) (c .before .before .put-leaf3 .ensures .1) (numbered-leaf _ _ _ _ _ _ _ _ (c .before .before .put-leaf3 .ensures .0))))

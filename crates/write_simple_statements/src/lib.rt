@@ -1,0 +1,211 @@
+// 01, Rewriting: the nodes of a statement that holds no other, without the steps before it.
+use file_bytes::node_at;
+use rewrite_owners::field_owner;
+use rewrite_owners::is_public;
+use write_expressions::write_body_form;
+use write_nodes::put_above_one;
+use write_nodes::put_above_two;
+use write_nodes::put_leaf;
+use write_variable_counts::body_count;
+use write_variable_counts::circuit_count;
+ghost use mathlib.Core.Path.{_≡_};
+ghost use Prim.Native.Nat.{_+_, _<_, _≤_};
+ghost use Rattle.definitions.specs.ContractFile.{nodeCount};
+ghost use Rattle.theory_trees.specs.Trees.{expressionIn, statementIn};
+ghost use Rattle.file_accepted.specs.Context.{Context, nodesIn, scopeIn};
+ghost use Rattle.rewrite_owners.specs.Codes.{FieldsListed};
+ghost use Rattle.write_expressions.specs.Forms.{kindAt};
+ghost use Rattle.write_nodes.specs.Numbering.{Room, Numbered};
+ghost use Rattle.write_simple_statements.specs.Places.{placedForm, placedCount, PrivatePlace};
+ghost use Rattle.write_simple_statements.specs.Statements.{simpleForm, simpleCount};
+
+// Whether the places of field f are private.
+pub fn is_private_place(file: &[u8], f: usize) -> bool
+    requires { ⌜ (f ≤ 255) × (FieldsListed (now file)) ⌝ }
+    ensures { λ r. ⌜ PrivatePlace (now (file .entry)) f r ⌝ }
+{
+    field_owner(file, f) != 0
+}
+
+// How many variables node n makes when it is put into a place.
+pub fn placed_count(
+    file: &[u8],
+    function_at: usize,
+    nodes_at: usize,
+    private: bool,
+    n: usize,
+) -> usize
+    requires { ⌜ (n < nodeCount (now file)) × ((Context (now file) «function_at» «nodes_at») × (placedCount (scopeIn (now file) «function_at») private (expressionIn (nodesIn (now file)) n) ≤ 65535)) ⌝ }
+    ensures { λ r. ⌜ r ≡ placedCount (scopeIn (now (file .entry)) «function_at») private (expressionIn (nodesIn (now (file .entry))) n) ⌝ }
+{
+    if private {
+        if is_public(file, function_at, nodes_at, n) {
+            circuit_count(file, function_at, nodes_at, n) + 1
+        } else {
+            body_count(file, function_at, nodes_at, n)
+        }
+    } else {
+        body_count(file, function_at, nodes_at, n)
+    }
+}
+
+// The form of node n when it is put into a place.
+pub fn write_placed_form(
+    file: &[u8],
+    function_at: usize,
+    nodes_at: usize,
+    private: bool,
+    n: usize,
+    i: usize,
+    out: &mut [u8],
+    at: usize,
+    base: usize,
+) -> usize
+    requires { ⌜ (n < nodeCount (now file)) × ((Context (now file) «function_at» «nodes_at») × ((i + placedCount (scopeIn (now file) «function_at») private (expressionIn (nodesIn (now file)) n) ≤ 65535) × (Room (now out) at base (placedForm (scopeIn (now file) «function_at») private (expressionIn (nodesIn (now file)) n) i)))) ⌝ }
+    ensures { λ r. ⌜ Numbered (now (out .entry)) (now (out .exit)) at base (placedForm (scopeIn (now (file .entry)) «function_at») private (expressionIn (nodesIn (now (file .entry))) n) i) r ⌝ }
+{
+    if private {
+        if is_public(file, function_at, nodes_at, n) {
+            put_leaf(9, 0, i, 0, out, at)
+        } else {
+            write_body_form(file, function_at, nodes_at, n, i, out, at, base)
+        }
+    } else {
+        write_body_form(file, function_at, nodes_at, n, i, out, at, base)
+    }
+}
+
+// How many variables node n makes, a statement that holds no other.
+pub fn statement_count(file: &[u8], function_at: usize, nodes_at: usize, n: usize) -> usize
+    requires { ⌜ (n < nodeCount (now file)) × ((Context (now file) «function_at» «nodes_at») × (simpleCount (scopeIn (now file) «function_at») (statementIn (nodesIn (now file)) n) ≤ 65535)) ⌝ }
+    ensures { λ r. ⌜ r ≡ simpleCount (scopeIn (now (file .entry)) «function_at») (statementIn (nodesIn (now (file .entry))) n) ⌝ }
+{
+    let node = node_at(file, nodes_at, n);
+    let kind = node.kind;
+    match kind {
+        17 => 0,
+        18 => {
+            let private = is_private_place(file, node.arg);
+            placed_count(file, function_at, nodes_at, private, node.first)
+        }
+        19 => {
+            let private = is_private_place(file, node.arg);
+            let key = body_count(file, function_at, nodes_at, node.first);
+            key + placed_count(file, function_at, nodes_at, private, node.second)
+        }
+        20 => body_count(file, function_at, nodes_at, node.first),
+        21 => 0,
+        _ => 0,
+    }
+}
+
+// An assignment to a field: the value as the place asks for it, and the statement above it.
+fn write_field_form(
+    file: &[u8],
+    function_at: usize,
+    nodes_at: usize,
+    n: usize,
+    i: usize,
+    out: &mut [u8],
+    at: usize,
+    base: usize,
+) -> usize
+    requires { ⌜ (kindAt (now file) «nodes_at» n ≡ 18) × ((n < nodeCount (now file)) × ((Context (now file) «function_at» «nodes_at») × ((i + simpleCount (scopeIn (now file) «function_at») (statementIn (nodesIn (now file)) n) ≤ 65535) × (Room (now out) at base (simpleForm (scopeIn (now file) «function_at») (statementIn (nodesIn (now file)) n) i))))) ⌝ }
+    ensures { λ r. ⌜ Numbered (now (out .entry)) (now (out .exit)) at base (simpleForm (scopeIn (now (file .entry)) «function_at») (statementIn (nodesIn (now (file .entry))) n) i) r ⌝ }
+{
+    let node = node_at(file, nodes_at, n);
+    let arg = node.arg as u8;
+    let private = is_private_place(file, node.arg);
+    let value = write_placed_form(
+        file,
+        function_at,
+        nodes_at,
+        private,
+        node.first,
+        i,
+        out,
+        at,
+        base,
+    );
+    put_above_one(18, arg, value, out, at, base)
+}
+
+// An assignment to an entry: key and value, and the statement above them.
+fn write_entry_form(
+    file: &[u8],
+    function_at: usize,
+    nodes_at: usize,
+    n: usize,
+    i: usize,
+    out: &mut [u8],
+    at: usize,
+    base: usize,
+) -> usize
+    requires { ⌜ (kindAt (now file) «nodes_at» n ≡ 19) × ((n < nodeCount (now file)) × ((Context (now file) «function_at» «nodes_at») × ((i + simpleCount (scopeIn (now file) «function_at») (statementIn (nodesIn (now file)) n) ≤ 65535) × (Room (now out) at base (simpleForm (scopeIn (now file) «function_at») (statementIn (nodesIn (now file)) n) i))))) ⌝ }
+    ensures { λ r. ⌜ Numbered (now (out .entry)) (now (out .exit)) at base (simpleForm (scopeIn (now (file .entry)) «function_at») (statementIn (nodesIn (now (file .entry))) n) i) r ⌝ }
+{
+    let node = node_at(file, nodes_at, n);
+    let arg = node.arg as u8;
+    let private = is_private_place(file, node.arg);
+    let j = i + body_count(file, function_at, nodes_at, node.first);
+    let key = write_body_form(file, function_at, nodes_at, node.first, i, out, at, base);
+    let a = at + 8 * key;
+    let b = base + key;
+    let value = write_placed_form(
+        file,
+        function_at,
+        nodes_at,
+        private,
+        node.second,
+        j,
+        out,
+        a,
+        b,
+    );
+    put_above_two(19, arg, key, value, out, at, base)
+}
+
+// A requirement: the condition and the statement above it.
+fn write_require_form(
+    file: &[u8],
+    function_at: usize,
+    nodes_at: usize,
+    n: usize,
+    i: usize,
+    out: &mut [u8],
+    at: usize,
+    base: usize,
+) -> usize
+    requires { ⌜ (kindAt (now file) «nodes_at» n ≡ 20) × ((n < nodeCount (now file)) × ((Context (now file) «function_at» «nodes_at») × ((i + simpleCount (scopeIn (now file) «function_at») (statementIn (nodesIn (now file)) n) ≤ 65535) × (Room (now out) at base (simpleForm (scopeIn (now file) «function_at») (statementIn (nodesIn (now file)) n) i))))) ⌝ }
+    ensures { λ r. ⌜ Numbered (now (out .entry)) (now (out .exit)) at base (simpleForm (scopeIn (now (file .entry)) «function_at») (statementIn (nodesIn (now (file .entry))) n) i) r ⌝ }
+{
+    let node = node_at(file, nodes_at, n);
+    let condition = write_body_form(file, function_at, nodes_at, node.first, i, out, at, base);
+    put_above_one(20, 0, condition, out, at, base)
+}
+
+// The form of node n, a statement that holds no other, whose first variable is number i; the answer is how many nodes it has.
+pub fn write_statement_form(
+    file: &[u8],
+    function_at: usize,
+    nodes_at: usize,
+    n: usize,
+    i: usize,
+    out: &mut [u8],
+    at: usize,
+    base: usize,
+) -> usize
+    requires { ⌜ (n < nodeCount (now file)) × ((Context (now file) «function_at» «nodes_at») × ((i + simpleCount (scopeIn (now file) «function_at») (statementIn (nodesIn (now file)) n) ≤ 65535) × (Room (now out) at base (simpleForm (scopeIn (now file) «function_at») (statementIn (nodesIn (now file)) n) i)))) ⌝ }
+    ensures { λ r. ⌜ Numbered (now (out .entry)) (now (out .exit)) at base (simpleForm (scopeIn (now (file .entry)) «function_at») (statementIn (nodesIn (now (file .entry))) n) i) r ⌝ }
+{
+    let node = node_at(file, nodes_at, n);
+    let kind = node.kind;
+    match kind {
+        17 => put_leaf(16, 0, 0, 0, out, at),
+        18 => write_field_form(file, function_at, nodes_at, n, i, out, at, base),
+        19 => write_entry_form(file, function_at, nodes_at, n, i, out, at, base),
+        20 => write_require_form(file, function_at, nodes_at, n, i, out, at, base),
+        21 => put_leaf(16, 0, 0, 0, out, at),
+        _ => put_leaf(16, 0, 0, 0, out, at),
+    }
+}

@@ -1,0 +1,46 @@
+-- `write_steps::close_steps` meets its contract, by recursion with the count falling.
+use borrow.Author.Needs.{needs}
+use mathlib.Core.Path.{_∙_}
+use native.Mathlib.Omega.{arith}
+use Prim.Native.Nat.{_-_}
+use Rattle.write_steps.proofs.Closing.{closed-none, closed-next}
+use Prim.Native.Nat.{ℕ, _<_}
+use borrow.Fn.Kinds.{In}
+use borrow.Fn.PlainCycle.{Measures, is, falls, and}
+use Rattle.write_steps.proofs.close_steps.Reads as close-steps
+use Rattle.write_steps.proofs.close_steps.Kinds as close-steps-kinds
+use Rattle.write_steps.proofs.+close_steps.Lts-close_steps as close-steps-lts
+use Rattle.write_nodes.proofs.put_node.Reads as put-node-reads
+use Rattle.write_steps.proofs.+close_steps.{statement}
+use Rattle.write_steps.proofs.+close_steps.Tie.{close}
+
+abbrev μ-close-steps : Measures 2 close-steps-kinds.ps ℕ
+μ-close-steps κs a = a .1 .0
+
+abbrev close-steps-at : ℕ → In 2 close-steps-kinds.ps
+close-steps-at t =
+    and 2 close-steps-kinds.ps (is 2 close-steps-kinds.ps μ-close-steps t) close-steps.Pre
+
+abbrev close-steps-below : ℕ → In 2 close-steps-kinds.ps
+close-steps-below t =
+    and 2 close-steps-kinds.ps (falls 2 close-steps-kinds.ps _<_ μ-close-steps t) close-steps.Pre
+
+abbrev close-steps-claims : ℕ → close-steps-lts.Claims
+close-steps-claims t = (put-node-reads.Asked, put-node-reads.Learnt, close-steps-below t, close-steps.Post)
+
+pub +close-steps-spec : {M : Type 1} → statement M
++close-steps-spec =
+    close μ-close-steps
+    (λ t. close-steps-lts.spec (close-steps-claims t) (close-steps-at t) close-steps.Post
+    (λ c. search needs)
+    (λ c. omega (arith, c .before .before .before .good .0, c .before .before .before .pre .1 .0))
+    (λ c. omega (arith, c .before .before .before .before .pre .1 .0))
+    (λ c. omega (arith, c .shared-slice-known2 .given (c .before .before .before .before .args .count - 1)))
+    (λ c κs. omega (arith, c .before .before .before .before .before .pre .1 .1 .1))
+    (λ c. search needs)
+    (λ c. omega (arith, c .before .before .before .before .before .before .before .before .pre .1 .1 .0))
+    (λ c. omega (arith, c .before .before .before .before .before .before .before .before .before .pre .1 .1 .1, c .before .before .before .before .before .before .before .before .before .good))
+    (λ c κs. (omega arith, (omega (arith, c .before .before .before .before .before .before .before .before .before .pre .1 .0), (omega (arith, c .before .before .before .before .before .before .before .before .before .pre .1 .1 .0), omega (arith, c .before .before .before .before .before .before .before .before .before .pre .1 .1 .1, c .before .before .before .put-node .kept .1 .1 .1 .1 .1 .0)))))
+    (λ c. c .before .before .close-steps .kept .1 .1 .1 .0 ∙ c .before .before .before .before .before .before .put-node .kept .1 .1 .1 .1 .1 .0)
+    (λ c. closed-next _ _ _ (c .before .before .before .before .before .before .before .before .before .if1 .taken) (c .before .before .before .before .before .before .before .before .before .before .before .before .pre .1 .0) _ _ _ _ (c .before .before .before .before .before .before .before .before .before .before .before .before .pre .1 .1 .1) (c .before .before .before .before .before .before .put-node .ensures) (c .before .before .close-steps .ensures))
+    (λ c. closed-none _ _ _ (c .if1 .left) _ _))

@@ -1,0 +1,99 @@
+-- `write_steps::put_steps` meets its contract, by recursion with the entries left falling.
+use mathlib.Core.Path.{refl, _∙_}
+use native.Mathlib.Omega.{arith}
+use Prim.Native.Nat.{_+_}
+use Rattle.write_steps.proofs.Entries.{steps-none, steps-read, steps-other, readable-next, readable-inside, readable-few}
+use Rattle.write_steps.proofs.Turns.{room-same, put-same, put-none, room-step, room-root, root-fits, room-steps, put-first}
+use Prim.Native.Nat.{ℕ, _<_}
+use borrow.Fn.Kinds.{In}
+use borrow.Fn.PlainCycle.{Measures, is, falls, and}
+use Rattle.write_steps.proofs.put_steps.Reads as put-steps
+use Rattle.write_steps.proofs.put_steps.Kinds as put-steps-kinds
+use Rattle.write_steps.proofs.+put_steps.Lts-put_steps as put-steps-lts
+use Rattle.memory_buffer.proofs.put_number.Reads as put-number-reads
+use Rattle.write_steps.proofs.put_step.Reads as put-step-reads
+use Rattle.write_steps.proofs.+put_steps.{statement}
+use Rattle.write_steps.proofs.+put_steps.Tie.{close}
+
+abbrev μ-put-steps : Measures 4 put-steps-kinds.ps ℕ
+μ-put-steps κs a = a .1 .1 .1 .1 .1 .0
+
+abbrev put-steps-at : ℕ → In 4 put-steps-kinds.ps
+put-steps-at t = and 4 put-steps-kinds.ps (is 4 put-steps-kinds.ps μ-put-steps t) put-steps.Pre
+
+abbrev put-steps-below : ℕ → In 4 put-steps-kinds.ps
+put-steps-below t =
+    and 4 put-steps-kinds.ps (falls 4 put-steps-kinds.ps _<_ μ-put-steps t) put-steps.Pre
+
+abbrev put-steps-claims : ℕ → put-steps-lts.Claims
+put-steps-claims t = (put-step-reads.Asked, put-step-reads.Learnt, put-number-reads.Asked, put-number-reads.Learnt, put-steps-below t, put-steps.Post)
+
+pub +put-steps-spec : {M : Type 1} → statement M
++put-steps-spec =
+    close μ-put-steps
+    (λ t. put-steps-lts.spec (put-steps-claims t) (put-steps-at t) put-steps.Post
+    (λ c. let some = c .if1 .left in
+    omega (arith, c .before .before .before .before .before .good .1 .1 .1 .0, (c .before .before .before .before .before .pre .1 .1 .0) .space))
+    (λ c. let some = c .before .if1 .left in
+    omega (arith, (c .before .before .before .before .before .before .pre .1 .1 .0) .space))
+    (λ c. let some = c .before .before .if1 .left in
+    omega (arith, c .before .before .before .before .before .before .before .good .1 .1 .1 .0, (c .before .before .before .before .before .before .before .pre .1 .1 .0) .space))
+    (λ c. let some = c .before .before .if1 .left in
+    omega (arith, c .before .before .before .before .before .before .before .good .1 .1 .1 .0, (c .before .before .before .before .before .before .before .pre .1 .1 .0) .space))
+    (λ c. let some = c .before .before .before .if1 .left in
+    omega (arith, (c .before .before .before .before .before .before .before .before .pre .1 .1 .0) .space))
+    (λ c. omega (arith, c .shared-slice-known4 .given (c .before .before .before .before .before .before .before .before .args .from + 1)))
+    (λ c. let some = c .before .before .before .if1 .left in
+    omega (arith, c .before .before .before .before .before .before .before .before .good .1 .1 .1 .0, (c .before .before .before .before .before .before .before .before .pre .1 .1 .0) .space))
+    (λ c. let some = c .before .before .before .if1 .left in
+    omega (arith, c .before .before .before .before .before .before .before .before .good .1 .1 .1 .0, (c .before .before .before .before .before .before .before .before .pre .1 .1 .0) .space))
+    (λ c. let some = c .before .before .before .before .if1 .left in
+    omega (arith, (c .before .before .before .before .before .before .before .before .before .pre .1 .1 .0) .space))
+    (λ c. omega (arith, c .shared-slice-known5 .given (c .before .before .before .before .before .before .before .before .before .args .from + 3)))
+    (λ c. let some = c .before .before .before .before .if1 .left in
+    omega (arith, c .before .before .before .before .before .before .before .before .before .good .1 .1 .1 .0, (c .before .before .before .before .before .before .before .before .before .pre .1 .1 .0) .space))
+    (λ c. let some = c .before .before .before .before .if1 .left in
+    omega (arith, c .before .before .before .before .before .before .before .before .before .good .1 .1 .1 .0, (c .before .before .before .before .before .before .before .before .before .pre .1 .1 .0) .space))
+    (λ c. let some = c .before .before .before .before .before .if1 .left in
+    omega (arith, (c .before .before .before .before .before .before .before .before .before .before .pre .1 .1 .0) .space))
+    (λ c. omega (arith, c .shared-slice-known6 .given (c .before .before .before .before .before .before .before .before .before .before .args .from + 4)))
+    (λ c κs. (readable-inside _ _ _ _ _ (c .before .before .before .before .before .before .if1 .left) (c .before .before .before .before .before .before .before .before .before .before .before .pre .1 .1 .0) (c .before .before .before .before .if2 .taken), (c .before .before .before .before .before .before .before .before .before .before .before .pre .1 .0, (readable-few _ _ _ _ _ (c .before .before .before .before .before .before .if1 .left) (c .before .before .before .before .before .before .before .before .before .before .before .pre .1 .1 .0) (c .before .before .before .before .if2 .taken), room-step _ _ _ _ _ _ _ (room-same _ _ _ _ _ _ _ (steps-read _ _ _ _ _ (c .before .before .before .before .before .before .if1 .left) (c .before .before .before .before .if2 .taken)) (c .before .before .before .before .before .before .before .before .before .before .before .pre .1 .1 .1))))))
+    (λ c. let fits = root-fits _ _ _ _ _ _ _ (room-same _ _ _ _ _ _ _ (steps-read _ _ _ _ _ (c .before .before .before .before .before .before .before .before .before .before .if1 .left) (c .before .before .before .before .before .before .before .before .if2 .taken)) (c .before .before .before .before .before .before .before .before .before .before .before .before .before .before .before .pre .1 .1 .1)) _ _ (c .before .before .before .put-step .ensures) _ refl in
+    omega arith)
+    (λ c. let fits = root-fits _ _ _ _ _ _ _ (room-same _ _ _ _ _ _ _ (steps-read _ _ _ _ _ (c .before .before .before .before .before .before .before .before .before .before .if1 .left) (c .before .before .before .before .before .before .before .before .if2 .taken)) (c .before .before .before .before .before .before .before .before .before .before .before .before .before .before .before .pre .1 .1 .1)) _ _ (c .before .before .before .put-step .ensures) _ refl in
+    omega arith)
+    (λ c. let fits = root-fits _ _ _ _ _ _ _ (room-same _ _ _ _ _ _ _ (steps-read _ _ _ _ _ (c .before .before .before .before .before .before .before .before .before .before .if1 .left) (c .before .before .before .before .before .before .before .before .if2 .taken)) (c .before .before .before .before .before .before .before .before .before .before .before .before .before .before .before .pre .1 .1 .1)) _ _ (c .before .before .before .put-step .ensures) _ refl in
+    omega arith)
+    (λ c κs. room-root _ _ _ _ _ _ _ (room-same _ _ _ _ _ _ _ (steps-read _ _ _ _ _ (c .before .before .before .before .before .before .before .before .before .before .if1 .left) (c .before .before .before .before .before .before .before .before .if2 .taken)) (c .before .before .before .before .before .before .before .before .before .before .before .before .before .before .before .pre .1 .1 .1)))
+    (λ c. let some = c .before .before .before .before .before .before .before .before .before .before .before .before .before .if1 .left in
+    omega (arith, c .before .before .before .before .before .before .before .before .before .before .before .before .before .before .before .before .before .before .good .1 .1 .1 .0, (c .before .before .before .before .before .before .before .before .before .before .before .before .before .before .before .before .before .before .pre .1 .1 .0) .space))
+    (λ c. let some = c .before .before .before .before .before .before .before .before .before .before .before .before .before .if1 .left in
+    omega arith)
+    (λ c. let inside = room-root _ _ _ _ _ _ _ (room-same _ _ _ _ _ _ _ (steps-read _ _ _ _ _ (c .before .before .before .before .before .before .before .before .before .before .before .before .before .before .if1 .left) (c .before .before .before .before .before .before .before .before .before .before .before .before .if2 .taken)) (c .before .before .before .before .before .before .before .before .before .before .before .before .before .before .before .before .before .before .before .pre .1 .1 .1)) in
+    omega (arith, c .before .before .before .before .before .before .before .before .before .before .before .before .before .before .before .before .before .before .before .good .1 .1 .1 .1 .1 .1 .0))
+    (λ c. let fits = root-fits _ _ _ _ _ _ _ (room-same _ _ _ _ _ _ _ (steps-read _ _ _ _ _ (c .before .before .before .before .before .before .before .before .before .before .before .before .before .before .before .if1 .left) (c .before .before .before .before .before .before .before .before .before .before .before .before .before .if2 .taken)) (c .before .before .before .before .before .before .before .before .before .before .before .before .before .before .before .before .before .before .before .before .pre .1 .1 .1)) _ _ (c .before .before .before .before .before .before .before .before .put-step .ensures) _ refl in
+    omega arith)
+    (λ c. let fits = root-fits _ _ _ _ _ _ _ (room-same _ _ _ _ _ _ _ (steps-read _ _ _ _ _ (c .before .before .before .before .before .before .before .before .before .before .before .before .before .before .before .if1 .left) (c .before .before .before .before .before .before .before .before .before .before .before .before .before .if2 .taken)) (c .before .before .before .before .before .before .before .before .before .before .before .before .before .before .before .before .before .before .before .before .pre .1 .1 .1)) _ _ (c .before .before .before .before .before .before .before .before .put-step .ensures) _ refl in
+    let later = room-steps _ _ _ _ _ _ _ (room-same _ _ _ _ _ _ _ (steps-read _ _ _ _ _ (c .before .before .before .before .before .before .before .before .before .before .before .before .before .before .before .if1 .left) (c .before .before .before .before .before .before .before .before .before .before .before .before .before .if2 .taken)) (c .before .before .before .before .before .before .before .before .before .before .before .before .before .before .before .before .before .before .before .before .pre .1 .1 .1)) _ _ (c .before .before .before .before .before .before .before .before .put-step .ensures) _ (c .before .before .before .before .put-number .ensures) in
+    omega (arith, later .bytes, c .before .before .before .before .before .before .before .before .put-step .kept .1 .1 .1 .1 .1 .1 .0, c .before .before .before .before .before .before .before .before .before .before .before .before .before .before .before .before .before .before .before .before .good .1 .1 .1 .1 .1 .1 .1 .1 .0))
+    (λ c. let fits = root-fits _ _ _ _ _ _ _ (room-same _ _ _ _ _ _ _ (steps-read _ _ _ _ _ (c .before .before .before .before .before .before .before .before .before .before .before .before .before .before .before .if1 .left) (c .before .before .before .before .before .before .before .before .before .before .before .before .before .if2 .taken)) (c .before .before .before .before .before .before .before .before .before .before .before .before .before .before .before .before .before .before .before .before .pre .1 .1 .1)) _ _ (c .before .before .before .before .before .before .before .before .put-step .ensures) _ refl in
+    omega arith)
+    (λ c κs. let some = c .before .before .before .before .before .before .before .before .before .before .before .before .before .before .before .if1 .left in
+    (omega arith, (c .before .before .before .before .before .before .before .before .before .before .before .before .before .before .before .before .before .before .before .before .pre .1 .0, ((readable-next _ _ _ _ _ (c .before .before .before .before .before .before .before .before .before .before .before .before .before .before .before .if1 .left) (c .before .before .before .before .before .before .before .before .before .before .before .before .before .before .before .before .before .before .before .before .pre .1 .1 .0)), room-steps _ _ _ _ _ _ _ (room-same _ _ _ _ _ _ _ (steps-read _ _ _ _ _ (c .before .before .before .before .before .before .before .before .before .before .before .before .before .before .before .if1 .left) (c .before .before .before .before .before .before .before .before .before .before .before .before .before .if2 .taken)) (c .before .before .before .before .before .before .before .before .before .before .before .before .before .before .before .before .before .before .before .before .pre .1 .1 .1)) _ _ (c .before .before .before .before .before .before .before .before .put-step .ensures) _ (c .before .before .before .before .put-number .ensures)))))
+    (λ c. let later = room-steps _ _ _ _ _ _ _ (room-same _ _ _ _ _ _ _ (steps-read _ _ _ _ _ (c .before .before .before .before .before .before .before .before .before .before .before .before .before .before .before .before .before .before .before .before .before .if1 .left) (c .before .before .before .before .before .before .before .before .before .before .before .before .before .before .before .before .before .before .before .if2 .taken)) (c .before .before .before .before .before .before .before .before .before .before .before .before .before .before .before .before .before .before .before .before .before .before .before .before .before .before .pre .1 .1 .1)) _ _ (c .before .before .before .before .before .before .before .before .before .before .before .before .before .before .put-step .ensures) _ (c .before .before .before .before .before .before .before .before .before .before .put-number .ensures) in
+    omega (arith, later .space, c .before .before .before .before .before .put-steps .ensures .count, c .before .before .before .before .before .before .before .before .before .before .put-number .kept .0, c .before .before .before .before .before .before .before .before .before .before .before .before .before .before .before .before .before .before .before .before .before .before .before .before .before .before .good .1 .1 .1 .1 .1 .1 .0))
+    (λ c. let later = room-steps _ _ _ _ _ _ _ (room-same _ _ _ _ _ _ _ (steps-read _ _ _ _ _ (c .before .before .before .before .before .before .before .before .before .before .before .before .before .before .before .before .before .before .before .before .before .before .if1 .left) (c .before .before .before .before .before .before .before .before .before .before .before .before .before .before .before .before .before .before .before .before .if2 .taken)) (c .before .before .before .before .before .before .before .before .before .before .before .before .before .before .before .before .before .before .before .before .before .before .before .before .before .before .before .pre .1 .1 .1)) _ _ (c .before .before .before .before .before .before .before .before .before .before .before .before .before .before .before .put-step .ensures) _ (c .before .before .before .before .before .before .before .before .before .before .before .put-number .ensures) in
+    omega (arith, later .numbers, c .before .before .before .before .before .before .put-steps .ensures .nodes))
+    (λ c. let some = c .before .before .if1 .left in
+    omega (arith, c .before .before .before .before .before .before .before .good .1 .1 .1 .0, (c .before .before .before .before .before .before .before .pre .1 .1 .0) .space))
+    (λ c. let some = c .before .before .if1 .left in
+    omega arith)
+    (λ c κs. let some = c .before .before .before .before .if1 .left in
+    (omega arith, (c .before .before .before .before .before .before .before .before .before .pre .1 .0, ((readable-next _ _ _ _ _ (c .before .before .before .before .if1 .left) (c .before .before .before .before .before .before .before .before .before .pre .1 .1 .0)), room-same _ _ _ _ _ _ _ (steps-other _ _ _ _ _ (c .before .before .before .before .if1 .left) (c .before .before .if2 .left)) (c .before .before .before .before .before .before .before .before .before .pre .1 .1 .1)))))
+    (λ c. put-same _ _ _ _ _ _ _ _ _ _ (steps-none _ _ _ _ _ (c .if1 .taken)) (put-none _ _ _ _ _))
+    (λ c. c .before .before .before .before .before .before .put-steps .kept .1 .1 .1 .1 .1 .1 .0 ∙ c .before .before .before .before .before .before .before .before .before .before .before .put-number .kept .0)
+    (λ c. c .before .before .before .before .before .before .put-steps .kept .1 .1 .1 .1 .1 .1 .1 .1 .0 ∙ c .before .before .before .before .before .before .before .before .before .before .before .before .before .before .before .put-step .kept .1 .1 .1 .1 .1 .1 .0)
+    (λ c. put-same _ _ _ _ _ _ _ _ _ _ (steps-read _ _ _ _ _ (c .before .before .before .before .before .before .before .before .before .before .before .before .before .before .before .before .before .before .before .before .before .before .if1 .left) (c .before .before .before .before .before .before .before .before .before .before .before .before .before .before .before .before .before .before .before .before .if2 .taken)) (put-first _ _ _ _ _ _ _ (room-same _ _ _ _ _ _ _ (steps-read _ _ _ _ _ (c .before .before .before .before .before .before .before .before .before .before .before .before .before .before .before .before .before .before .before .before .before .before .if1 .left) (c .before .before .before .before .before .before .before .before .before .before .before .before .before .before .before .before .before .before .before .before .if2 .taken)) (c .before .before .before .before .before .before .before .before .before .before .before .before .before .before .before .before .before .before .before .before .before .before .before .before .before .before .before .pre .1 .1 .1)) _ _ (c .before .before .before .before .before .before .before .before .before .before .before .before .before .before .before .put-step .ensures) _ (c .before .before .before .before .before .before .before .before .before .before .before .put-number .ensures) _ _ _ (c .before .before .before .before .before .before .put-steps .ensures)))
+    (λ c. c .before .before .before .before .put-steps2 .kept .1 .1 .1 .1 .1 .1 .0)
+    (λ c. c .before .before .before .before .put-steps2 .kept .1 .1 .1 .1 .1 .1 .1 .1 .0)
+    (λ c. put-same _ _ _ _ _ _ _ _ _ _ (steps-other _ _ _ _ _ (c .before .before .before .before .before .before .before .before .before .if1 .left) (c .before .before .before .before .before .before .before .if2 .left)) (c .before .before .before .before .put-steps2 .ensures)))

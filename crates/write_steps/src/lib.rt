@@ -1,0 +1,113 @@
+// 01, Rewriting: steps that set read variables, and the sequences that nest them before a rest.
+use memory_buffer::put_number;
+use write_expressions::write_body_form;
+use write_nodes::put_node;
+use write_nodes::put_setting;
+ghost use mathlib.Core.Path.{_≡_};
+ghost use Prim.Native.Nat.{_+_, _*_, _<_, _≤_};
+ghost use lib.ListN.{length, take};
+ghost use Rattle.definitions.specs.Basics.{flatMap};
+ghost use Rattle.definitions.specs.ContractFile.{nodeCount};
+ghost use Rattle.definitions.specs.Rewriting.{setting, nodeBytes};
+ghost use Rattle.theory_trees.specs.Trees.{expressionIn};
+ghost use Rattle.memory_buffer.specs.Buffer.{stored};
+ghost use Rattle.file_accepted.specs.Context.{Context, nodesIn, scopeIn};
+ghost use Rattle.write_variable_counts.specs.Counts.{bodyCount};
+ghost use Rattle.write_nodes.specs.Numbering.{Room, Numbered};
+ghost use Rattle.write_expressions.specs.Forms.{bodyForm};
+ghost use Rattle.write_steps.specs.Steps.{stepsIn, closers, Readable, StepsRoom, StepsPut};
+
+pub struct Steps {
+    pub count: usize,
+    pub nodes: usize,
+}
+
+// One step: a variable is set to the body's form of node n, whose first variable is number i.
+pub fn put_step(
+    file: &[u8],
+    function_at: usize,
+    nodes_at: usize,
+    variable: usize,
+    n: usize,
+    i: usize,
+    out: &mut [u8],
+    at: usize,
+    base: usize,
+) -> usize
+    requires { ⌜ (n < nodeCount (now file)) × ((Context (now file) «function_at» «nodes_at») × ((i + bodyCount (scopeIn (now file) «function_at») (expressionIn (nodesIn (now file)) n) ≤ 65535) × (Room (now out) at base (setting variable (bodyForm (scopeIn (now file) «function_at») (expressionIn (nodesIn (now file)) n) i))))) ⌝ }
+    ensures { λ r. ⌜ Numbered (now (out .entry)) (now (out .exit)) at base (setting variable (bodyForm (scopeIn (now (file .entry)) «function_at») (expressionIn (nodesIn (now (file .entry))) n) i)) r ⌝ }
+{
+    let value = write_body_form(file, function_at, nodes_at, n, i, out, at, base);
+    put_setting(variable, value, out, at, base)
+}
+
+// The steps of the read variables among `left` entries of a log, with their roots noted from place `noted` on.
+pub fn put_steps(
+    file: &[u8],
+    function_at: usize,
+    nodes_at: usize,
+    log: &[u16],
+    from: usize,
+    left: usize,
+    roots: &mut [u16],
+    noted: usize,
+    out: &mut [u8],
+    at: usize,
+    base: usize,
+) -> Steps
+    requires { ⌜ (Context (now file) «function_at» «nodes_at») × ((Readable (now file) «function_at» (now log) from left) × (StepsRoom (now out) (now roots) at base noted (stepsIn (now file) «function_at» (now log) from left))) ⌝ }
+    ensures { λ r. ⌜ StepsPut (now (out .entry)) (now (out .exit)) (now (roots .entry)) (now (roots .exit)) at base noted (stepsIn (now (file .entry)) «function_at» (now (log .entry)) from left) r ⌝ }
+{
+    if left == 0 {
+        Steps { count: 0, nodes: 0 }
+    } else if log[from] == 2 {
+        let variable = log[from + 1] as usize;
+        let n = log[from + 3] as usize;
+        let i = log[from + 4] as usize;
+        let nodes = put_step(file, function_at, nodes_at, variable, n, i, out, at, base);
+        put_number(roots, noted, (base + nodes - 1) as u16);
+        let later = put_steps(
+            file,
+            function_at,
+            nodes_at,
+            log,
+            from + 5,
+            left - 1,
+            roots,
+            noted + 1,
+            out,
+            at + 8 * nodes,
+            base + nodes,
+        );
+        Steps {
+            count: later.count + 1,
+            nodes: nodes + later.nodes,
+        }
+    } else {
+        put_steps(
+            file,
+            function_at,
+            nodes_at,
+            log,
+            from + 5,
+            left - 1,
+            roots,
+            noted,
+            out,
+            at,
+            base,
+        )
+    }
+}
+
+// The sequences of the first `count` steps with these roots, the last one's first, above a rest whose root is `top`.
+pub fn close_steps(roots: &[u16], count: usize, top: usize, out: &mut [u8], at: usize)
+    requires { ⌜ (count ≤ length (now roots)) × ((top + count ≤ 65535) × (at + 8 * count ≤ length (now out))) ⌝ }
+    ensures { λ _. ⌜ now (out .exit) ≡ stored (now (out .entry)) at (flatMap nodeBytes (closers (take count (now (roots .entry))) top)) ⌝ }
+{
+    if 0 < count {
+        let root = roots[count - 1] as usize;
+        put_node(17, 0, root, top, 0, out, at);
+        close_steps(roots, count - 1, top + 1, out, at + 8);
+    }
+}

@@ -1,0 +1,147 @@
+-- The two counts meet their contracts, as a cycle: around it the node number falls, or a body's count asks for the same node's circuit.
+use mathlib.Core.Path.{sym, _∙_}
+use Prim.Native.Nat.{_+_, _*_}
+use native.Mathlib.Omega.{arith}
+use Rattle.file_accepted.specs.Context.{scopeIn}
+use Rattle.file_accepted.proofs.Nodes.{constant-is, field-is, entry-is, parameter-is, operator-is, negation-is, reveal-is, other-is, key-below, operands-below, part-below, revealed-below}
+use Rattle.write_variable_counts.proofs.Steps.{body-constant, body-me, body-field, body-parameter, body-entry, body-operator, body-supplied-operator, body-negation, body-supplied-negation, body-reveal, circuit-constant, circuit-me, circuit-field, circuit-parameter, circuit-entry, circuit-division, circuit-operator, circuit-negation, circuit-reveal}
+use Prim.Native.Nat.{ℕ, _<_}
+use borrow.Fn.Kinds.{In}
+use borrow.Fn.PlainCycle.{Measures, is, falls, and}
+use Rattle.write_variable_counts.proofs.body_count.Reads as body-count
+use Rattle.write_variable_counts.proofs.body_count.Kinds as body-count-kinds
+use Rattle.write_variable_counts.proofs.+body_count+circuit_count.Lts-body_count as body-count-lts
+use Rattle.write_variable_counts.proofs.circuit_count.Reads as circuit-count
+use Rattle.write_variable_counts.proofs.circuit_count.Kinds as circuit-count-kinds
+use Rattle.write_variable_counts.proofs.+body_count+circuit_count.Lts-circuit_count as circuit-count-lts
+use Rattle.file_bytes.proofs.node_at.Reads as node-at-reads
+use Rattle.rewrite_owners.proofs.is_public.Reads as is-public-reads
+use Rattle.write_variable_counts.proofs.is_public_division.Reads as is-public-division-reads
+use Rattle.write_variable_counts.proofs.+body_count+circuit_count.{statement}
+use Rattle.write_variable_counts.proofs.+body_count+circuit_count.Tie.{close}
+
+abbrev μ-body-count : Measures 1 body-count-kinds.ps ℕ
+μ-body-count κs a = 2 * a .1 .1 .1 .0 + 1
+
+abbrev μ-circuit-count : Measures 1 circuit-count-kinds.ps ℕ
+μ-circuit-count κs a = 2 * a .1 .1 .1 .0
+
+abbrev body-count-at : ℕ → In 1 body-count-kinds.ps
+body-count-at t =
+    and 1 body-count-kinds.ps (is 1 body-count-kinds.ps μ-body-count t) body-count.Pre
+
+abbrev body-count-below : ℕ → In 1 body-count-kinds.ps
+body-count-below t =
+    and 1 body-count-kinds.ps (falls 1 body-count-kinds.ps _<_ μ-body-count t) body-count.Pre
+
+abbrev circuit-count-at : ℕ → In 1 circuit-count-kinds.ps
+circuit-count-at t =
+    and 1 circuit-count-kinds.ps (is 1 circuit-count-kinds.ps μ-circuit-count t) circuit-count.Pre
+
+abbrev circuit-count-below : ℕ → In 1 circuit-count-kinds.ps
+circuit-count-below t =
+    and
+    1
+    circuit-count-kinds.ps
+    (falls 1 circuit-count-kinds.ps _<_ μ-circuit-count t)
+    circuit-count.Pre
+
+abbrev body-count-claims : ℕ → body-count-lts.Claims
+body-count-claims t = (node-at-reads.Asked, node-at-reads.Learnt, body-count-below t, body-count.Post, is-public-reads.Asked, is-public-reads.Learnt, circuit-count-below t, circuit-count.Post)
+
+abbrev circuit-count-claims : ℕ → circuit-count-lts.Claims
+circuit-count-claims t = (node-at-reads.Asked, node-at-reads.Learnt, body-count-below t, body-count.Post, is-public-division-reads.Asked, is-public-division-reads.Learnt, circuit-count-below t, circuit-count.Post)
+
+pub +body-count+circuit-count-spec : {M : Type 1} → statement M
++body-count+circuit-count-spec =
+    close μ-body-count μ-circuit-count
+    (λ t. body-count-lts.spec (body-count-claims t) (body-count-at t) body-count.Post
+    (λ c κs. (c .before .pre .1 .1 .0 .nearNodes, omega (arith, c .before .pre .1 .1 .0 .fewNodes)))
+    (λ c κs. let less = key-below _ _ _ (c .before .before .before .pre .1 .1 .0) _ (c .before .before .before .pre .1 .0) _ (c .before .node-at .ensures .same) (c .match .keys3) in
+    let h = body-entry (scopeIn (c .before .before .before .args .file .now) (c .before .before .before .args .function-at)) _ _ _ (entry-is _ _ _ (c .before .before .before .pre .1 .1 .0) _ (c .before .before .before .pre .1 .0) _ (c .before .node-at .ensures .same) (c .match .keys3)) in
+    (omega arith, (omega arith, (c .before .before .before .pre .1 .1 .0, omega arith))))
+    (λ c κs. (c .before .before .before .pre .1 .0, c .before .before .before .pre .1 .1 .0))
+    (λ c κs. let less = operands-below _ _ _ (c .before .before .before .before .before .pre .1 .1 .0) _ (c .before .before .before .before .before .pre .1 .0) _ (c .before .before .before .node-at .ensures .same) (c .before .before .match .keys5) in
+    let h = body-operator (scopeIn (c .before .before .before .before .before .args .file .now) (c .before .before .before .before .before .args .function-at)) _ _ _ _ (operator-is _ _ _ (c .before .before .before .before .before .pre .1 .1 .0) _ (c .before .before .before .before .before .pre .1 .0) _ (c .before .before .before .node-at .ensures .same) (c .before .before .match .keys5)) (sym (c .before .is-public .ensures) ∙ c .if1 .taken) in
+    (omega arith, (omega arith, (c .before .before .before .before .before .pre .1 .1 .0, omega arith))))
+    (λ c κs. let less = operands-below _ _ _ (c .before .before .before .before .before .before .pre .1 .1 .0) _ (c .before .before .before .before .before .before .pre .1 .0) _ (c .before .before .before .before .node-at .ensures .same) (c .before .before .before .match .keys5) in
+    let h = body-operator (scopeIn (c .before .before .before .before .before .before .args .file .now) (c .before .before .before .before .before .before .args .function-at)) _ _ _ _ (operator-is _ _ _ (c .before .before .before .before .before .before .pre .1 .1 .0) _ (c .before .before .before .before .before .before .pre .1 .0) _ (c .before .before .before .before .node-at .ensures .same) (c .before .before .before .match .keys5)) (sym (c .before .before .is-public .ensures) ∙ c .before .if1 .taken) in
+    (omega arith, (omega arith, (c .before .before .before .before .before .before .pre .1 .1 .0, omega arith))))
+    (λ c. let h = body-operator (scopeIn (c .before .before .before .before .before .before .before .args .file .now) (c .before .before .before .before .before .before .before .args .function-at)) _ _ _ _ (operator-is _ _ _ (c .before .before .before .before .before .before .before .pre .1 .1 .0) _ (c .before .before .before .before .before .before .before .pre .1 .0) _ (c .before .before .before .before .before .node-at .ensures .same) (c .before .before .before .before .match .keys5)) (sym (c .before .before .before .is-public .ensures) ∙ c .before .before .if1 .taken) in
+    omega (arith, c .before .body-count2 .ensures, c .body-count3 .ensures, c .before .before .before .before .before .before .before .pre .1 .1 .1))
+    (λ c κs. let h = body-supplied-operator (scopeIn (c .before .before .before .before .before .args .file .now) (c .before .before .before .before .before .args .function-at)) _ _ _ _ (operator-is _ _ _ (c .before .before .before .before .before .pre .1 .1 .0) _ (c .before .before .before .before .before .pre .1 .0) _ (c .before .before .before .node-at .ensures .same) (c .before .before .match .keys5)) (sym (c .before .is-public .ensures) ∙ c .if1 .left) in
+    (omega arith, (omega arith, (c .before .before .before .before .before .pre .1 .1 .0, omega arith))))
+    (λ c. let h = body-supplied-operator (scopeIn (c .before .before .before .before .before .before .args .file .now) (c .before .before .before .before .before .before .args .function-at)) _ _ _ _ (operator-is _ _ _ (c .before .before .before .before .before .before .pre .1 .1 .0) _ (c .before .before .before .before .before .before .pre .1 .0) _ (c .before .before .before .before .node-at .ensures .same) (c .before .before .before .match .keys5)) (sym (c .before .before .is-public .ensures) ∙ c .before .if1 .left) in
+    omega (arith, c .circuit-count .ensures, c .before .before .before .before .before .before .pre .1 .1 .1))
+    (λ c κs. (c .before .before .before .pre .1 .0, c .before .before .before .pre .1 .1 .0))
+    (λ c κs. let less = part-below _ _ _ (c .before .before .before .before .before .pre .1 .1 .0) _ (c .before .before .before .before .before .pre .1 .0) _ (c .before .before .before .node-at .ensures .same) (c .before .before .match .keys6) in
+    let h = body-negation (scopeIn (c .before .before .before .before .before .args .file .now) (c .before .before .before .before .before .args .function-at)) _ _ (negation-is _ _ _ (c .before .before .before .before .before .pre .1 .1 .0) _ (c .before .before .before .before .before .pre .1 .0) _ (c .before .before .before .node-at .ensures .same) (c .before .before .match .keys6)) (sym (c .before .is-public2 .ensures) ∙ c .if2 .taken) in
+    (omega arith, (omega arith, (c .before .before .before .before .before .pre .1 .1 .0, omega arith))))
+    (λ c κs. let h = body-supplied-negation (scopeIn (c .before .before .before .before .before .args .file .now) (c .before .before .before .before .before .args .function-at)) _ _ (negation-is _ _ _ (c .before .before .before .before .before .pre .1 .1 .0) _ (c .before .before .before .before .before .pre .1 .0) _ (c .before .before .before .node-at .ensures .same) (c .before .before .match .keys6)) (sym (c .before .is-public2 .ensures) ∙ c .if2 .left) in
+    (omega arith, (omega arith, (c .before .before .before .before .before .pre .1 .1 .0, omega arith))))
+    (λ c. let h = body-supplied-negation (scopeIn (c .before .before .before .before .before .before .args .file .now) (c .before .before .before .before .before .before .args .function-at)) _ _ (negation-is _ _ _ (c .before .before .before .before .before .before .pre .1 .1 .0) _ (c .before .before .before .before .before .before .pre .1 .0) _ (c .before .before .before .before .node-at .ensures .same) (c .before .before .before .match .keys6)) (sym (c .before .before .is-public2 .ensures) ∙ c .before .if2 .left) in
+    omega (arith, c .circuit-count2 .ensures, c .before .before .before .before .before .before .pre .1 .1 .1))
+    (λ c κs. let h = body-reveal (scopeIn (c .before .before .before .args .file .now) (c .before .before .before .args .function-at)) _ _ _ (reveal-is _ _ _ (c .before .before .before .pre .1 .1 .0) _ (c .before .before .before .pre .1 .0) _ (c .before .node-at .ensures .same) (c .match .keys7)) in
+    (omega arith, (omega arith, (c .before .before .before .pre .1 .1 .0, omega arith))))
+    (λ c. let h = body-reveal (scopeIn (c .before .before .before .before .args .file .now) (c .before .before .before .before .args .function-at)) _ _ _ (reveal-is _ _ _ (c .before .before .before .before .pre .1 .1 .0) _ (c .before .before .before .before .pre .1 .0) _ (c .before .before .node-at .ensures .same) (c .before .match .keys7)) in
+    omega (arith, c .circuit-count3 .ensures, c .before .before .before .before .pre .1 .1 .1))
+    (λ c. body-constant _ _ _ _ (constant-is _ _ _ (c .before .before .before .pre .1 .1 .0) _ (c .before .before .before .pre .1 .0) _ (c .before .node-at .ensures .same) (c .match .keys1)))
+    (λ c. body-field _ _ _ (field-is _ _ _ (c .before .before .before .pre .1 .1 .0) _ (c .before .before .before .pre .1 .0) _ (c .before .node-at .ensures .same) (c .match .keys2)))
+    (λ c. c .body-count .ensures ∙ body-entry _ _ _ _ (entry-is _ _ _ (c .before .before .before .before .pre .1 .1 .0) _ (c .before .before .before .before .pre .1 .0) _ (c .before .before .node-at .ensures .same) (c .before .match .keys3)))
+    (λ c. body-parameter _ _ _ (parameter-is _ _ _ (c .before .before .before .pre .1 .1 .0) _ (c .before .before .before .pre .1 .0) _ (c .before .node-at .ensures .same) (c .match .keys4)))
+    (λ c. let h = body-operator (scopeIn (c .before .before .before .before .before .before .before .args .file .now) (c .before .before .before .before .before .before .before .args .function-at)) _ _ _ _ (operator-is _ _ _ (c .before .before .before .before .before .before .before .pre .1 .1 .0) _ (c .before .before .before .before .before .before .before .pre .1 .0) _ (c .before .before .before .before .before .node-at .ensures .same) (c .before .before .before .before .match .keys5)) (sym (c .before .before .before .is-public .ensures) ∙ c .before .before .if1 .taken) in
+    omega (arith, c .before .body-count2 .ensures, c .body-count3 .ensures))
+    (λ c. let h = body-supplied-operator (scopeIn (c .before .before .before .before .before .before .args .file .now) (c .before .before .before .before .before .before .args .function-at)) _ _ _ _ (operator-is _ _ _ (c .before .before .before .before .before .before .pre .1 .1 .0) _ (c .before .before .before .before .before .before .pre .1 .0) _ (c .before .before .before .before .node-at .ensures .same) (c .before .before .before .match .keys5)) (sym (c .before .before .is-public .ensures) ∙ c .before .if1 .left) in
+    omega (arith, c .circuit-count .ensures))
+    (λ c. c .body-count4 .ensures ∙ body-negation _ _ _ (negation-is _ _ _ (c .before .before .before .before .before .before .pre .1 .1 .0) _ (c .before .before .before .before .before .before .pre .1 .0) _ (c .before .before .before .before .node-at .ensures .same) (c .before .before .before .match .keys6)) (sym (c .before .before .is-public2 .ensures) ∙ c .before .if2 .taken))
+    (λ c. let h = body-supplied-negation (scopeIn (c .before .before .before .before .before .before .args .file .now) (c .before .before .before .before .before .before .args .function-at)) _ _ (negation-is _ _ _ (c .before .before .before .before .before .before .pre .1 .1 .0) _ (c .before .before .before .before .before .before .pre .1 .0) _ (c .before .before .before .before .node-at .ensures .same) (c .before .before .before .match .keys6)) (sym (c .before .before .is-public2 .ensures) ∙ c .before .if2 .left) in
+    omega (arith, c .circuit-count2 .ensures))
+    (λ c. let h = body-reveal (scopeIn (c .before .before .before .before .args .file .now) (c .before .before .before .before .args .function-at)) _ _ _ (reveal-is _ _ _ (c .before .before .before .before .pre .1 .1 .0) _ (c .before .before .before .before .pre .1 .0) _ (c .before .before .node-at .ensures .same) (c .before .match .keys7)) in
+    omega (arith, c .circuit-count3 .ensures))
+    (λ c. let u = c .match .rest in
+    body-me _ _ (other-is _ _ _ (c .before .before .before .pre .1 .1 .0) _ (c .before .before .before .pre .1 .0) _ (c .before .node-at .ensures .same) (record { constant = u .0 .0 .0 .0 .0 .0 .1; field = u .0 .0 .0 .0 .0 .1; entry = u .0 .0 .0 .0 .1; parameter = u .0 .0 .0 .1; operator = u .0 .0 .1; negation = u .0 .1; reveal = u .1 }))))
+    (λ t. circuit-count-lts.spec (circuit-count-claims t) (circuit-count-at t) circuit-count.Post
+    (λ c κs. (c .before .pre .1 .1 .0 .nearNodes, omega (arith, c .before .pre .1 .1 .0 .fewNodes)))
+    (λ c κs. let less = key-below _ _ _ (c .before .before .before .pre .1 .1 .0) _ (c .before .before .before .pre .1 .0) _ (c .before .node-at .ensures .same) (c .match .keys3) in
+    let h = circuit-entry (scopeIn (c .before .before .before .args .file .now) (c .before .before .before .args .function-at)) _ _ _ (entry-is _ _ _ (c .before .before .before .pre .1 .1 .0) _ (c .before .before .before .pre .1 .0) _ (c .before .node-at .ensures .same) (c .match .keys3)) in
+    (omega arith, (omega arith, (c .before .before .before .pre .1 .1 .0, omega arith))))
+    (λ c. let h = circuit-entry (scopeIn (c .before .before .before .before .args .file .now) (c .before .before .before .before .args .function-at)) _ _ _ (entry-is _ _ _ (c .before .before .before .before .pre .1 .1 .0) _ (c .before .before .before .before .pre .1 .0) _ (c .before .before .node-at .ensures .same) (c .before .match .keys3)) in
+    omega (arith, c .body-count .ensures, c .before .before .before .before .pre .1 .1 .1))
+    (λ c κs. (c .before .before .before .pre .1 .0, c .before .before .before .pre .1 .1 .0))
+    (λ c κs. let less = operands-below _ _ _ (c .before .before .before .before .before .pre .1 .1 .0) _ (c .before .before .before .before .before .pre .1 .0) _ (c .before .before .before .node-at .ensures .same) (c .before .before .match .keys5) in
+    let h = circuit-division (scopeIn (c .before .before .before .before .before .args .file .now) (c .before .before .before .before .before .args .function-at)) _ _ _ _ (operator-is _ _ _ (c .before .before .before .before .before .pre .1 .1 .0) _ (c .before .before .before .before .before .pre .1 .0) _ (c .before .before .before .node-at .ensures .same) (c .before .before .match .keys5)) (sym (c .before .is-public-division .ensures) ∙ c .if1 .taken) in
+    (omega arith, (omega arith, (c .before .before .before .before .before .pre .1 .1 .0, omega arith))))
+    (λ c κs. let less = operands-below _ _ _ (c .before .before .before .before .before .before .pre .1 .1 .0) _ (c .before .before .before .before .before .before .pre .1 .0) _ (c .before .before .before .before .node-at .ensures .same) (c .before .before .before .match .keys5) in
+    let h = circuit-division (scopeIn (c .before .before .before .before .before .before .args .file .now) (c .before .before .before .before .before .before .args .function-at)) _ _ _ _ (operator-is _ _ _ (c .before .before .before .before .before .before .pre .1 .1 .0) _ (c .before .before .before .before .before .before .pre .1 .0) _ (c .before .before .before .before .node-at .ensures .same) (c .before .before .before .match .keys5)) (sym (c .before .before .is-public-division .ensures) ∙ c .before .if1 .taken) in
+    (omega arith, (omega arith, (c .before .before .before .before .before .before .pre .1 .1 .0, omega arith))))
+    (λ c. let h = circuit-division (scopeIn (c .before .before .before .before .before .before .before .args .file .now) (c .before .before .before .before .before .before .before .args .function-at)) _ _ _ _ (operator-is _ _ _ (c .before .before .before .before .before .before .before .pre .1 .1 .0) _ (c .before .before .before .before .before .before .before .pre .1 .0) _ (c .before .before .before .before .before .node-at .ensures .same) (c .before .before .before .before .match .keys5)) (sym (c .before .before .before .is-public-division .ensures) ∙ c .before .before .if1 .taken) in
+    omega (arith, c .before .body-count2 .ensures, c .body-count3 .ensures, c .before .before .before .before .before .before .before .pre .1 .1 .1))
+    (λ c. let h = circuit-division (scopeIn (c .before .before .before .before .before .before .before .args .file .now) (c .before .before .before .before .before .before .before .args .function-at)) _ _ _ _ (operator-is _ _ _ (c .before .before .before .before .before .before .before .pre .1 .1 .0) _ (c .before .before .before .before .before .before .before .pre .1 .0) _ (c .before .before .before .before .before .node-at .ensures .same) (c .before .before .before .before .match .keys5)) (sym (c .before .before .before .is-public-division .ensures) ∙ c .before .before .if1 .taken) in
+    omega (arith, c .before .body-count2 .ensures, c .body-count3 .ensures, c .before .before .before .before .before .before .before .pre .1 .1 .1))
+    (λ c κs. let less = operands-below _ _ _ (c .before .before .before .before .before .pre .1 .1 .0) _ (c .before .before .before .before .before .pre .1 .0) _ (c .before .before .before .node-at .ensures .same) (c .before .before .match .keys5) in
+    let h = circuit-operator (scopeIn (c .before .before .before .before .before .args .file .now) (c .before .before .before .before .before .args .function-at)) _ _ _ _ (operator-is _ _ _ (c .before .before .before .before .before .pre .1 .1 .0) _ (c .before .before .before .before .before .pre .1 .0) _ (c .before .before .before .node-at .ensures .same) (c .before .before .match .keys5)) (sym (c .before .is-public-division .ensures) ∙ c .if1 .left) in
+    (omega arith, (omega arith, (c .before .before .before .before .before .pre .1 .1 .0, omega arith))))
+    (λ c κs. let less = operands-below _ _ _ (c .before .before .before .before .before .before .pre .1 .1 .0) _ (c .before .before .before .before .before .before .pre .1 .0) _ (c .before .before .before .before .node-at .ensures .same) (c .before .before .before .match .keys5) in
+    let h = circuit-operator (scopeIn (c .before .before .before .before .before .before .args .file .now) (c .before .before .before .before .before .before .args .function-at)) _ _ _ _ (operator-is _ _ _ (c .before .before .before .before .before .before .pre .1 .1 .0) _ (c .before .before .before .before .before .before .pre .1 .0) _ (c .before .before .before .before .node-at .ensures .same) (c .before .before .before .match .keys5)) (sym (c .before .before .is-public-division .ensures) ∙ c .before .if1 .left) in
+    (omega arith, (omega arith, (c .before .before .before .before .before .before .pre .1 .1 .0, omega arith))))
+    (λ c. let h = circuit-operator (scopeIn (c .before .before .before .before .before .before .before .args .file .now) (c .before .before .before .before .before .before .before .args .function-at)) _ _ _ _ (operator-is _ _ _ (c .before .before .before .before .before .before .before .pre .1 .1 .0) _ (c .before .before .before .before .before .before .before .pre .1 .0) _ (c .before .before .before .before .before .node-at .ensures .same) (c .before .before .before .before .match .keys5)) (sym (c .before .before .before .is-public-division .ensures) ∙ c .before .before .if1 .left) in
+    omega (arith, c .before .circuit-count .ensures, c .circuit-count2 .ensures, c .before .before .before .before .before .before .before .pre .1 .1 .1))
+    (λ c κs. let less = part-below _ _ _ (c .before .before .before .pre .1 .1 .0) _ (c .before .before .before .pre .1 .0) _ (c .before .node-at .ensures .same) (c .match .keys6) in
+    let h = circuit-negation (scopeIn (c .before .before .before .args .file .now) (c .before .before .before .args .function-at)) _ _ (negation-is _ _ _ (c .before .before .before .pre .1 .1 .0) _ (c .before .before .before .pre .1 .0) _ (c .before .node-at .ensures .same) (c .match .keys6)) in
+    (omega arith, (omega arith, (c .before .before .before .pre .1 .1 .0, omega arith))))
+    (λ c κs. let less = revealed-below _ _ _ (c .before .before .before .pre .1 .1 .0) _ (c .before .before .before .pre .1 .0) _ (c .before .node-at .ensures .same) (c .match .keys7) in
+    let h = circuit-reveal (scopeIn (c .before .before .before .args .file .now) (c .before .before .before .args .function-at)) _ _ _ (reveal-is _ _ _ (c .before .before .before .pre .1 .1 .0) _ (c .before .before .before .pre .1 .0) _ (c .before .node-at .ensures .same) (c .match .keys7)) in
+    (omega arith, (omega arith, (c .before .before .before .pre .1 .1 .0, omega arith))))
+    (λ c. circuit-constant _ _ _ _ (constant-is _ _ _ (c .before .before .before .pre .1 .1 .0) _ (c .before .before .before .pre .1 .0) _ (c .before .node-at .ensures .same) (c .match .keys1)))
+    (λ c. circuit-field _ _ _ (field-is _ _ _ (c .before .before .before .pre .1 .1 .0) _ (c .before .before .before .pre .1 .0) _ (c .before .node-at .ensures .same) (c .match .keys2)))
+    (λ c. let h = circuit-entry (scopeIn (c .before .before .before .before .args .file .now) (c .before .before .before .before .args .function-at)) _ _ _ (entry-is _ _ _ (c .before .before .before .before .pre .1 .1 .0) _ (c .before .before .before .before .pre .1 .0) _ (c .before .before .node-at .ensures .same) (c .before .match .keys3)) in
+    omega (arith, c .body-count .ensures))
+    (λ c. circuit-parameter _ _ _ (parameter-is _ _ _ (c .before .before .before .pre .1 .1 .0) _ (c .before .before .before .pre .1 .0) _ (c .before .node-at .ensures .same) (c .match .keys4)))
+    (λ c. let h = circuit-division (scopeIn (c .before .before .before .before .before .before .before .args .file .now) (c .before .before .before .before .before .before .before .args .function-at)) _ _ _ _ (operator-is _ _ _ (c .before .before .before .before .before .before .before .pre .1 .1 .0) _ (c .before .before .before .before .before .before .before .pre .1 .0) _ (c .before .before .before .before .before .node-at .ensures .same) (c .before .before .before .before .match .keys5)) (sym (c .before .before .before .is-public-division .ensures) ∙ c .before .before .if1 .taken) in
+    omega (arith, c .before .body-count2 .ensures, c .body-count3 .ensures))
+    (λ c. let h = circuit-operator (scopeIn (c .before .before .before .before .before .before .before .args .file .now) (c .before .before .before .before .before .before .before .args .function-at)) _ _ _ _ (operator-is _ _ _ (c .before .before .before .before .before .before .before .pre .1 .1 .0) _ (c .before .before .before .before .before .before .before .pre .1 .0) _ (c .before .before .before .before .before .node-at .ensures .same) (c .before .before .before .before .match .keys5)) (sym (c .before .before .before .is-public-division .ensures) ∙ c .before .before .if1 .left) in
+    omega (arith, c .before .circuit-count .ensures, c .circuit-count2 .ensures))
+    (λ c. c .circuit-count3 .ensures ∙ circuit-negation _ _ _ (negation-is _ _ _ (c .before .before .before .before .pre .1 .1 .0) _ (c .before .before .before .before .pre .1 .0) _ (c .before .before .node-at .ensures .same) (c .before .match .keys6)))
+    (λ c. c .circuit-count4 .ensures ∙ circuit-reveal _ _ _ _ (reveal-is _ _ _ (c .before .before .before .before .pre .1 .1 .0) _ (c .before .before .before .before .pre .1 .0) _ (c .before .before .node-at .ensures .same) (c .before .match .keys7)))
+    (λ c. let u = c .match .rest in
+    circuit-me _ _ (other-is _ _ _ (c .before .before .before .pre .1 .1 .0) _ (c .before .before .before .pre .1 .0) _ (c .before .node-at .ensures .same) (record { constant = u .0 .0 .0 .0 .0 .0 .1; field = u .0 .0 .0 .0 .0 .1; entry = u .0 .0 .0 .0 .1; parameter = u .0 .0 .0 .1; operator = u .0 .0 .1; negation = u .0 .1; reveal = u .1 }))))

@@ -1,0 +1,89 @@
+// 01, Rewriting: how many variables the body's and the circuit's form of a node make.
+use file_bytes::node_at;
+use rewrite_owners::is_public;
+ghost use mathlib.Core.Path.{_≡_};
+ghost use mathlib.Core.Bool.{_&&_};
+ghost use Prim.Native.Nat.{_<_, _≤_};
+ghost use Rattle.definitions.specs.ContractFile.{isDivision, nodeCount, operatorOf};
+ghost use Rattle.definitions.specs.Owners.{isPublic};
+ghost use Rattle.theory_trees.specs.Trees.{expressionIn};
+ghost use Rattle.file_accepted.specs.Context.{Context, nodesIn, scopeIn};
+ghost use Rattle.write_variable_counts.specs.Counts.{bodyCount, circuitCount};
+
+// Whether node n, an operator of a code, is a division that belongs to all.
+pub fn is_public_division(
+    file: &[u8],
+    function_at: usize,
+    nodes_at: usize,
+    n: usize,
+    code: usize,
+) -> bool
+    requires { ⌜ (n < nodeCount (now file)) × (Context (now file) «function_at» «nodes_at») ⌝ }
+    ensures { λ r. ⌜ r ≡ (isPublic (scopeIn (now (file .entry)) «function_at») (expressionIn (nodesIn (now (file .entry))) n) && isDivision (operatorOf code)) ⌝ }
+{
+    match code {
+        3 => is_public(file, function_at, nodes_at, n),
+        4 => is_public(file, function_at, nodes_at, n),
+        _ => false,
+    }
+}
+
+pub fn body_count(file: &[u8], function_at: usize, nodes_at: usize, n: usize) -> usize
+    requires { ⌜ (n < nodeCount (now file)) × ((Context (now file) «function_at» «nodes_at») × (bodyCount (scopeIn (now file) «function_at») (expressionIn (nodesIn (now file)) n) ≤ 65535)) ⌝ }
+    ensures { λ r. ⌜ r ≡ bodyCount (scopeIn (now (file .entry)) «function_at») (expressionIn (nodesIn (now (file .entry))) n) ⌝ }
+{
+    let node = node_at(file, nodes_at, n);
+    let kind = node.kind;
+    match kind {
+        1 => 0,
+        3 => 0,
+        4 => body_count(file, function_at, nodes_at, node.first),
+        5 => 0,
+        6 => {
+            if is_public(file, function_at, nodes_at, n) {
+                let left = body_count(file, function_at, nodes_at, node.first);
+                let right = body_count(file, function_at, nodes_at, node.second);
+                left + right
+            } else {
+                circuit_count(file, function_at, nodes_at, n) + 1
+            }
+        }
+        7 => {
+            if is_public(file, function_at, nodes_at, n) {
+                body_count(file, function_at, nodes_at, node.first)
+            } else {
+                circuit_count(file, function_at, nodes_at, n) + 1
+            }
+        }
+        8 => circuit_count(file, function_at, nodes_at, n) + 1,
+        _ => 0,
+    }
+}
+
+pub fn circuit_count(file: &[u8], function_at: usize, nodes_at: usize, n: usize) -> usize
+    requires { ⌜ (n < nodeCount (now file)) × ((Context (now file) «function_at» «nodes_at») × (circuitCount (scopeIn (now file) «function_at») (expressionIn (nodesIn (now file)) n) ≤ 65535)) ⌝ }
+    ensures { λ r. ⌜ r ≡ circuitCount (scopeIn (now (file .entry)) «function_at») (expressionIn (nodesIn (now (file .entry))) n) ⌝ }
+{
+    let node = node_at(file, nodes_at, n);
+    let kind = node.kind;
+    match kind {
+        1 => 0,
+        3 => 1,
+        4 => body_count(file, function_at, nodes_at, node.first) + 1,
+        5 => 1,
+        6 => {
+            if is_public_division(file, function_at, nodes_at, n, node.arg) {
+                let left = body_count(file, function_at, nodes_at, node.first);
+                let right = body_count(file, function_at, nodes_at, node.second);
+                left + right + 1
+            } else {
+                let left = circuit_count(file, function_at, nodes_at, node.first);
+                let right = circuit_count(file, function_at, nodes_at, node.second);
+                left + right
+            }
+        }
+        7 => circuit_count(file, function_at, nodes_at, node.first),
+        8 => circuit_count(file, function_at, nodes_at, node.first),
+        _ => 0,
+    }
+}

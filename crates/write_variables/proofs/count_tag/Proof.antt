@@ -1,0 +1,33 @@
+-- The loop's invariant: those counted and those left are all.
+use mathlib.Core.Path.{_≡_}
+use Prim.Native.Nat.{_+_, _-_, _≤_}
+use native.Mathlib.Omega.{arith}
+use lib.ListN.{length, drop}
+use borrow.Author.Needs.{needs}
+use Rattle.write_variables.specs.PerEntry.{perEntry, ofTag, countTag}
+use Rattle.write_variables.proofs.PerEntry.{count-next, count-done}
+use Rattle.write_variables.proofs.count_tag.Statement.{statement}
+use Rattle.write_variables.proofs.count_tag.Tie as tie
+
+abbrev Inv-loop : tie.InvT-loop
+Inv-loop log tag count₀ i₀ count i = (count + length (perEntry (ofTag tag) (drop i log)) ≡ countTag tag log) × (i ≤ length log) × (count ≤ i)
+
+abbrev μ-loop : tie.MeasureT-loop
+μ-loop log tag count₀ i₀ count i = length log - i
+
+pub count-tag-spec : {M : Type 1} → statement M
+count-tag-spec =
+    tie.close
+    (tie.spec
+    Inv-loop
+    μ-loop
+    (λ c. (omega arith, omega arith, omega arith))
+    (λ c. search needs)
+    (λ c. search needs)
+    (λ c. search needs)
+    (λ c κs. search needs)
+    (λ c. search needs)
+    (λ c. search needs)
+    (λ c. search needs)
+    (λ c. (count-next (c .before .before .before .before .before .args .log .now) (c .before .before .before .before .before .args .tag) _ _ _ (omega arith) (c .one-if-same .ensures .0) (c .before .before .before .loop .inv .0), omega arith, omega arith))
+    (λ c. count-done (c .before .before .before .args .log .now) (c .before .before .before .args .tag) _ (c .before .loop .i) (omega arith) (c .before .loop .inv .0)))
