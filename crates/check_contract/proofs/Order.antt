@@ -6,8 +6,8 @@ use native.Mathlib.Omega.{arith}
 use Rattle.definitions.specs.Basics.{firstThatHolds}
 use Rattle.definitions.specs.ContractFile.{sectionsOf, contractOf}
 use Rattle.definitions.specs.Numbers.{checkNumber, contractSentences, orElse}
-use Rattle.check_sections.specs.Shape.{shapeNumber}
-use Rattle.check_sections.proofs.Laws.{check-after-shape}
+use Rattle.check_01_to_07.specs.Shape.{shapeNumber}
+use Rattle.check_01_to_07.proofs.Shape.{check-after-shape}
 
 abbrev rulesNumber : List ℕ → ℕ
 rulesNumber file = firstThatHolds 8 (contractSentences (contractOf (sectionsOf file)))

@@ -7,7 +7,7 @@ ghost use Rattle.definitions.specs.Numbers.{checkNumber};
 pub fn check(file: &[u8]) -> u8
     ensures { λ r. ⌜ r ≡ checkNumber (now (file .entry)) ⌝ }
 {
-    let shape = check_sections::shape_number(file);
+    let shape = check_01_to_07::shape_number(file);
     if 0 < shape {
         return shape;
     }

@@ -16,8 +16,8 @@ use Rattle.theory_laws.proofs.TruthValues.{or-else-first}
 use Rattle.file_bytes.proofs.Sections.{functions-are}
 use Rattle.file_children.proofs.Truth.{either-false}
 use Rattle.theory_accepted.specs.Settled.{Settled}
-use Rattle.check_sections.specs.Shape.{shapeNumber}
-use Rattle.check_sections.proofs.Laws.{settled, check-after-shape}
+use Rattle.check_01_to_07.specs.Shape.{shapeNumber}
+use Rattle.check_01_to_07.proofs.Shape.{settled, check-after-shape}
 use Rattle.file_accepted.proofs.Accepted.{few-fields, few-functions, few-nodes}
 
 abbrev manyParameters : FunctionRecord → Bool

@@ -2,7 +2,7 @@
 use mathlib.Core.Path.{_≡_, sym, _∙_}
 use native.Mathlib.Omega.{arith}
 use Rattle.check_contract.proofs.Order.{refused-by-shape, left-to-rules}
-use Rattle.check_sections.proofs.Laws.{settled}
+use Rattle.check_01_to_07.proofs.Shape.{settled}
 use borrow.Author.Needs.{needs}
 use Rattle.check_contract.proofs.check.Statement.{statement}
 use Rattle.check_contract.proofs.check.Tie as tie

@@ -1,7 +1,7 @@
 -- `check_sections::section` meets its contract.
 use native.Mathlib.Omega.{arith}
 use borrow.Author.Needs.{needs}
-use Rattle.check_sections.proofs.Laws.{refused-part, accepted-ends, functions-before-nodes, nodes-within, fields-part, functions-part, nodes-part}
+use Rattle.check_sections.proofs.Sections.{refused-part, sections-within, fields-part, functions-part, nodes-part}
 use Rattle.check_sections.proofs.section.Statement.{statement}
 use Rattle.check_sections.proofs.section.Tie as tie
 
@@ -17,48 +17,12 @@ section-spec =
     (λ c κs. search needs)
     (λ c. search needs)
     (λ c. search needs)
-    (λ c. let is = c .before .read-layout .ensures in
-    omega (
-      arith,
-      functions-before-nodes _ _ is,
-      nodes-within _ _ is
-          (accepted-ends _ _ _ (c .before .before .before .section-number .ensures) (c .before .before .if1 .left)),
-    ))
-    (λ c. let is = c .before .before .read-layout .ensures in
-    omega (
-      arith,
-      functions-before-nodes _ _ is,
-      nodes-within _ _ is
-          (accepted-ends _ _ _ (c .before .before .before .before .section-number .ensures) (c .before .before .before .if1 .left)),
-    ))
-    (λ c. let is = c .before .before .read-layout .ensures in
-    omega (
-      arith,
-      functions-before-nodes _ _ is,
-      nodes-within _ _ is
-          (accepted-ends _ _ _ (c .before .before .before .before .section-number .ensures) (c .before .before .before .if1 .left)),
-    ))
-    (λ c. let is = c .before .before .read-layout .ensures in
-    omega (
-      arith,
-      functions-before-nodes _ _ is,
-      nodes-within _ _ is
-          (accepted-ends _ _ _ (c .before .before .before .before .section-number .ensures) (c .before .before .before .if1 .left)),
-    ))
-    (λ c. let is = c .before .before .read-layout .ensures in
-    omega (
-      arith,
-      functions-before-nodes _ _ is,
-      nodes-within _ _ is
-          (accepted-ends _ _ _ (c .before .before .before .before .section-number .ensures) (c .before .before .before .if1 .left)),
-    ))
-    (λ c. let is = c .before .before .read-layout .ensures in
-    omega (
-      arith,
-      functions-before-nodes _ _ is,
-      nodes-within _ _ is
-          (accepted-ends _ _ _ (c .before .before .before .before .section-number .ensures) (c .before .before .before .if1 .left)),
-    ))
+    (λ c. let within = sections-within _ _ _ (c .before .before .before .section-number .ensures) (c .before .before .if1 .left) _ (c .before .read-layout .ensures) in omega arith)
+    (λ c. let within = sections-within _ _ _ (c .before .before .before .before .section-number .ensures) (c .before .before .before .if1 .left) _ (c .before .before .read-layout .ensures) in omega arith)
+    (λ c. let within = sections-within _ _ _ (c .before .before .before .before .section-number .ensures) (c .before .before .before .if1 .left) _ (c .before .before .read-layout .ensures) in omega arith)
+    (λ c. let within = sections-within _ _ _ (c .before .before .before .before .section-number .ensures) (c .before .before .before .if1 .left) _ (c .before .before .read-layout .ensures) in omega arith)
+    (λ c. let within = sections-within _ _ _ (c .before .before .before .before .section-number .ensures) (c .before .before .before .if1 .left) _ (c .before .before .read-layout .ensures) in omega arith)
+    (λ c. let within = sections-within _ _ _ (c .before .before .before .before .section-number .ensures) (c .before .before .before .if1 .left) _ (c .before .before .read-layout .ensures) in omega arith)
     (λ c. search needs)
     (λ c. fields-part _ _ _ (c .before .before .before .before .section-number .ensures) (c .before .before .before .if1 .left) _
     (c .before .before .read-layout .ensures) (c .before .if2 .taken))

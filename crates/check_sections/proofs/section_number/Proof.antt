@@ -18,24 +18,16 @@ returns-2 c =
 returns-3 : tie.Need-returns-3
 unfolding sectionNumber firstThatHolds
 returns-3 c =
-    rw (
-      ← c .before .before .before .before .ends-wrongly .ensures,
-      c .before .before .before .if1 .left,
-      ← c .before .before .count-off-limits .ensures,
-      c .before .if2 .left,
-      lt-ltb _ _ (c .if3 .taken),
-    )
+    rw (← c .before .before .before .before .ends-wrongly .ensures, c .before .before .before .if1 .left)
+    (rw (← c .before .before .count-off-limits .ensures, c .before .if2 .left)
+    (rw (lt-ltb _ _ (c .if3 .taken))))
 
 returns-4 : tie.Need-returns-4
 unfolding sectionNumber firstThatHolds
 returns-4 c =
-    rw (
-      ← c .before .before .before .before .ends-wrongly .ensures,
-      c .before .before .before .if1 .left,
-      ← c .before .before .count-off-limits .ensures,
-      c .before .if2 .left,
-      le-ltb _ _ (c .if3 .left),
-    )
+    rw (← c .before .before .before .before .ends-wrongly .ensures, c .before .before .before .if1 .left)
+    (rw (← c .before .before .count-off-limits .ensures, c .before .if2 .left)
+    (rw (le-ltb _ _ (c .if3 .left))))
 
 pub section-number-spec : {M : Type 1} → statement M
 section-number-spec =

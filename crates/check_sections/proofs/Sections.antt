@@ -1,6 +1,6 @@
--- What number 2 settles, where sections lie in a file that ends right, and numbers 8 to 15 after 1 to 7.
+-- Where sections lie in a file that ends right, and the part that is handed back.
 use mathlib.Core.Path.{_≡_, refl, sym, _∙_}
-use mathlib.Core.Bool.{Bool, true, false, _||_}
+use mathlib.Core.Bool.{Bool, true, false}
 use mathlib.Core.List.{List, [], _∷_}
 use Prim.Native.Nat.{ℕ, zero, suc, _+_, _-_, _≤_}
 use native.Mathlib.Omega.{arith}
@@ -8,25 +8,12 @@ use lib.Dec.{eqb, ltb}
 use lib.ListN.{length, take, drop, length-drop}
 use lib.Seq.{slice, take-all}
 use borrow.Author.Tests.{eqb-true, ltb-false, not-false, ne-eqb}
-use Rattle.definitions.specs.Basics.{any, firstThatHolds}
-use Rattle.definitions.specs.ContractFile.{functionEnd, functionsAt, functionCount, functionRecords, functionsEnd, nodesAt, fileEnd, sectionsOf, sectionPart, contractOf}
-use Rattle.definitions.specs.Numbers.{endsWrongly, countOffLimits, outsideTables, namesNothing, usedOtherThanOnce, tooDeep, wrongSort, contractSentences, checkNumber, orElse, sectionNumber, sectionAnswer}
+use Rattle.definitions.specs.Basics.{firstThatHolds}
+use Rattle.definitions.specs.ContractFile.{functionEnd, functionsAt, functionCount, functionsEnd, nodesAt, fileEnd, sectionPart}
+use Rattle.definitions.specs.Numbers.{endsWrongly, countOffLimits, orElse, sectionNumber, sectionAnswer}
 use Rattle.theory_laws.proofs.Records.{force-is}
 use Rattle.file_bytes.specs.declared.Layout.{Layout}
 use Rattle.file_bytes.specs.Layout.{IsLayout}
-use Rattle.file_children.proofs.Truth.{either-false}
-use Rattle.check_01_02_counts.proofs.Laws.{limits, hasManyParameters}
-use Rattle.theory_accepted.specs.Settled.{Settled}
-use Rattle.theory_accepted.proofs.Sentences.{none-holds}
-use Rattle.check_sections.specs.Shape.{shapeNumber}
-
-pub few-nodes : (file : List ℕ) (l : Layout) → IsLayout file l → countOffLimits file ≡ false → l .nodes ≤ 512
-few-nodes file l is h =
-    ltb-false 512 (l .nodes)
-    (either-false
-    (ltb 64 (l .fields) || eqb (l .functions) 0 || ltb 16 (l .functions)
-    || any hasManyParameters (functionRecords (l .functions) file (l .«functions_at» + 1)))
-    (ltb 512 (l .nodes)) (sym (limits file l is) ∙ h) .1)
 
 functionsEnd-above : (k : ℕ) (file : List ℕ) (at : ℕ) → at ≤ functionsEnd k file at
 unfolding functionsEnd
@@ -38,45 +25,17 @@ functionsEnd-above (suc k) file at =
 
 -- Where the sections lie in a file that ends right.
 module _ (file : List ℕ) (l : Layout) (is : IsLayout file l) where
-  pub functions-before-nodes : l .«functions_at» ≤ l .«nodes_at»
+  functions-before-nodes : l .«functions_at» ≤ l .«nodes_at»
   unfolding nodesAt
   functions-before-nodes =
       let h = functionsEnd-above (functionCount file) file (functionsAt file + 1) in
       omega (arith, is .functionsStart, is .nodesStart)
 
-  pub nodes-within : endsWrongly file ≡ false → l .«nodes_at» ≤ length file
+  nodes-within : endsWrongly file ≡ false → l .«nodes_at» ≤ length file
   unfolding endsWrongly
   nodes-within h =
       let e = eqb-true (length file) (fileEnd file) (not-false (eqb (length file) (fileEnd file)) h) in
       omega (arith, is .nodesStart, is .nodes)
-
--- Numbers 8 to 15 are asked where none of 1 to 7 holds.
-seven-then : (a b c d e f g : Bool) (later : List Bool)
-    → firstThatHolds 1 (a ∷ b ∷ c ∷ d ∷ e ∷ f ∷ g ∷ later) ≡ orElse (firstThatHolds 1 (a ∷ b ∷ c ∷ d ∷ e ∷ f ∷ g ∷ [])) (firstThatHolds 8 later)
-unfolding firstThatHolds
-seven-then true b c d e f g later = refl
-seven-then false true c d e f g later = refl
-seven-then false false true d e f g later = refl
-seven-then false false false true e f g later = refl
-seven-then false false false false true f g later = refl
-seven-then false false false false false true g later = refl
-seven-then false false false false false false true later = refl
-seven-then false false false false false false false later = refl
-
-pub check-after-shape : (file : List ℕ)
-    → checkNumber file ≡ orElse (shapeNumber file) (firstThatHolds 8 (contractSentences (contractOf (sectionsOf file))))
-unfolding checkNumber shapeNumber
-check-after-shape file =
-    let s = sectionsOf file in
-    seven-then (endsWrongly file) (countOffLimits file) (outsideTables s) (namesNothing s) (usedOtherThanOnce s) (tooDeep s) (wrongSort s)
-    (contractSentences (contractOf s))
-
--- A file of number 0 is one of which none of the seven holds.
-pub settled : (file : List ℕ) → shapeNumber file ≡ 0 → Settled file
-unfolding shapeNumber
-settled file h =
-    let no = none-holds 0 _ h in
-    record { ends = no 0; counts = no 1; tables = no 2; numbers = no 3; uses = no 4; depth = no 5; sorts = no 6 }
 
 -- A part of a slice, as code takes it.
 take-none : (n : ℕ) → take {A = ℕ} n [] ≡ []
@@ -118,14 +77,14 @@ module _ (file : List ℕ) (n number : ℕ) (e : number ≡ sectionNumber file n
     unfolding sectionNumber
     accepted = neither-holds (endsWrongly file) (countOffLimits file) (ltb 2 n) (sym e ∙ z)
 
-    pub accepted-ends : endsWrongly file ≡ false
-    accepted-ends = accepted .0
-
     accepted-part : (part : List ℕ) → part ≡ sectionPart file n → part ≡ sectionAnswer file n
     unfolding sectionAnswer
     accepted-part part p = rw (← e, z) p
 
     module _ (l : Layout) (is : IsLayout file l) where
+      pub sections-within : (l .«functions_at» ≤ l .«nodes_at») × (l .«nodes_at» ≤ length file)
+      sections-within = (functions-before-nodes file l is, nodes-within file l is (accepted .0))
+
       pub fields-part : n ≡ 0 → take (l .«functions_at» - 0) file ≡ sectionAnswer file n
       unfolding sectionPart
       fields-part h = accepted-part _ (part-is 0 (l .«functions_at») file ∙ rw (h, is .functionsStart))
