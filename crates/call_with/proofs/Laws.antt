@@ -10,9 +10,9 @@ use Rattle.definitions.specs.Ledger.{Content, Ledger, State, plainNumber, state
 use Rattle.file_accepted.specs.Context.{fieldsIn, parametersIn, scopeIn}
 use Rattle.file_accepted.specs.Functions.{functionStart}
 use Rattle.file_accepted.proofs.Functions.{function-in}
-use Rattle.walk_commands.specs.Walk.{Ran}
+use Rattle.walk_steps.specs.Walk.{Ran}
 use Rattle.write_function_room.specs.Functions.{functionIn, writtenIn}
-use Rattle.call_with.specs.Calls.{doneLedger, failedLedger}
+use Rattle.call_ledgers.specs.Ledgers.{doneLedger, failedLedger}
 
 module _ (l : Ledger) (function caller : ℕ) (parameters variables : List Content) where
   -- The ledger after a call of one function of a file, on places and with addresses that are given.

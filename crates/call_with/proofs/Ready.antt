@@ -11,7 +11,8 @@ use Rattle.write_function_room.specs.Functions.{FunctionRoom}
 use Rattle.write_function_room.proofs.Room.{function-room-alone}
 use Rattle.ledger_addresses.specs.Addresses.{FewNames, AddressRoom}
 use Rattle.honest_parameters.specs.Parameters.{PublicRoom}
-use Rattle.call_with.specs.Calls.{Held, Callable}
+use Rattle.call_with.specs.Calls.{Callable}
+use Rattle.call_ledgers.specs.Ledgers.{Held}
 
 module _ (l : Ledger) (file : List ℕ) (function at : ℕ) (parameters variables : List ℕ) (same : file ≡ l .file) (callable : Callable l function parameters variables)
     (begins : at ≡ functionStart file function) where

@@ -1,4 +1,6 @@
 // 01, Runs and views: a call with given parameters and supplied values: the written body walked, and the ledger after it.
+use call_ledgers::done_ledger;
+use call_ledgers::failed_ledger;
 use file_bytes::read_layout;
 use file_functions::function_start;
 use honest_parameters::put_public;
@@ -7,10 +9,6 @@ use ledger_numbers::plain_numbers;
 use ledger_struct::Ledger;
 use ledger_struct::at_most;
 use ledger_struct::flat_places;
-use ledger_struct::with_call;
-use ledger_struct::with_parameters;
-use ledger_struct::with_places;
-use ledger_struct::with_variables;
 use walk_function::walk_function;
 ghost use mathlib.Core.Path.{_≡_};
 ghost use mathlib.Core.List.{map};
@@ -25,36 +23,8 @@ ghost use Rattle.file_accepted.specs.Context.{parametersIn};
 ghost use Rattle.walk_expressions.specs.Evaluation.{stateOf};
 ghost use Rattle.write_function_room.specs.Functions.{FunctionRoom};
 ghost use Rattle.honest_parameters.specs.Parameters.{PublicRoom};
-ghost use Rattle.call_with.specs.Calls.{doneLedger, failedLedger, Held, Callable, Walked};
-
-fn done_ledger(
-    l: Ledger,
-    function: u8,
-    caller: u8,
-    parameters: &[u32],
-    variables: &[u32],
-    places: &[u32],
-) -> Ledger
-    requires { ⌜ (Held (ledgerOf l) (now parameters) (now variables)) × (length (now places) / 5 ≤ 1024) ⌝ }
-    ensures { λ r. ⌜ ledgerOf r ≡ doneLedger (ledgerOf l) function caller (contentsOf (now (parameters .entry))) (record { places = contentsOf (now (places .entry)); variables = contentsOf (now (variables .entry)) }) ⌝ }
-{
-    let next = l.call + 1;
-    let shown = with_parameters(l, parameters);
-    let set = with_variables(shown, variables);
-    let moved = with_places(set, places);
-    with_call(moved, next, function, caller, 0)
-}
-
-// "A failed call restores every place"; it shows public parameters and no variables.
-fn failed_ledger(l: Ledger, function: u8, caller: u8, public: &[u32]) -> Ledger
-    requires { ⌜ Held (ledgerOf l) (now public) (now public) ⌝ }
-    ensures { λ r. ⌜ ledgerOf r ≡ failedLedger (ledgerOf l) function caller (contentsOf (now (public .entry))) ⌝ }
-{
-    let next = l.call + 1;
-    let shown = with_parameters(l, public);
-    let cleared = with_variables(shown, &public[0..0]);
-    with_call(cleared, next, function, caller, 1)
-}
+ghost use Rattle.call_with.specs.Calls.{Callable, Walked};
+ghost use Rattle.call_ledgers.specs.Ledgers.{failedLedger};
 
 // The addresses of the names in a call with these parameters on these places.
 fn call_addresses(

@@ -25,13 +25,13 @@ functionsEnd-above (suc k) file at =
 
 -- Where the sections lie in a file that ends right.
 module _ (file : List ℕ) (l : Layout) (is : IsLayout file l) where
-  functions-before-nodes : l .«functions_at» ≤ l .«nodes_at»
+  pub functions-before-nodes : l .«functions_at» ≤ l .«nodes_at»
   unfolding nodesAt
   functions-before-nodes =
       let h = functionsEnd-above (functionCount file) file (functionsAt file + 1) in
       omega (arith, is .functionsStart, is .nodesStart)
 
-  nodes-within : endsWrongly file ≡ false → l .«nodes_at» ≤ length file
+  pub nodes-within : endsWrongly file ≡ false → l .«nodes_at» ≤ length file
   unfolding endsWrongly
   nodes-within h =
       let e = eqb-true (length file) (fileEnd file) (not-false (eqb (length file) (fileEnd file)) h) in
@@ -77,14 +77,14 @@ module _ (file : List ℕ) (n number : ℕ) (e : number ≡ sectionNumber file n
     unfolding sectionNumber
     accepted = neither-holds (endsWrongly file) (countOffLimits file) (ltb 2 n) (sym e ∙ z)
 
+    pub accepted-ends : endsWrongly file ≡ false
+    accepted-ends = accepted .0
+
     accepted-part : (part : List ℕ) → part ≡ sectionPart file n → part ≡ sectionAnswer file n
     unfolding sectionAnswer
     accepted-part part p = rw (← e, z) p
 
     module _ (l : Layout) (is : IsLayout file l) where
-      pub sections-within : (l .«functions_at» ≤ l .«nodes_at») × (l .«nodes_at» ≤ length file)
-      sections-within = (functions-before-nodes file l is, nodes-within file l is (accepted .0))
-
       pub fields-part : n ≡ 0 → take (l .«functions_at» - 0) file ≡ sectionAnswer file n
       unfolding sectionPart
       fields-part h = accepted-part _ (part-is 0 (l .«functions_at») file ∙ rw (h, is .functionsStart))

@@ -1,3 +1,0 @@
-pub mod Flats
-pub mod Tests
-pub mod Files

@@ -20,7 +20,7 @@ use Rattle.report_text.proofs.Lines.{report-is, report-length, refused-length}
 use Rattle.write_function_room.specs.Functions.{writtenFunctions}
 use Rattle.write_function_room.proofs.Written.{functions-counted}
 use Rattle.write_function_room.proofs.Room.{functions-few}
-use Rattle.report_contract.specs.Counting.{CountsStand}
+use Rattle.report_crossings.specs.Counting.{CountsStand}
 use Rattle.report_contract.specs.Report.{reportedLength, outputAfterReporting}
 use Rattle.definitions.specs.Basics.{flatMap}
 

@@ -1,18 +1,18 @@
 // Faults of what is put into a place, and of a condition, from what is found of their expressions.
 use rules_codes::misplaced;
 use rules_codes::place_owner;
+use rules_entries::entry_fault;
 use rules_faults::least;
 use rules_faults::number_if;
 use rules_judgements::Declared;
 use rules_judgements::Judged;
-use rules_judgements::entry_fault;
 use rules_links::Classes;
 ghost use mathlib.Core.Path.{_≡_};
 ghost use mathlib.Core.Bool.{true};
 ghost use Rattle.definitions.specs.Numbers.{targetInTables};
 ghost use Rattle.rules_links.specs.Names.{linkedBy};
 ghost use Rattle.rules_codes.specs.Codes.{isFieldCode};
-ghost use Rattle.rules_assignments.specs.Putting.{valueFault, fieldFault, entryPutFault, conditionFault};
+ghost use Rattle.rules_assignments.specs.Putting.{valueFault, fieldFault, entryPutFault};
 
 // "9. A data type doesn't fit", and "15. An assigned value's owner is neither all nor linked to the place's owner"
 fn value_fault(classes: Classes, d: Declared, place: u8, value: Judged) -> u8
@@ -43,15 +43,5 @@ pub fn entry_put_fault(classes: Classes, d: Declared, key: Judged, value: Judged
     least(
         least(key.fault, entry_fault(d, key)),
         value_fault(classes, d, place_owner(d.owner, key.name), value),
-    )
-}
-
-// "9. .. conditions are bools."; "14. The condition of a require or an if isn't public."
-pub fn condition_fault(condition: Judged) -> u8
-    ensures { λ r. ⌜ r ≡ conditionFault condition ⌝ }
-{
-    least(
-        least(condition.fault, number_if(!(condition.kind == 0), 9)),
-        number_if(!(condition.owner == 0), 14),
     )
 }

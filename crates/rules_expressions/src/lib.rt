@@ -1,16 +1,16 @@
 // The judgement of an expression's node, and the links that a condition gives, by recursion over children.
 use file_bytes::node_at;
+use rules_entries::entry_judged;
 use rules_judgements::Judged;
 use rules_judgements::constant_judged;
-use rules_judgements::entry_judged;
 use rules_judgements::field_judged;
 use rules_judgements::me_judged;
 use rules_judgements::parameter_judged;
 use rules_links::Classes;
 use rules_links::with_link;
-use rules_operators::negation_judged;
 use rules_operators::operator_judged;
-use rules_operators::reveal_judged;
+use rules_reveals::negation_judged;
+use rules_reveals::reveal_judged;
 use rules_scopes::Parameters;
 use rules_scopes::field_at;
 use rules_scopes::parameter_at;

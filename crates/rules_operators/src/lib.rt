@@ -14,7 +14,7 @@ ghost use mathlib.Core.Path.{_≡_};
 ghost use mathlib.Core.Bool.{true};
 ghost use Rattle.definitions.specs.Numbers.{targetInTables};
 ghost use Rattle.rules_links.specs.Names.{linkedBy};
-ghost use Rattle.rules_operators.specs.Operating.{operatorFault, operatorJudged, negationJudged, revealJudged};
+ghost use Rattle.rules_operators.specs.Operating.{operatorFault, operatorJudged};
 
 // "9. A data type doesn't fit"; "12. Operator 3 or 4 has a private operand."
 fn operator_fault(classes: Classes, code: u8, left: Judged, right: Judged) -> u8
@@ -44,38 +44,5 @@ pub fn operator_judged(classes: Classes, code: u8, left: Judged, right: Judged) 
         owner: parts_owner(left.owner, right.owner),
         name: 0,
         fault: fault,
-    }
-}
-
-pub fn negation_judged(classes: Classes, part: Judged) -> Judged
-    requires { ⌜ targetInTables (part .owner) ≡ true ⌝ }
-    ensures { λ r. ⌜ r ≡ negationJudged (linkedBy (classes .of)) part ⌝ }
-{
-    let fault = least(
-        least(part.fault, number_if(!(part.kind == 0), 9)),
-        unread(classes, part.owner),
-    );
-    Judged {
-        kind: 0,
-        owner: parts_owner(part.owner, 0),
-        name: 0,
-        fault: fault,
-    }
-}
-
-// "13. A reveal's operand belongs to all."
-pub fn reveal_judged(classes: Classes, target: u8, fits: bool, part: Judged) -> Judged
-    requires { ⌜ targetInTables (part .owner) ≡ true ⌝ }
-    ensures { λ r. ⌜ r ≡ revealJudged (linkedBy (classes .of)) target fits part ⌝ }
-{
-    let read = least(
-        least(part.fault, number_if(!fits, 8)),
-        unread(classes, part.owner),
-    );
-    Judged {
-        kind: part.kind,
-        owner: target,
-        name: 0,
-        fault: least(read, number_if(part.owner == 0, 13)),
     }
 }

@@ -1,8 +1,8 @@
 // The faults of a statement's node and the links after it, by recursion over its parts.
 use file_bytes::node_at;
-use rules_assignments::condition_fault;
 use rules_assignments::entry_put_fault;
 use rules_assignments::field_fault;
+use rules_conditions::condition_fault;
 use rules_expressions::judge;
 use rules_expressions::learn;
 use rules_faults::least;

@@ -37,41 +37,53 @@ secrets = calling 7 ∷ refused 1 ∷ []
 secrets′ : List Request
 secrets′ = calling 8 ∷ refused 2 ∷ []
 
-accepted : deployNumber fileA (5 ∷ []) ≡ 0
-unfolding all any anyNumbered countIf largest flatMap firstThatHolds deployNumber deployed allFit publicOf isWellFormed notCallable argumentsOff callNumber callWith honestContents honestVariables honestParameters ledgerAfterCall functionsEnd nodesAt fieldRecords parameterRecords functionRecords nodeRecords sectionsOf sectionPart fieldOf parameterOf typeOf circuitValue contentOf isWalked stateAfter walkCompletes kindOf nodeOfKind expressionParts statementParts fieldsNamed chainLength expressionOf expressionAt statementOf statementAt contractOf endsWrongly countOffLimits fieldInTables parameterInTables kindInTables outsideTables namesNothing usesOf usedOtherThanOnce tooDeep wrongSort expressionFaults statementFaults contractFaults checkNumber sectionNumber sectionAnswer value isWorkedOut placesAfter completes disclosed disclosedBy originalCompletes originalAfter originalDiscloses withLink nameOf ownerOf linksOfCondition linksAfter numbersFrom perPlace position deployedNumbers tallies insert sorted digits reportText kept onePart twoParts supplying reading stepsBefore single inSequence inBranch inBranches rewriteStatement privateParameters openings rewriteFunction rewrite inBody inCircuit runAtDeployment isTaken runAfter disclosedIn viewsAfter disclosures sameName itemFor itemsFor itemBytes viewBytes viewNumber viewLength outputAfterView size numbered bodyTree circuitTree commandTree sizes numberedAll eachOnce constraintBytes functionBytes functionsBytes contractBytes writtenFile writeNumber writtenLength outputAfterWriting zipWith fileA
-accepted = refl
+-- What the definitions compute of these lists, with one list of names to unfold. A's one parameter is private, so for a party that is not
+-- the caller every two arguments are alike. To h the two calls disclose different values, and its views differ, at the value of the supplied cell.
+record Computed : Type 0 where
+  accepted : deployNumber fileA (5 ∷ []) ≡ 0
+  paired : Paired 4 start start secrets secrets′
+  nothingDisclosed : take 2 (disclosures 4 start secrets) ≡ take 2 (disclosures 4 start secrets′)
+  notEmpty : length (getD (viewsAfter 4 start secrets) 0 []) ≡ 65
+  disclosed : disclosures 5 start secrets ≡ (7 ∷ []) ∷ [] ∷ []
+  disclosed′ : disclosures 5 start secrets′ ≡ (8 ∷ []) ∷ [] ∷ []
+  different : viewsAfter 5 start secrets ≡ viewsAfter 5 start secrets′ → ⊥
 
--- A's one parameter is private, so for a party that is not the caller every two arguments are alike.
-paired : Paired 4 start start secrets secrets′
+computed : Computed
 unfolding all any anyNumbered countIf largest flatMap firstThatHolds deployNumber deployed allFit publicOf isWellFormed notCallable argumentsOff callNumber callWith honestContents honestVariables honestParameters ledgerAfterCall functionsEnd nodesAt fieldRecords parameterRecords functionRecords nodeRecords sectionsOf sectionPart fieldOf parameterOf typeOf circuitValue contentOf isWalked stateAfter walkCompletes kindOf nodeOfKind expressionParts statementParts fieldsNamed chainLength expressionOf expressionAt statementOf statementAt contractOf endsWrongly countOffLimits fieldInTables parameterInTables kindInTables outsideTables namesNothing usesOf usedOtherThanOnce tooDeep wrongSort expressionFaults statementFaults contractFaults checkNumber sectionNumber sectionAnswer value isWorkedOut placesAfter completes disclosed disclosedBy originalCompletes originalAfter originalDiscloses withLink nameOf ownerOf linksOfCondition linksAfter numbersFrom perPlace position deployedNumbers tallies insert sorted digits reportText kept onePart twoParts supplying reading stepsBefore single inSequence inBranch inBranches rewriteStatement privateParameters openings rewriteFunction rewrite inBody inCircuit runAtDeployment isTaken runAfter disclosedIn viewsAfter disclosures sameName itemFor itemsFor itemBytes viewBytes viewNumber viewLength outputAfterView size numbered bodyTree circuitTree commandTree sizes numberedAll eachOnce constraintBytes functionBytes functionsBytes contractBytes writtenFile writeNumber writtenLength outputAfterWriting zipWith fileA start secrets secrets′ calling refused
-paired =
-    bothTaken refl refl (record { function = refl; caller = refl; arguments = private }) (bothRefused refl refl finished)
+computed =
+    record {
+      accepted = refl;
+      paired = bothTaken refl refl (record { function = refl; caller = refl; arguments = private }) (bothRefused refl refl finished);
+      nothingDisclosed = refl;
+      notEmpty = refl;
+      disclosed = refl;
+      disclosed′ = refl;
+      different = λ e. let same : _≡_ {A = ℕ} 7 8 = ap (λ views. getD (getD views 0 []) 31 0) e in false≢true (ap (eqb 8) same);
+    }
   where
     private : (k : ℕ) → not ((parameterAt ((functionAt ((contractIn fileA) .functions) 0) .parameters) k) .private) || eqb 3 4 ≡ true
         → _≡_ {A = ℕ} (getD (7 ∷ []) k 0) (getD (8 ∷ []) k 0)
     private zero e = absurd (false≢true e)
     private (suc k) e = refl
 
+accepted : deployNumber fileA (5 ∷ []) ≡ 0
+accepted = computed .accepted
+
+paired : Paired 4 start start secrets secrets′
+paired = computed .paired
+
 -- The theorem at these lists, for address 4: nothing is disclosed to it, and the views are equal, and not empty.
 equal-for-others : take 2 (viewsAfter 4 start secrets) ≡ take 2 (viewsAfter 4 start secrets′)
-unfolding all any anyNumbered countIf largest flatMap firstThatHolds deployNumber deployed allFit publicOf isWellFormed notCallable argumentsOff callNumber callWith honestContents honestVariables honestParameters ledgerAfterCall functionsEnd nodesAt fieldRecords parameterRecords functionRecords nodeRecords sectionsOf sectionPart fieldOf parameterOf typeOf circuitValue contentOf isWalked stateAfter walkCompletes kindOf nodeOfKind expressionParts statementParts fieldsNamed chainLength expressionOf expressionAt statementOf statementAt contractOf endsWrongly countOffLimits fieldInTables parameterInTables kindInTables outsideTables namesNothing usesOf usedOtherThanOnce tooDeep wrongSort expressionFaults statementFaults contractFaults checkNumber sectionNumber sectionAnswer value isWorkedOut placesAfter completes disclosed disclosedBy originalCompletes originalAfter originalDiscloses withLink nameOf ownerOf linksOfCondition linksAfter numbersFrom perPlace position deployedNumbers tallies insert sorted digits reportText kept onePart twoParts supplying reading stepsBefore single inSequence inBranch inBranches rewriteStatement privateParameters openings rewriteFunction rewrite inBody inCircuit runAtDeployment isTaken runAfter disclosedIn viewsAfter disclosures sameName itemFor itemsFor itemBytes viewBytes viewNumber viewLength outputAfterView size numbered bodyTree circuitTree commandTree sizes numberedAll eachOnce constraintBytes functionBytes functionsBytes contractBytes writtenFile writeNumber writtenLength outputAfterWriting zipWith fileA start secrets secrets′ calling refused
-equal-for-others = equal-views fileA (5 ∷ []) accepted 4 secrets secrets′ paired 2 refl
+equal-for-others = equal-views fileA (5 ∷ []) accepted 4 secrets secrets′ paired 2 (computed .nothingDisclosed)
 
 views-not-empty : length (getD (viewsAfter 4 start secrets) 0 []) ≡ 65
-unfolding all any anyNumbered countIf largest flatMap firstThatHolds deployNumber deployed allFit publicOf isWellFormed notCallable argumentsOff callNumber callWith honestContents honestVariables honestParameters ledgerAfterCall functionsEnd nodesAt fieldRecords parameterRecords functionRecords nodeRecords sectionsOf sectionPart fieldOf parameterOf typeOf circuitValue contentOf isWalked stateAfter walkCompletes kindOf nodeOfKind expressionParts statementParts fieldsNamed chainLength expressionOf expressionAt statementOf statementAt contractOf endsWrongly countOffLimits fieldInTables parameterInTables kindInTables outsideTables namesNothing usesOf usedOtherThanOnce tooDeep wrongSort expressionFaults statementFaults contractFaults checkNumber sectionNumber sectionAnswer value isWorkedOut placesAfter completes disclosed disclosedBy originalCompletes originalAfter originalDiscloses withLink nameOf ownerOf linksOfCondition linksAfter numbersFrom perPlace position deployedNumbers tallies insert sorted digits reportText kept onePart twoParts supplying reading stepsBefore single inSequence inBranch inBranches rewriteStatement privateParameters openings rewriteFunction rewrite inBody inCircuit runAtDeployment isTaken runAfter disclosedIn viewsAfter disclosures sameName itemFor itemsFor itemBytes viewBytes viewNumber viewLength outputAfterView size numbered bodyTree circuitTree commandTree sizes numberedAll eachOnce constraintBytes functionBytes functionsBytes contractBytes writtenFile writeNumber writtenLength outputAfterWriting zipWith fileA start secrets calling refused
-views-not-empty = refl
+views-not-empty = computed .notEmpty
 
--- To h the two calls disclose different values, and its views differ: at the value of the supplied cell.
 disclosed-to-owner : disclosures 5 start secrets ≡ (7 ∷ []) ∷ [] ∷ []
-unfolding all any anyNumbered countIf largest flatMap firstThatHolds deployNumber deployed allFit publicOf isWellFormed notCallable argumentsOff callNumber callWith honestContents honestVariables honestParameters ledgerAfterCall functionsEnd nodesAt fieldRecords parameterRecords functionRecords nodeRecords sectionsOf sectionPart fieldOf parameterOf typeOf circuitValue contentOf isWalked stateAfter walkCompletes kindOf nodeOfKind expressionParts statementParts fieldsNamed chainLength expressionOf expressionAt statementOf statementAt contractOf endsWrongly countOffLimits fieldInTables parameterInTables kindInTables outsideTables namesNothing usesOf usedOtherThanOnce tooDeep wrongSort expressionFaults statementFaults contractFaults checkNumber sectionNumber sectionAnswer value isWorkedOut placesAfter completes disclosed disclosedBy originalCompletes originalAfter originalDiscloses withLink nameOf ownerOf linksOfCondition linksAfter numbersFrom perPlace position deployedNumbers tallies insert sorted digits reportText kept onePart twoParts supplying reading stepsBefore single inSequence inBranch inBranches rewriteStatement privateParameters openings rewriteFunction rewrite inBody inCircuit runAtDeployment isTaken runAfter disclosedIn viewsAfter disclosures sameName itemFor itemsFor itemBytes viewBytes viewNumber viewLength outputAfterView size numbered bodyTree circuitTree commandTree sizes numberedAll eachOnce constraintBytes functionBytes functionsBytes contractBytes writtenFile writeNumber writtenLength outputAfterWriting zipWith fileA start secrets calling refused
-disclosed-to-owner = refl
+disclosed-to-owner = computed .disclosed
 
 disclosed-to-owner′ : disclosures 5 start secrets′ ≡ (8 ∷ []) ∷ [] ∷ []
-unfolding all any anyNumbered countIf largest flatMap firstThatHolds deployNumber deployed allFit publicOf isWellFormed notCallable argumentsOff callNumber callWith honestContents honestVariables honestParameters ledgerAfterCall functionsEnd nodesAt fieldRecords parameterRecords functionRecords nodeRecords sectionsOf sectionPart fieldOf parameterOf typeOf circuitValue contentOf isWalked stateAfter walkCompletes kindOf nodeOfKind expressionParts statementParts fieldsNamed chainLength expressionOf expressionAt statementOf statementAt contractOf endsWrongly countOffLimits fieldInTables parameterInTables kindInTables outsideTables namesNothing usesOf usedOtherThanOnce tooDeep wrongSort expressionFaults statementFaults contractFaults checkNumber sectionNumber sectionAnswer value isWorkedOut placesAfter completes disclosed disclosedBy originalCompletes originalAfter originalDiscloses withLink nameOf ownerOf linksOfCondition linksAfter numbersFrom perPlace position deployedNumbers tallies insert sorted digits reportText kept onePart twoParts supplying reading stepsBefore single inSequence inBranch inBranches rewriteStatement privateParameters openings rewriteFunction rewrite inBody inCircuit runAtDeployment isTaken runAfter disclosedIn viewsAfter disclosures sameName itemFor itemsFor itemBytes viewBytes viewNumber viewLength outputAfterView size numbered bodyTree circuitTree commandTree sizes numberedAll eachOnce constraintBytes functionBytes functionsBytes contractBytes writtenFile writeNumber writtenLength outputAfterWriting zipWith fileA start secrets′ calling refused
-disclosed-to-owner′ = refl
+disclosed-to-owner′ = computed .disclosed′
 
 views-of-owner-differ : viewsAfter 5 start secrets ≡ viewsAfter 5 start secrets′ → ⊥
-unfolding all any anyNumbered countIf largest flatMap firstThatHolds deployNumber deployed allFit publicOf isWellFormed notCallable argumentsOff callNumber callWith honestContents honestVariables honestParameters ledgerAfterCall functionsEnd nodesAt fieldRecords parameterRecords functionRecords nodeRecords sectionsOf sectionPart fieldOf parameterOf typeOf circuitValue contentOf isWalked stateAfter walkCompletes kindOf nodeOfKind expressionParts statementParts fieldsNamed chainLength expressionOf expressionAt statementOf statementAt contractOf endsWrongly countOffLimits fieldInTables parameterInTables kindInTables outsideTables namesNothing usesOf usedOtherThanOnce tooDeep wrongSort expressionFaults statementFaults contractFaults checkNumber sectionNumber sectionAnswer value isWorkedOut placesAfter completes disclosed disclosedBy originalCompletes originalAfter originalDiscloses withLink nameOf ownerOf linksOfCondition linksAfter numbersFrom perPlace position deployedNumbers tallies insert sorted digits reportText kept onePart twoParts supplying reading stepsBefore single inSequence inBranch inBranches rewriteStatement privateParameters openings rewriteFunction rewrite inBody inCircuit runAtDeployment isTaken runAfter disclosedIn viewsAfter disclosures sameName itemFor itemsFor itemBytes viewBytes viewNumber viewLength outputAfterView size numbered bodyTree circuitTree commandTree sizes numberedAll eachOnce constraintBytes functionBytes functionsBytes contractBytes writtenFile writeNumber writtenLength outputAfterWriting zipWith fileA start secrets secrets′ calling refused
-views-of-owner-differ e =
-    let same : _≡_ {A = ℕ} 7 8 = ap (λ views. getD (getD views 0 []) 31 0) e in
-    false≢true (ap (eqb 8) same)
+views-of-owner-differ = computed .different

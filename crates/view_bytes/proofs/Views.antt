@@ -10,7 +10,7 @@ use Rattle.memory_buffer.proofs.Laws.{stored-then}
 use Rattle.definitions.specs.Basics.{flatMap, twoBytes}
 use Rattle.definitions.specs.Ledger as ledger
 use Rattle.definitions.specs.View.{itemFor, itemBytes, itemsFor, viewBytes}
-use Rattle.view_items.specs.Items.{shown}
+use Rattle.view_item.specs.Items.{shown}
 use Rattle.view_items.proofs.Shown.{shown-append, shown-length, contents-length}
 use Rattle.ledger_struct.specs.declared.Ledger.{Ledger}
 use Rattle.ledger_struct.specs.Ledgers.{ledgerOf, contentsIn}

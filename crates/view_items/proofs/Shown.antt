@@ -16,8 +16,8 @@ use Rattle.ledger_contents.specs.declared.Place.{Place}
 use Rattle.ledger_contents.specs.declared.Content.the-variants.{Plain}
 use Rattle.ledger_contents.specs.Contents.{contentOfPlace}
 use Rattle.ledger_struct.specs.Ledgers.{contentsIn}
-use Rattle.view_items.specs.Items.{shown}
-use Rattle.view_items.proofs.Bytes.{ten-bytes}
+use Rattle.view_item.specs.Items.{shown}
+use Rattle.view_item.proofs.Bytes.{ten-bytes}
 
 pub shown-append : (party : ℕ) (a b : List ledger.Content) → shown party (a ++ b) ≡ shown party a ++ shown party b
 unfolding shown flatMap

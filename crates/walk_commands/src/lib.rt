@@ -1,43 +1,22 @@
 // 01, Runs and views: "A call walks the function's written body on the ledger's plain values and cells", on flat contents that are lent.
 // A sequence's second part and an if's taken branch go on in the loop: only a sequence's first part deepens the stack.
 use file_bytes::read_node;
-use ledger_contents::put_content;
-use ledger_places::position;
-use walk_constraints::verify;
 use walk_expressions::Walked;
-use walk_expressions::both_walked;
 use walk_expressions::evaluate;
 use walk_expressions::number_of;
+use walk_steps::step;
 ghost use mathlib.Core.Path.{_≡_};
-ghost use mathlib.Core.Bool.{true, false, _&&_, cond};
+ghost use mathlib.Core.Bool.{true, false, cond};
 ghost use Prim.Native.Nat.{_*_, _<_, _≤_};
-ghost use lib.ListN.{set};
 ghost use Rattle.definitions.specs.Basics.{isTrue};
 ghost use Rattle.definitions.specs.ContractFile.{fieldCount};
-ghost use Rattle.definitions.specs.Original.{position};
 ghost use Rattle.definitions.specs.Ledger.{plainNumber};
-ghost use Rattle.file_accepted.specs.Context.{fieldsIn};
-ghost use Rattle.ledger_contents.specs.Contents.{contentOfCode, contentsOf};
+ghost use Rattle.ledger_contents.specs.Contents.{contentOfCode};
 ghost use Rattle.write_trees.specs.Trees.{recordAt, commandIn};
 ghost use Rattle.write_trees.specs.Table.{countOf, tableOf, Readable};
 ghost use Rattle.ledger_circuits.specs.Circuits.{constraintsFrom};
 ghost use Rattle.walk_expressions.specs.Evaluation.{stateOf};
-ghost use Rattle.walk_commands.specs.Walk.{afterFrom, completesFrom, Ran, handsOn};
-
-// Field f's place at a key takes a content. "Copies keep serials."
-fn assign(file: &[u8], places: &mut [u32], f: usize, key: u32, value: Walked)
-    requires { ⌜ fieldCount (now file) ≤ 64 ⌝ }
-    ensures { λ _. ⌜ contentsOf (now (places .exit)) ≡ set (contentsOf (now (places .entry))) (position (fieldsIn (now (file .entry))) f key) (contentOfCode (value .content)) ⌝ }
-{
-    let content = value.content;
-    put_content(places, position(file, f, key as usize), content);
-}
-
-fn is_walked_true(condition: Walked) -> bool
-    ensures { λ r. ⌜ r ≡ condition .walked && isTrue (plainNumber (contentOfCode (condition .content))) ⌝ }
-{
-    both_walked(condition.walked, number_of(condition) != 0)
-}
+ghost use Rattle.walk_steps.specs.Walk.{afterFrom, completesFrom, Ran, handsOn};
 
 fn branch_of(condition: Walked, second: usize, third: usize) -> usize
     ensures { λ r. ⌜ r ≡ cond (isTrue (plainNumber (contentOfCode (condition .content)))) second third ⌝ }
@@ -59,51 +38,6 @@ fn hands_on(nodes: &[u8], n: usize) -> bool
         17 => true,
         21 => true,
         _ => false,
-    }
-}
-
-// A command that is neither a sequence nor an if.
-fn step(
-    nodes: &[u8],
-    file: &[u8],
-    addresses: &[u32],
-    constraints: &[u16],
-    parameters: &[u32],
-    places: &mut [u32],
-    variables: &mut [u32],
-    n: usize,
-) -> bool
-    requires { ⌜ (n < countOf (now nodes)) × ((Readable (now nodes)) × ((fieldCount (now file) ≤ 64) × (handsOn ((recordAt (tableOf (now nodes)) n) .kind) ≡ false))) ⌝ }
-    ensures { λ r. ⌜ Ran (completesFrom (now (file .entry)) (now (addresses .entry)) (now (parameters .entry)) (constraintsFrom (tableOf (now (nodes .entry))) (now (constraints .entry))) (stateOf (now (places .entry)) (now (variables .entry))) (commandIn (tableOf (now (nodes .entry))) n)) (afterFrom (now (file .entry)) (now (addresses .entry)) (now (parameters .entry)) (stateOf (now (places .entry)) (now (variables .entry))) (commandIn (tableOf (now (nodes .entry))) n)) (stateOf (now (places .exit)) (now (variables .exit))) r ⌝ }
-{
-    let node = read_node(nodes, 8 * n);
-    let kind = node.kind;
-    let first = node.first;
-    let other = node.second;
-    match kind {
-        18 => {
-            let value = evaluate(nodes, file, addresses, parameters, places, variables, first);
-            assign(file, places, node.arg, 0, value);
-            value.walked
-        }
-        19 => {
-            let key = evaluate(nodes, file, addresses, parameters, places, variables, first);
-            let value = evaluate(nodes, file, addresses, parameters, places, variables, other);
-            assign(file, places, node.arg, number_of(key), value);
-            both_walked(key.walked, value.walked)
-        }
-        20 => {
-            let condition = evaluate(nodes, file, addresses, parameters, places, variables, first);
-            is_walked_true(condition)
-        }
-        22 => {
-            let value = evaluate(nodes, file, addresses, parameters, places, variables, other);
-            let content = value.content;
-            put_content(variables, first, content);
-            value.walked
-        }
-        23 => verify(nodes, constraints, addresses, variables),
-        _ => true,
     }
 }
 

@@ -24,7 +24,7 @@ use Rattle.write_trees.specs.Table.{tableOf}
 use Rattle.write_trees.proofs.Functions.{all-length}
 use Rattle.ledger_circuits.specs.Circuits.{addressFrom, constraintsFrom}
 use Rattle.write_trees.specs.Numbers.{constraintNumbers}
-use Rattle.walk_commands.specs.Walk.{afterFrom, completesFrom, Ran}
+use Rattle.walk_steps.specs.Walk.{afterFrom, completesFrom, Ran}
 use Rattle.write_function_room.specs.Functions.{writtenIn, privateIn, eventsIn}
 use Rattle.walk_narrow_trees.specs.Narrow.{Bytes, functionNodes, WrittenBack}
 use Rattle.walk_narrow_trees.proofs.Functions.{function-back}

@@ -14,7 +14,7 @@ ghost use Rattle.write_trees.specs.Trees.{commandIn};
 ghost use Rattle.write_trees.specs.Table.{tableOf};
 ghost use Rattle.ledger_circuits.specs.Circuits.{addressFrom, constraintsFrom};
 ghost use Rattle.walk_expressions.specs.Evaluation.{stateOf};
-ghost use Rattle.walk_commands.specs.Walk.{afterFrom, completesFrom, Ran};
+ghost use Rattle.walk_steps.specs.Walk.{afterFrom, completesFrom, Ran};
 ghost use Rattle.write_function_room.specs.Functions.{writtenIn};
 ghost use Rattle.walk_function.specs.Walks.{LastReady, WalkReady};
 

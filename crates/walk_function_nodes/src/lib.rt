@@ -1,8 +1,8 @@
 // 01, Runs and views: the nodes of one written function, numbered from 0, and its constraints as flat numbers, for a call to walk.
-use write_bodies::write_function_body;
 use write_circuits::Circuits;
 use write_circuits::put_circuits;
 use write_circuits::put_four;
+use write_function_bodies::write_function_body;
 ghost use mathlib.Core.Path.{_≡_};
 ghost use Prim.Native.Nat.{_*_, _≤_};
 ghost use lib.ListN.{length};

@@ -4,5 +4,3 @@ pub mod Logged
 pub mod Sequences
 pub mod Branches
 pub mod Conditionals
-pub mod Openings
-pub mod Passages

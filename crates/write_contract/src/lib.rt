@@ -1,43 +1,13 @@
 // 01, Rewriting: a contract file checked and written into lent memory.
 use check_contract::check;
-use memory_append::append;
-use memory_append::append_two_bytes;
+use write_output::Answer;
+use write_output::hand_out;
 use write_parts::write_parts;
 ghost use mathlib.Core.Path.{_≡_};
-ghost use mathlib.Core.List.{_++_};
-ghost use Prim.Native.Nat.{_≤_};
 ghost use lib.ListN.{length};
-ghost use Rattle.definitions.specs.Basics.{twoBytes};
 ghost use Rattle.definitions.specs.Numbers.{checkNumber};
 ghost use Rattle.definitions.specs.Rewriting.{writeNumber, writtenLength, outputAfterWriting};
-ghost use Rattle.write_contract.specs.Answers.{Promised, HandedOut};
-
-// A number, 0 where the file is written, and the written file's length.
-pub struct Answer {
-    pub number: u8,
-    pub length: usize,
-}
-
-// "16. The lent output is too short": else headings, count of nodes and nodes stand there, one behind another.
-fn hand_out(headings: &[u8], nodes: &[u8], count: usize, out: &mut [u8]) -> Answer
-    requires { ⌜ (length (now headings) ≤ 49152) × (length (now nodes) ≤ 49152) ⌝ }
-    ensures { λ r. ⌜ HandedOut (now (headings .entry) ++ twoBytes count ++ now (nodes .entry)) (now (out .entry)) (now (out .exit)) (r .number) (r .length) ⌝ }
-{
-    let total = headings.len() + 2 + nodes.len();
-    if out.len() < total {
-        return Answer {
-            number: 16,
-            length: 0,
-        };
-    }
-    let middle = append(headings, out, 0);
-    let next = append_two_bytes(count, out, middle);
-    append(nodes, out, next);
-    Answer {
-        number: 0,
-        length: total,
-    }
-}
+ghost use Rattle.write_output.specs.Answers.{Promised};
 
 // Both parts are made in buffers that always suffice; what is handed out is copied from them.
 fn write_accepted(file: &[u8], out: &mut [u8]) -> Answer

@@ -1,6 +1,5 @@
--- `call::call` meets its contract.
 use native.Mathlib.Omega.{arith}
-use Rattle.call.proofs.Numbers.{refused, taken}
+use Rattle.call.proofs.Called.{refused, taken}
 use borrow.Author.Needs.{needs}
 use Rattle.call.proofs.call.Statement.{statement}
 use Rattle.call.proofs.call.Tie as tie

@@ -1,6 +1,5 @@
--- `call_honest::call_worked_out` meets its contract.
 use native.Mathlib.Omega.{arith}
-use Rattle.call_with.proofs.Ledgers.{taken-length}
+use Rattle.call_ledgers.proofs.Ledgers.{taken-length}
 use Rattle.call_honest.proofs.Laws.{slots-room, slots-few, worked-out}
 use borrow.Author.Needs.{needs}
 use Rattle.call_honest.proofs.call_worked_out.Statement.{statement}
@@ -8,12 +7,12 @@ use Rattle.call_honest.proofs.call_worked_out.Tie as tie
 
 pub call-worked-out-spec : {M : Type 1} → statement M
 call-worked-out-spec =
-    tie.close
-    (tie.spec
+    tie.close (tie.spec
     (λ c. search needs)
-    (λ c κs. slots-room _ _ _ _ _ _ (c .before .before .before .before .before .before .before .pre .known .called) _ (c .before .before .before .before .before .before .before .pre .known .place) _ (omega arith))
+    (λ c κs. let pre-known = c .before .before .before .before .before .before .before .pre .known in
+    slots-room _ _ _ _ _ _ (pre-known .called) _ (pre-known .place) _ (omega arith))
     (λ c. omega (arith, slots-few _ _ _ _ _ _ (c .before .before .before .before .before .before .before .before .before .before .before .pre .known .called) _ _ _ _ (c .before .before .before .honest-slots .ensures)))
-    (λ c. taken-length _ _ (omega (arith, slots-few _ _ _ _ _ _ (c .before .before .before .before .before .before .before .before .before .before .before .before .pre .known .called) _ _ _ _ (c .before .before .before .before .honest-slots .ensures))))
+    (λ c. let pre-known-called = c .before .before .before .before .before .before .before .before .before .before .before .before .pre .known .called in
+    taken-length _ _ (omega (arith, slots-few _ _ _ _ _ _ pre-known-called _ _ _ _ (c .before .before .before .before .honest-slots .ensures))))
     (λ c κs. worked-out _ _ _ _ _ _ _ _ _ _ _ (c .before .before .before .before .before .before .before .before .before .before .before .before .pre) _ _ _ (c .before .before .before .before .honest-slots .ensures))
-    (λ c. search needs)
-    (λ c. search needs))
+    (λ c. search needs) (λ c. search needs))

@@ -1,4 +1,3 @@
--- `call_honest::honest_call` meets its contract.
 use mathlib.Core.Path.{_≡_, ap, sym, _∙_}
 use Prim.Native.Nat.{ℕ, _*_}
 use native.Mathlib.Omega.{arith}
@@ -6,7 +5,7 @@ use lib.ListN.{length}
 use lib.Seq.{length-take-le}
 use Rattle.ledger_struct.specs.Ledgers.{ledgerOf}
 use Rattle.ledger_struct.proofs.Flat.{take-many}
-use Rattle.call_with.proofs.Ledgers.{taken-length}
+use Rattle.call_ledgers.proofs.Ledgers.{taken-length}
 use borrow.Author.Needs.{needs}
 use Rattle.call_honest.proofs.honest_call.Statement.{statement}
 use Rattle.call_honest.proofs.honest_call.Tie as tie
@@ -19,20 +18,15 @@ unfolding ledgerOf
 call-on-requires c κs =
     let s = c .before .before .before .before .before .before .before in
     let l = s .args .l in
-    let many = c .before .before .before .at-most2 .ensures in (
-      (take-many (l .«file_length») (c .before .before .before .before .at-most .result) (l .file) (omega (arith, c .before .before .before .before .at-most .ensures, bytes s)), s .pre),
-      (sym (taken-length _ _ (omega arith)) ∙ ap (λ (n : ℕ). 5 * n) many, sym (taken-length _ _ (omega arith)) ∙ many),
-    )
+    let many = c .before .before .before .at-most2 .ensures in ((take-many (l .«file_length») (c .before .before .before .before .at-most .result) (l .file) (omega (arith, c .before .before .before .before .at-most .ensures, bytes s)), s .pre), (sym (taken-length _ _ (omega arith)) ∙ ap (λ (n : ℕ). 5 * n) many, sym (taken-length _ _ (omega arith)) ∙ many))
 
 pub honest-call-spec : {M : Type 1} → statement M
 honest-call-spec =
-    tie.close
-    (tie.spec
-    (λ c κs. search needs)
-    (λ c κs. search needs)
-    (λ c. search needs)
+    tie.close (tie.spec
+    (λ c κs. search needs) (λ c κs. search needs) (λ c. search needs)
     (λ c. omega (arith, c .before .at-most .ensures, bytes (c .before .before .before .before)))
-    (λ c. sym (length-take-le (c .before .before .at-most .result) (c .before .before .before .before .before .args .l .file) (omega (arith, c .before .before .at-most .ensures, bytes (c .before .before .before .before .before)))))
+    (λ c. let at-most = c .before .before .at-most in
+    sym (length-take-le (at-most .result) (c .before .before .before .before .before .args .l .file) (omega (arith, at-most .ensures, bytes (c .before .before .before .before .before)))))
     (λ c. search needs)
     (λ c. taken-length _ _ (omega (arith, c .before .before .at-most2 .ensures)))
     (λ c. search needs)

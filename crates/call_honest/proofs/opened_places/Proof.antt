@@ -1,4 +1,3 @@
--- `call_honest::opened_places` meets its contract.
 use native.Mathlib.Omega.{arith}
 use Rattle.call_honest.proofs.Laws.{places-opened}
 use borrow.Author.Needs.{needs}
@@ -7,10 +6,8 @@ use Rattle.call_honest.proofs.opened_places.Tie as tie
 
 pub opened-places-spec : {M : Type 1} → statement M
 opened-places-spec =
-    tie.close
-    (tie.spec
-    (λ c κs. search needs)
-    (λ c κs. search needs)
-    (λ c. search needs)
-    (λ c. search needs)
-    (λ c. places-opened _ _ _ _ _ (omega arith) (c .before .before .before .before .before .before .before .before .before .before .before .pre .1) (c .before .before .before .before .before .before .before .flat-places .ensures) (c .before .before .opened-numbers .ensures)))
+    tie.close (tie.spec
+    (λ c κs. search needs) (λ c κs. search needs) (λ c. search needs) (λ c. search needs)
+    (λ c. let (_, numbers-length) = c .before .before .before .before .before .before .before .before .before .before .before .pre in
+    let flat-places = c .before .before .before .before .before .before .before .flat-places .ensures in
+    places-opened _ _ _ _ _ (omega arith) numbers-length flat-places (c .before .before .opened-numbers .ensures)))

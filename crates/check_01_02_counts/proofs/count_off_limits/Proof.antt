@@ -1,4 +1,3 @@
--- `check_01_02_counts::count_off_limits` meets its contract.
 use borrow.Author.Tests.{lt-ltb, le-ltb, eq-eqb, ne-eqb}
 use borrow.Author.Needs.{needs}
 use Rattle.check_01_02_counts.proofs.Laws.{limits}
@@ -7,8 +6,7 @@ use Rattle.check_01_02_counts.proofs.count_off_limits.Tie as tie
 
 pub count-off-limits-spec : {M : Type 1} → statement M
 count-off-limits-spec =
-    tie.close
-    (tie.spec
+    tie.close (tie.spec
     (λ c. let start = c .before .before .before in
     rw (limits _ _ (start .pre), lt-ltb _ _ (c .if1 .taken)))
     (λ c. let start = c .before .before .before .before .before in
@@ -21,8 +19,7 @@ count-off-limits-spec =
       lt-ltb _ _
           (c .if3 .taken),
     ))
-    (λ c. search needs)
-    (λ c κs. search needs)
+    (λ c. search needs) (λ c κs. search needs)
     (λ c. let third = c .before .before .before in
     let second = third .before .before in
     let first = second .before .before in

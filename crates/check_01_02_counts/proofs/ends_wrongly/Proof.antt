@@ -1,4 +1,3 @@
--- `check_01_02_counts::ends_wrongly` meets its contract.
 use borrow.Author.Needs.{needs}
 use Rattle.definitions.specs.Numbers.{endsWrongly}
 use Rattle.check_01_02_counts.proofs.ends_wrongly.Statement.{statement}

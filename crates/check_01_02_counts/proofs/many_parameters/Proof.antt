@@ -1,4 +1,3 @@
--- `check_01_02_counts::many_parameters` meets its contract.
 use mathlib.Core.Path.{_≡_}
 use Prim.Native.Nat.{_+_, _*_, _≤_}
 use native.Mathlib.Omega.{arith}
@@ -19,20 +18,15 @@ abbrev μ-loop : tie.MeasureT-loop
 
 pub many-parameters-spec : {M : Type 1} → statement M
 many-parameters-spec =
-    tie.close
-    (tie.spec
-    Inv-loop
-    μ-loop
-    (λ c. search needs)
-    (λ c κs. search needs)
-    (λ c. many-found _ _ _ _ (c .before .before .before .loop .inv .0) (c .before .before .loop-test .taken) _ (c .before .byte-at .ensures .0)
+    tie.close (tie.spec Inv-loop μ-loop
+    (λ c. search needs) (λ c κs. search needs)
+    (λ c. let (any-is, _) = c .before .before .before .loop .inv in
+    many-found _ _ _ _ any-is (c .before .before .loop-test .taken) _ (c .before .byte-at .ensures .0)
     (c .if1 .taken))
-    (λ c κs. search needs)
-    (λ c. search needs)
-    (λ c. search needs)
+    (λ c κs. search needs) (λ c. search needs) (λ c. search needs)
     (λ c. let turn = c .before .before .before in (
       many-next _ _ _ _ (turn .before .loop .inv .0) (turn .loop-test .taken) _ (c .before .before .byte-at .ensures .0) (c .before .if1 .left) _
           (c .function-end .ensures .0),
       omega arith,
     ))
-    (λ c. functions-done _ _ _ _ _ (c .before .loop .inv .0) (c .loop-test .left)))
+    (λ c. let (any-is, _) = c .before .loop .inv in functions-done _ _ _ _ _ any-is (c .loop-test .left)))

@@ -1,4 +1,3 @@
--- `check_sections::shape_number` meets its contract.
 use mathlib.Core.Path.{sym, _∙_}
 use borrow.Author.Needs.{needs}
 use Rattle.definitions.specs.Basics.{firstThatHolds}
@@ -74,10 +73,8 @@ returns-8 c =
 
 pub shape-number-spec : {M : Type 1} → statement M
 shape-number-spec =
-    tie.close
-    (tie.spec
-    (λ c κs. search needs)
-    (λ c κs. search needs)
+    tie.close (tie.spec
+    (λ c κs. search needs) (λ c κs. search needs)
     returns
     (λ c κs. search needs)
     returns-2
@@ -85,18 +82,23 @@ shape-number-spec =
     returns-3
     (λ c κs. search needs)
     returns-4
-    (λ c κs. let is = c .before .before .before .before .before .before .before .before .read-layout .ensures in
+    (λ c κs. let read-layout = c .before .before .before .before .before .before .before .before .read-layout .ensures in
+    let count-off-limits = c .before .before .before .before .before .count-off-limits .ensures in
+    let is = read-layout in
     record {
       layout = is;
-      few = few-nodes _ _ is (sym (c .before .before .before .before .before .count-off-limits .ensures)
+      few = few-nodes _ _ is (sym count-off-limits
           ∙ c .before .before .before .before .if2 .left);
     })
     returns-5
-    (λ c κs. let is = c .before .before .before .before .before .before .before .before .before .before .read-layout .ensures in
+    (λ c κs. let read-layout = c .before .before .before .before .before .before .before .before .before .before .read-layout .ensures in
+    let count-off-limits = c .before .before .before .before .before .before .before .count-off-limits .ensures in
+    let if2-left = c .before .before .before .before .before .before .if2 .left in
+    let is = read-layout in
     record {
       layout = is;
-      few = few-nodes _ _ is (sym (c .before .before .before .before .before .before .before .count-off-limits .ensures)
-          ∙ c .before .before .before .before .before .before .if2 .left);
+      few = few-nodes _ _ is (sym count-off-limits
+          ∙ if2-left);
       named = sym (c .before .before .before .names-nothing .ensures)
           ∙ c .before .before .if4 .left;
     })

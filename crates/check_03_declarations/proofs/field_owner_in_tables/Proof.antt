@@ -1,4 +1,3 @@
--- `check_03_declarations::field_owner_in_tables` meets its contract.
 use borrow.Author.Tests.{eq-eqb, ne-eqb}
 use borrow.Author.Needs.{needs}
 use Rattle.check_03_declarations.proofs.field_owner_in_tables.Statement.{statement}

@@ -1,4 +1,3 @@
--- `check_03_declarations::functions_outside` meets its contract.
 use mathlib.Core.Path.{_≡_}
 use Prim.Native.Nat.{_+_, _*_, _≤_}
 use native.Mathlib.Omega.{arith}
@@ -20,25 +19,17 @@ abbrev μ-loop : tie.MeasureT-loop
 
 pub functions-outside-spec : {M : Type 1} → statement M
 functions-outside-spec =
-    tie.close
-    (tie.spec
-    Inv-loop
-    μ-loop
-    (λ c. search needs)
-    (λ c κs. search needs)
-    (λ c. search needs)
-    (λ c κs. search needs)
+    tie.close (tie.spec Inv-loop μ-loop
+    (λ c. search needs) (λ c κs. search needs) (λ c. search needs) (λ c κs. search needs)
     (λ c. let count = c .before .before in
     let turn = count .before in
     function-outside _ _ _ _ (turn .before .loop .inv .0) (turn .loop-test .taken) _ (count .byte-at .ensures .0) _
     (c .before .parameters-outside .ensures) (c .if1 .taken))
-    (λ c κs. search needs)
-    (λ c. search needs)
-    (λ c. search needs)
+    (λ c κs. search needs) (λ c. search needs) (λ c. search needs)
     (λ c. let count = c .before .before .before in
     let turn = count .before in (
       function-inside _ _ _ _ (turn .before .loop .inv .0) (turn .loop-test .taken) _ (count .byte-at .ensures .0) _
           (c .before .before .parameters-outside .ensures) (c .before .if1 .left) _ (c .function-end .ensures .0),
       omega arith,
     ))
-    (λ c. functions-done _ _ _ _ _ (c .before .loop .inv .0) (c .loop-test .left)))
+    (λ c. let (any-is, _) = c .before .loop .inv in functions-done _ _ _ _ _ any-is (c .loop-test .left)))

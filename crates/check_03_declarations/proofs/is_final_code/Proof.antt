@@ -1,4 +1,3 @@
--- `check_03_declarations::is_final_code` meets its contract.
 use borrow.Author.Tests.{le-leb, lt-leb}
 use Rattle.check_03_declarations.proofs.is_final_code.Statement.{statement}
 use Rattle.check_03_declarations.proofs.is_final_code.Tie as tie

@@ -1,4 +1,3 @@
--- `check_03_declarations::parameter_in_tables` meets its contract.
 use borrow.Author.Tests.{le-leb, lt-leb}
 use Rattle.definitions.specs.Numbers.{parameterInTables}
 use Rattle.check_03_declarations.proofs.parameter_in_tables.Statement.{statement}

@@ -1,4 +1,3 @@
--- `check_03_declarations::parameters_outside` meets its contract.
 use mathlib.Core.Path.{_≡_}
 use Prim.Native.Nat.{_+_, _*_, _≤_}
 use native.Mathlib.Omega.{arith}
@@ -20,26 +19,17 @@ abbrev μ-loop : tie.MeasureT-loop
 
 pub parameters-outside-spec : {M : Type 1} → statement M
 parameters-outside-spec =
-    tie.close
-    (tie.spec
-    Inv-loop
-    μ-loop
-    (λ c. search needs)
-    (λ c κs. search needs)
-    (λ c. search needs)
-    (λ c κs. search needs)
-    (λ c κs. search needs)
+    tie.close (tie.spec Inv-loop μ-loop
+    (λ c. search needs) (λ c κs. search needs) (λ c. search needs) (λ c κs. search needs) (λ c κs. search needs)
     (λ c. let owner = c .before .before in
     let turn = owner .before .before in
     parameter-outside _ _ _ _ (turn .before .loop .inv .0) (turn .loop-test .taken) _ _ (owner .before .byte-at .ensures .0)
     (owner .byte-at2 .ensures .0) _ (c .before .parameter-in-tables .ensures) (c .if1 .taken))
-    (λ c. search needs)
-    (λ c. search needs)
-    (λ c. search needs)
+    (λ c. search needs) (λ c. search needs) (λ c. search needs)
     (λ c. let owner = c .before .before in
     let turn = owner .before .before in (
       parameter-inside _ _ _ _ (turn .before .loop .inv .0) (turn .loop-test .taken) _ _ (owner .before .byte-at .ensures .0)
           (owner .byte-at2 .ensures .0) _ (c .before .parameter-in-tables .ensures) (c .if1 .left),
       omega arith,
     ))
-    (λ c. parameters-done _ _ _ _ _ (c .before .loop .inv .0) (c .loop-test .left)))
+    (λ c. let (any-is, _) = c .before .loop .inv in parameters-done _ _ _ _ _ any-is (c .loop-test .left)))

@@ -1,4 +1,3 @@
--- `check_03_nodes::is_of_type` meets its contract.
 use borrow.Author.Tests.{eq-eqb, ne-eqb}
 use Rattle.check_03_nodes.proofs.is_of_type.Statement.{statement}
 use Rattle.check_03_nodes.proofs.is_of_type.Tie as tie

@@ -1,4 +1,3 @@
--- `check_03_nodes::is_parameter_code` meets its contract.
 use borrow.Author.Tests.{le-leb, lt-leb}
 use Rattle.check_03_nodes.proofs.is_parameter_code.Statement.{statement}
 use Rattle.check_03_nodes.proofs.is_parameter_code.Tie as tie

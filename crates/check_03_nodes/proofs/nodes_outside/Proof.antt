@@ -1,4 +1,3 @@
--- `check_03_nodes::nodes_outside` meets its contract.
 use mathlib.Core.Path.{_≡_}
 use Prim.Native.Nat.{_+_, _*_, _≤_}
 use native.Mathlib.Omega.{arith}
@@ -20,22 +19,15 @@ abbrev μ-loop : tie.MeasureT-loop
 
 pub nodes-outside-spec : {M : Type 1} → statement M
 nodes-outside-spec =
-    tie.close
-    (tie.spec
-    Inv-loop
-    μ-loop
-    (λ c. search needs)
-    (λ c κs. search needs)
-    (λ c κs. search needs)
+    tie.close (tie.spec Inv-loop μ-loop
+    (λ c. search needs) (λ c κs. search needs) (λ c κs. search needs)
     (λ c. let turn = c .before .before .before in
     node-outside _ _ _ _ (turn .before .loop .inv .0) (turn .loop-test .taken) _ (c .before .before .read-node .ensures) _
     (c .before .node-in-tables .ensures) (c .if1 .taken))
-    (λ c. search needs)
-    (λ c. search needs)
-    (λ c. search needs)
+    (λ c. search needs) (λ c. search needs) (λ c. search needs)
     (λ c. let turn = c .before .before .before in (
       node-inside _ _ _ _ (turn .before .loop .inv .0) (turn .loop-test .taken) _ (c .before .before .read-node .ensures) _
           (c .before .node-in-tables .ensures) (c .if1 .left),
       omega arith,
     ))
-    (λ c. nodes-done _ _ _ _ _ (c .before .loop .inv .0) (c .loop-test .left)))
+    (λ c. let (any-is, _) = c .before .loop .inv in nodes-done _ _ _ _ _ any-is (c .loop-test .left)))

@@ -1,4 +1,3 @@
--- `check_03_nodes::target_in_tables` meets its contract.
 use borrow.Author.Tests.{le-leb, lt-leb}
 use borrow.Author.Needs.{needs}
 use Rattle.check_03_nodes.proofs.target_in_tables.Statement.{statement}

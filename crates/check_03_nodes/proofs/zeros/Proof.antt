@@ -1,4 +1,3 @@
--- `check_03_nodes::zeros` meets its contract.
 use borrow.Author.Tests.{eq-eqb, ne-eqb}
 use Rattle.check_03_nodes.proofs.zeros.Statement.{statement}
 use Rattle.check_03_nodes.proofs.zeros.Tie as tie

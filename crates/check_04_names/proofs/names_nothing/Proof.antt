@@ -1,4 +1,3 @@
--- `check_04_names::names_nothing` meets its contract.
 use borrow.Author.Needs.{needs}
 use Rattle.check_04_names.proofs.Laws.{nothing-named}
 use Rattle.check_04_names.proofs.names_nothing.Statement.{statement}
@@ -6,13 +5,11 @@ use Rattle.check_04_names.proofs.names_nothing.Tie as tie
 
 pub names-nothing-spec : {M : Type 1} → statement M
 names-nothing-spec =
-    tie.close
-    (tie.spec
+    tie.close (tie.spec
     (λ c κs. search needs)
     (λ c. let start = c .before .before .before in
     rw (nothing-named _ _ (start .pre), ← c .before .owners-name-nothing .ensures, c .if1 .taken))
-    (λ c. search needs)
-    (λ c κs. search needs)
+    (λ c. search needs) (λ c κs. search needs)
     (λ c. let first = c .before .before .before in
     let start = first .before .before .before in
     rw (
@@ -22,8 +19,7 @@ names-nothing-spec =
       ← c .before .roots-name-nothing .ensures,
       c .if2 .taken,
     ))
-    (λ c. search needs)
-    (λ c κs. search needs)
+    (λ c. search needs) (λ c κs. search needs)
     (λ c. let second = c .before .before in
     let first = second .before .before .before in
     let start = first .before .before .before in

@@ -1,4 +1,3 @@
--- `check_04_names::naming_of` meets its contract.
 use borrow.Author.Needs.{needs}
 use Rattle.check_04_names.proofs.Naming.{namings, naming-table, naming-high}
 use Rattle.check_04_names.proofs.naming_of.Statement.{statement}

@@ -1,4 +1,3 @@
--- `check_04_names::nodes_name_nothing` meets its contract.
 use mathlib.Core.Path.{_≡_}
 use Prim.Native.Nat.{_+_, _*_, _≤_}
 use native.Mathlib.Omega.{arith}
@@ -21,13 +20,8 @@ abbrev μ-loop : tie.MeasureT-loop
 
 pub nodes-name-nothing-spec : {M : Type 1} → statement M
 nodes-name-nothing-spec =
-    tie.close
-    (tie.spec
-    Inv-loop
-    μ-loop
-    (λ c. search needs)
-    (λ c κs. search needs)
-    (λ c κs. search needs)
+    tie.close (tie.spec Inv-loop μ-loop
+    (λ c. search needs) (λ c κs. search needs) (λ c κs. search needs)
     (λ c. let turn = c .before .before .before in
     node-names-no-field _ _ _ _ _ _ (turn .before .loop .inv .0) (turn .loop-test .taken) _ (c .before .before .read-node .ensures) _
     (c .before .arg-names-nothing .ensures) (c .if1 .taken))
@@ -35,14 +29,11 @@ nodes-name-nothing-spec =
     (λ c. let turn = c .before .before .before .before .before in
     node-names-no-child _ _ _ _ _ _ (turn .before .loop .inv .0) (turn .loop-test .taken) _ (c .before .before .before .before .read-node .ensures) _
     (c .before .before .before .arg-names-nothing .ensures) _ (c .before .child-not-below .ensures) (c .before .before .if1 .left) (c .if2 .taken))
-    (λ c. search needs)
-    (λ c. search needs)
-    (λ c. search needs)
-    (λ c. search needs)
+    (λ c. search needs) (λ c. search needs) (λ c. search needs) (λ c. search needs)
     (λ c. let turn = c .before .before .before .before .before in (
       node-names _ _ _ _ _ _ (turn .before .loop .inv .0) (turn .loop-test .taken) _ (c .before .before .before .before .read-node .ensures) _
           (c .before .before .before .arg-names-nothing .ensures) _ (c .before .child-not-below .ensures) (c .before .before .if1 .left) (c .if2 .left),
       omega arith,
       omega arith,
     ))
-    (λ c. numbered-done _ _ _ _ _ _ (c .before .loop .inv .0) (c .loop-test .left)))
+    (λ c. let (any-numbered-is, _, _) = c .before .loop .inv in numbered-done _ _ _ _ _ _ any-numbered-is (c .loop-test .left)))

@@ -1,4 +1,3 @@
--- `check_04_names::owner_names_nothing` meets its contract.
 use borrow.Author.Needs.{needs}
 use Rattle.check_04_names.proofs.Naming.{owner-none, owner-key, owner-field}
 use Rattle.check_04_names.proofs.owner_names_nothing.Statement.{statement}

@@ -1,4 +1,3 @@
--- `check_05_uses::count_nodes` meets its contract.
 use Prim.Native.Nat.{_+_, _*_, _≤_}
 use native.Mathlib.Omega.{arith}
 use borrow.Author.Needs.{needs}
@@ -22,21 +21,17 @@ abbrev μ-loop : tie.MeasureT-loop
 
 pub count-nodes-spec : {M : Type 1} → statement M
 count-nodes-spec =
-    tie.close
-    (tie.spec
-    Inv-loop
-    μ-loop
-    (λ c. (leads-all _ _, c .before .pre .1, c .before .pre .0))
+    tie.close (tie.spec Inv-loop μ-loop
+    (λ c. let (from-bound, room) = c .before .pre in (leads-all _ _, room, from-bound))
     (λ c κs. search needs)
-    (λ c κs. room-less _ _ 3 (c .before .before .before .loop .inv .1) (omega arith))
-    (λ c. search needs)
-    (λ c. search needs)
-    (λ c. search needs)
-    (λ c. let turn = c .before .before .before in (
-      nodes-next _ _ _ _ (c .before .before .before .before .before .before .args .file .now) _ (turn .before .loop .inv .0)
-          (turn .loop-test .taken) _ (c .before .before .read-node .ensures) _ (c .count-children .ensures),
+    (λ c κs. let (_, room, _) = c .before .before .before .loop .inv in room-less _ _ 3 room (omega arith))
+    (λ c. search needs) (λ c. search needs) (λ c. search needs)
+    (λ c. let args-file = c .before .before .before .before .before .before .args .file .now in let read-node = c .before .before .read-node in
+    let turn = c .before .before .before in (
+      nodes-next _ _ _ _ args-file _ (turn .before .loop .inv .0)
+          (turn .loop-test .taken) _ (read-node .ensures) _ (c .count-children .ensures),
       room-after-node
-          (recordOf (c .before .before .read-node .result)) _ _ _ (turn .loop-test .taken) (c .count-children .ensures) (turn .before .loop .inv .1),
+          (recordOf (read-node .result)) _ _ _ (turn .loop-test .taken) (c .count-children .ensures) (turn .before .loop .inv .1),
       omega arith,
     ))
-    (λ c. nodes-done _ _ _ _ _ _ (c .before .loop .inv .0) (c .loop-test .left)))
+    (λ c. let (leads, _, _) = c .before .loop .inv in nodes-done _ _ _ _ _ _ leads (c .loop-test .left)))

@@ -1,4 +1,3 @@
--- `check_05_uses::count_roots` meets its contract.
 use mathlib.Core.List.{map}
 use Prim.Native.Nat.{_+_, _*_, _≤_}
 use native.Mathlib.Omega.{arith}
@@ -20,22 +19,17 @@ abbrev μ-loop : tie.MeasureT-loop
 
 pub count-roots-spec : {M : Type 1} → statement M
 count-roots-spec =
-    tie.close
-    (tie.spec
-    Inv-loop
-    μ-loop
-    (λ c. (leads-all _ _, c .before .pre .1, c .before .pre .0))
-    (λ c κs. search needs)
-    (λ c. search needs)
-    (λ c κs. search needs)
-    (λ c κs. room-less _ _ 1 (c .before .before .before .before .loop .inv .1) (c .before .before .before .loop-test .taken))
-    (λ c. search needs)
-    (λ c. search needs)
-    (λ c. let turn = c .before .before .before .before in (
-      roots-next _ _ _ _ (c .before .before .before .before .before .before .before .args .file .now) _ (turn .before .loop .inv .0)
+    tie.close (tie.spec Inv-loop μ-loop
+    (λ c. let (from-bound, room) = c .before .pre in (leads-all _ _, room, from-bound))
+    (λ c κs. search needs) (λ c. search needs) (λ c κs. search needs)
+    (λ c κs. let (_, room, _) = c .before .before .before .before .loop .inv in room-less _ _ 1 room (c .before .before .before .loop-test .taken))
+    (λ c. search needs) (λ c. search needs)
+    (λ c. let args-file = c .before .before .before .before .before .before .before .args .file .now in
+    let turn = c .before .before .before .before in (
+      roots-next _ _ _ _ args-file _ (turn .before .loop .inv .0)
           (turn .loop-test .taken) _ _ (c .before .before .before .function-end .ensures .0) (c .before .before .two-bytes-at .ensures .0) _
           (c .count-use .ensures),
       room-after _ _ _ _ _ (c .count-use .ensures) (turn .before .loop .inv .1) (omega arith),
       omega arith,
     ))
-    (λ c. roots-done _ _ _ _ _ _ (c .before .loop .inv .0) (c .loop-test .left)))
+    (λ c. let (leads, _, _) = c .before .loop .inv in roots-done _ _ _ _ _ _ leads (c .loop-test .left)))

@@ -1,4 +1,3 @@
--- `check_05_uses::count_use` meets its contract.
 use native.Mathlib.Omega.{arith}
 use borrow.Author.Needs.{needs}
 use Rattle.check_05_uses.proofs.Laws.{counted-use, counted-past}

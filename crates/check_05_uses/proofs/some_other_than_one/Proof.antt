@@ -1,4 +1,3 @@
--- `check_05_uses::some_other_than_one` meets its contract.
 use mathlib.Core.Path.{_≡_}
 use Prim.Native.Nat.{_+_, _≤_}
 use native.Mathlib.Omega.{arith}
@@ -16,21 +15,16 @@ abbrev μ-loop : tie.MeasureT-loop
 
 pub some-other-than-one-spec : {M : Type 1} → statement M
 some-other-than-one-spec =
-    tie.close
-    (tie.spec
-    Inv-loop
-    μ-loop
-    (λ c. search needs)
-    (λ c. search needs)
-    (λ c. search needs)
-    (λ c. from-found (c .before .before .before .before .args .counts .now) (c .before .before .before .loop .n) _ _
-    (c .before .before .before .loop .inv .0) (c .before .before .loop-test .taken) (c .if1 .taken))
-    (λ c. search needs)
-    (λ c. search needs)
-    (λ c. search needs)
-    (λ c. (
+    tie.close (tie.spec Inv-loop μ-loop
+    (λ c. search needs) (λ c. search needs) (λ c. search needs)
+    (λ c. let (any-from-is, _) = c .before .before .before .loop .inv in
+    from-found (c .before .before .before .before .args .counts .now) (c .before .before .before .loop .n) _ _
+    any-from-is (c .before .before .loop-test .taken) (c .if1 .taken))
+    (λ c. search needs) (λ c. search needs) (λ c. search needs)
+    (λ c. let (any-from-is, _) = c .before .before .before .loop .inv in (
       from-next (c .before .before .before .before .args .counts .now) (c .before .before .before .loop .n) _ _
-          (c .before .before .before .loop .inv .0) (c .before .before .loop-test .taken) (c .if1 .left),
+          any-from-is (c .before .before .loop-test .taken) (c .if1 .left),
       omega arith,
     ))
-    (λ c. from-done (otherThanOne (c .before .before .args .counts .now)) _ _ _ (c .before .loop .inv .0) (c .loop-test .left)))
+    (λ c. let (any-from-is, _) = c .before .loop .inv in
+    from-done (otherThanOne (c .before .before .args .counts .now)) _ _ _ any-from-is (c .loop-test .left)))

@@ -1,4 +1,3 @@
--- `check_05_uses::used_other_than_once` meets its contract.
 use mathlib.Core.Path.{_∙_}
 use native.Mathlib.Omega.{arith}
 use borrow.Author.Needs.{needs}
@@ -23,8 +22,7 @@ returns c =
 
 pub used-other-than-once-spec : {M : Type 1} → statement M
 used-other-than-once-spec =
-    tie.close
-    (tie.spec
+    tie.close (tie.spec
     (λ c. search needs)
     count-roots-requires
     (λ c. search needs)

@@ -1,4 +1,3 @@
--- `check_06_depth::depth_of` meets its contract.
 use mathlib.Core.Path.{refl, sym}
 use native.Mathlib.Omega.{arith}
 use borrow.Author.Needs.{needs}
@@ -7,4 +6,4 @@ use Rattle.check_06_depth.proofs.depth_of.Statement.{statement}
 use Rattle.check_06_depth.proofs.depth_of.Tie as tie
 
 pub depth-of-spec : {M : Type 1} → statement M
-depth-of-spec = tie.close (tie.spec (λ c. search needs) (λ c. search needs) (λ c. (refl, c .before .before .pre .each (c .before .before .args .n))) (λ c. (sym (byteAt-past (c .before .args .depths .now) (c .before .args .n) (omega (arith, c .before .pre .long))), omega arith)))
+depth-of-spec = tie.close (tie.spec (λ c. search needs) (λ c. search needs) (λ c. (refl, c .before .before .pre .each (c .before .before .args .n))) (λ c. let args = c .before .args in (sym (byteAt-past (args .depths .now) (args .n) (omega (arith, c .before .pre .long))), omega arith)))

@@ -1,4 +1,3 @@
--- `check_06_depth::note_depths` meets its contract.
 use mathlib.Core.Path.{_≡_}
 use mathlib.Core.List.{map}
 use Prim.Native.Nat.{_+_, _*_, _-_, _≤_}
@@ -18,17 +17,9 @@ abbrev μ-loop : tie.MeasureT-loop
 
 pub note-depths-spec : {M : Type 1} → statement M
 note-depths-spec =
-    tie.close
-    (tie.spec
-    Inv-loop
-    μ-loop
-    (λ c. (chains-start _ _ _ _ (c .before .pre .3), omega arith, omega arith))
-    (λ c κs. search needs)
-    (λ c κs. search needs)
-    (λ c. search needs)
-    (λ c. search needs)
-    (λ c. search needs)
-    (λ c. search needs)
+    tie.close (tie.spec Inv-loop μ-loop
+    (λ c. let (_, _, _, bounded) = c .before .pre in (chains-start _ _ _ _ bounded, omega arith, omega arith))
+    (λ c κs. search needs) (λ c κs. search needs) (λ c. search needs) (λ c. search needs) (λ c. search needs) (λ c. search needs)
     (λ c. search needs)
     (λ c. let s = c .before .before .before .before .before .before in
     let loop = c .before .before .before .before .loop in (
@@ -37,4 +28,4 @@ note-depths-spec =
       omega arith,
       omega arith,
     ))
-    (λ c. chains-done _ _ _ _ _ (c .before .loop .inv .0) (c .before .loop .inv .2) (c .loop-test .left)))
+    (λ c. let (chains, _, n-bound) = c .before .loop .inv in chains-done _ _ _ _ _ chains n-bound (c .loop-test .left)))

@@ -1,4 +1,3 @@
--- `check_06_depth::roots_too_deep` meets its contract.
 use mathlib.Core.Path.{_≡_}
 use Prim.Native.Nat.{_+_, _*_, _≤_}
 use native.Mathlib.Omega.{arith}
@@ -21,27 +20,22 @@ abbrev μ-loop : tie.MeasureT-loop
 
 pub roots-too-deep-spec : {M : Type 1} → statement M
 roots-too-deep-spec =
-    tie.close
-    (tie.spec
-    Inv-loop
-    μ-loop
-    (λ c. search needs)
-    (λ c κs. search needs)
-    (λ c. search needs)
-    (λ c κs. search needs)
-    (λ c κs. search needs)
-    (λ c. let turn = c .before .before .before .before in
-    root-too-deep (c .before .before .before .before .before .before .before .args .depths .now) _
-    (c .before .before .before .before .before .before .before .args .file .now) _ _ (turn .before .loop .inv .0) (turn .loop-test .taken) _
+    tie.close (tie.spec Inv-loop μ-loop
+    (λ c. search needs) (λ c κs. search needs) (λ c. search needs) (λ c κs. search needs) (λ c κs. search needs)
+    (λ c. let args = c .before .before .before .before .before .before .before .args in
+    let turn = c .before .before .before .before in
+    root-too-deep (args .depths .now) _
+    (args .file .now) _ _ (turn .before .loop .inv .0) (turn .loop-test .taken) _
     (c .before .before .before .function-end .ensures .0) _ (c .before .before .two-bytes-at .ensures .0) _ (c .before .depth-of .ensures .0)
     (c .if1 .taken))
-    (λ c. search needs)
-    (λ c. search needs)
-    (λ c. let turn = c .before .before .before .before in (
-      root-in-depth (c .before .before .before .before .before .before .before .args .depths .now) _
-          (c .before .before .before .before .before .before .before .args .file .now) _ _ (turn .before .loop .inv .0) (turn .loop-test .taken) _
+    (λ c. search needs) (λ c. search needs)
+    (λ c. let args = c .before .before .before .before .before .before .before .args in
+    let turn = c .before .before .before .before in (
+      root-in-depth (args .depths .now) _
+          (args .file .now) _ _ (turn .before .loop .inv .0) (turn .loop-test .taken) _
           (c .before .before .before .function-end .ensures .0) _ (c .before .before .two-bytes-at .ensures .0) _ (c .before .depth-of .ensures .0)
           (c .if1 .left),
       omega arith,
     ))
-    (λ c. functions-done (rootTooDeep (c .before .before .before .args .depths .now)) _ _ _ _ (c .before .loop .inv .0) (c .loop-test .left)))
+    (λ c. let (any-is, _) = c .before .loop .inv in
+    functions-done (rootTooDeep (c .before .before .before .args .depths .now)) _ _ _ _ any-is (c .loop-test .left)))

@@ -1,4 +1,3 @@
--- `check_06_depth::too_deep` meets its contract.
 use mathlib.Core.Path.{_∙_}
 use native.Mathlib.Omega.{arith}
 use borrow.Author.Needs.{needs}
@@ -12,11 +11,9 @@ note-depths-requires c κs = (omega arith, omega arith, children-below _ _ (c .b
 
 pub too-deep-spec : {M : Type 1} → statement M
 too-deep-spec =
-    tie.close
-    (tie.spec
+    tie.close (tie.spec
     (λ c. search needs)
     note-depths-requires
-    (λ c. search needs)
-    (λ c κs. search needs)
+    (λ c. search needs) (λ c κs. search needs)
     (λ c. c .roots-too-deep .ensures ∙ depths-noted _ _ (c .before .before .before .before .before .before .before .pre) _
     (c .before .before .before .note-depths .ensures)))

@@ -1,4 +1,3 @@
--- `check_07_sorts::has_sort` meets its contract.
 use mathlib.Core.Path.{_∙_}
 use borrow.Author.Needs.{needs}
 use Rattle.check_07_sorts.proofs.Laws.{no-sort, expression-there, statement-there}
@@ -7,16 +6,12 @@ use Rattle.check_07_sorts.proofs.has_sort.Tie as tie
 
 pub has-sort-spec : {M : Type 1} → statement M
 has-sort-spec =
-    tie.close
-    (tie.spec
+    tie.close (tie.spec
     (λ c. no-sort _ _ _ (c .before .before .args .expression) _ (c .if1 .taken))
-    (λ c. search needs)
-    (λ c. search needs)
-    (λ c. search needs)
-    (λ c κs. search needs)
-    (λ c κs. search needs)
-    (λ c κs. search needs)
-    (λ c. rw (c .before .if2 .taken) (c .is-expression-kind .ensures ∙ expression-there _ _ (c .before .before .before .before .before .args .nodes-at) _ _
+    (λ c. search needs) (λ c. search needs) (λ c. search needs) (λ c κs. search needs) (λ c κs. search needs) (λ c κs. search needs)
+    (λ c. let args-nodes-at = c .before .before .before .before .before .args .nodes-at in
+    rw (c .before .if2 .taken) (c .is-expression-kind .ensures ∙ expression-there _ _ args-nodes-at _ _
     (c .before .before .before .if1 .left) (c .before .before .byte-at .ensures .0)))
-    (λ c. rw (c .before .if2 .left) (c .is-statement-kind .ensures ∙ statement-there _ _ (c .before .before .before .before .before .args .nodes-at) _ _
+    (λ c. let args-nodes-at = c .before .before .before .before .before .args .nodes-at in
+    rw (c .before .if2 .left) (c .is-statement-kind .ensures ∙ statement-there _ _ args-nodes-at _ _
     (c .before .before .before .if1 .left) (c .before .before .byte-at .ensures .0))))

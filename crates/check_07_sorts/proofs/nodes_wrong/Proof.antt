@@ -1,4 +1,3 @@
--- `check_07_sorts::nodes_wrong` meets its contract.
 use mathlib.Core.Path.{_≡_}
 use Prim.Native.Nat.{_+_, _*_, _≤_}
 use native.Mathlib.Omega.{arith}
@@ -22,25 +21,19 @@ abbrev μ-loop : tie.MeasureT-loop
 
 pub nodes-wrong-spec : {M : Type 1} → statement M
 nodes-wrong-spec =
-    tie.close
-    (tie.spec
-    Inv-loop
-    μ-loop
+    tie.close (tie.spec Inv-loop μ-loop
     (λ c. search needs)
     (λ c. (nodes-all _ _ (c .before .args .nodes-at), omega arith))
-    (λ c κs. search needs)
-    (λ c κs. search needs)
+    (λ c κs. search needs) (λ c κs. search needs)
     (λ c. let turn = c .before .before .before in
     let s = turn .before .before .before in
     node-wrong (nodesIn (s .args .nodes) (s .args .file .now) (s .args .nodes-at)) _ (s .args .file .now) _ _ (turn .before .loop .inv .0)
     (turn .loop-test .taken) _ (c .before .before .read-node .ensures) _ (c .before .parts-wrong .ensures) (c .if1 .taken))
-    (λ c. search needs)
-    (λ c. search needs)
-    (λ c. search needs)
+    (λ c. search needs) (λ c. search needs) (λ c. search needs)
     (λ c. let turn = c .before .before .before in
     let s = turn .before .before .before in (
       node-right (nodesIn (s .args .nodes) (s .args .file .now) (s .args .nodes-at)) _ (s .args .file .now) _ _ (turn .before .loop .inv .0)
           (turn .loop-test .taken) _ (c .before .before .read-node .ensures) _ (c .before .parts-wrong .ensures) (c .if1 .left),
       omega arith,
     ))
-    (λ c. nodes-done _ _ _ _ _ (c .before .loop .inv .0) (c .loop-test .left)))
+    (λ c. let (any-is, _) = c .before .loop .inv in nodes-done _ _ _ _ _ any-is (c .loop-test .left)))

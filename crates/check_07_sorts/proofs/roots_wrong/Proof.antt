@@ -1,4 +1,3 @@
--- `check_07_sorts::roots_wrong` meets its contract.
 use mathlib.Core.Path.{_≡_}
 use Prim.Native.Nat.{_+_, _*_, _≤_}
 use native.Mathlib.Omega.{arith}
@@ -22,22 +21,14 @@ abbrev μ-loop : tie.MeasureT-loop
 
 pub roots-wrong-spec : {M : Type 1} → statement M
 roots-wrong-spec =
-    tie.close
-    (tie.spec
-    Inv-loop
-    μ-loop
-    (λ c. search needs)
-    (λ c κs. search needs)
-    (λ c. search needs)
-    (λ c κs. search needs)
-    (λ c κs. search needs)
+    tie.close (tie.spec Inv-loop μ-loop
+    (λ c. search needs) (λ c κs. search needs) (λ c. search needs) (λ c κs. search needs) (λ c κs. search needs)
     (λ c. let turn = c .before .before .before .before in
     let s = turn .before .before .before in
     root-wrong (nodesIn (s .args .nodes) (s .args .file .now) (s .args .nodes-at)) _ (s .args .file .now) _ _ (turn .before .loop .inv .0)
     (turn .loop-test .taken) _ (c .before .before .before .function-end .ensures .0) _ (c .before .before .two-bytes-at .ensures .0) _
     (c .before .has-sort .ensures) (c .if1 .taken))
-    (λ c. search needs)
-    (λ c. search needs)
+    (λ c. search needs) (λ c. search needs)
     (λ c. let turn = c .before .before .before .before in
     let s = turn .before .before .before in (
       root-right (nodesIn (s .args .nodes) (s .args .file .now) (s .args .nodes-at)) _ (s .args .file .now) _ _ (turn .before .loop .inv .0)
@@ -45,4 +36,4 @@ roots-wrong-spec =
           (c .before .has-sort .ensures) (c .if1 .left),
       omega arith,
     ))
-    (λ c. functions-done _ _ _ _ _ (c .before .loop .inv .0) (c .loop-test .left)))
+    (λ c. let (any-is, _) = c .before .loop .inv in functions-done _ _ _ _ _ any-is (c .loop-test .left)))

@@ -1,4 +1,3 @@
--- `check_07_sorts::wrong_sort` meets its contract.
 use borrow.Author.Needs.{needs}
 use Rattle.check_07_sorts.proofs.Laws.{sorts-wrong}
 use Rattle.check_07_sorts.proofs.wrong_sort.Statement.{statement}

@@ -1,4 +1,3 @@
--- `check_sections::section_number` meets its contract.
 use borrow.Author.Tests.{lt-ltb, le-ltb}
 use borrow.Author.Needs.{needs}
 use Rattle.definitions.specs.Basics.{firstThatHolds}
@@ -31,10 +30,8 @@ returns-4 c =
 
 pub section-number-spec : {M : Type 1} → statement M
 section-number-spec =
-    tie.close
-    (tie.spec
-    (λ c κs. search needs)
-    (λ c κs. search needs)
+    tie.close (tie.spec
+    (λ c κs. search needs) (λ c κs. search needs)
     returns
     (λ c κs. search needs)
     returns-2

@@ -3,30 +3,17 @@ use mathlib.Core.Path.{sym}
 use native.Mathlib.Omega.{arith}
 use lib.Seq.{length-take-le}
 use borrow.Author.Needs.{needs}
-use Rattle.write_contract.proofs.Answers.{promised-within}
+use Rattle.write_output.proofs.Answers.{promised-within}
 use Rattle.compile.proofs.main.Statement.{statement}
 use Rattle.compile.proofs.main.Tie as tie
 
 pub main-spec : {M : Type 1} → statement M
 main-spec =
-    tie.close
-    (tie.spec
-    (λ c κs. search needs)
-    (λ c κs. search needs)
-    (λ c. search needs)
-    (λ c κs. search needs)
-    (λ c. search needs)
-    (λ c. search needs)
-    (λ c. search needs)
-    (λ c κs. search needs)
+    tie.close (tie.spec
+    (λ c κs. search needs) (λ c κs. search needs) (λ c. search needs) (λ c κs. search needs) (λ c. search needs) (λ c. search needs)
+    (λ c. search needs) (λ c κs. search needs)
     (λ c. omega (arith, promised-within _ _ _ _ _ (c .before .before .before .write .ensures)))
-    (λ c. sym (length-take-le (c .before .before .before .before .write .result .length) (c .before .before .before .before .write .last .1 .0) (omega (arith, promised-within _ _ _ _ _ (c .before .before .before .before .write .ensures)))))
-    (λ c κs. search needs)
-    (λ c. search needs)
-    (λ c κs. search needs)
-    (λ c. search needs)
-    (λ c κs. search needs)
-    (λ c. search needs)
-    (λ c κs. search needs)
-    (λ c. search needs)
-    (λ c. search needs))
+    (λ c. let write = c .before .before .before .before .write in
+    sym (length-take-le (write .result .length) (write .last .1 .0) (omega (arith, promised-within _ _ _ _ _ (write .ensures)))))
+    (λ c κs. search needs) (λ c. search needs) (λ c κs. search needs) (λ c. search needs) (λ c κs. search needs) (λ c. search needs)
+    (λ c κs. search needs) (λ c. search needs) (λ c. search needs))

@@ -18,15 +18,11 @@ abbrev μ-loop : tie.MeasureT-loop
 
 pub any-too-high-spec : {M : Type 1} → statement M
 any-too-high-spec =
-    tie.close
-    (tie.spec
-    Inv-loop
-    μ-loop
+    tie.close (tie.spec Inv-loop μ-loop
     (λ c. (omega arith, refl))
     (λ c. search needs)
     (λ c. let k = c .before .before .before in high-found (k .before .args .addresses .now) (k .loop .i) _ (k .loop .inv .1) (omega arith) (omega arith))
-    (λ c. search needs)
-    (λ c. search needs)
+    (λ c. search needs) (λ c. search needs)
     (λ c. let k = c .before .before .before in
     (omega arith, high-next (k .before .args .addresses .now) (k .loop .i) _ (k .loop .inv .1) (omega arith) (omega arith)))
-    (λ c. high-none (c .before .before .args .addresses .now) (c .before .loop .i) _ (c .before .loop .inv .1) (omega arith)))
+    (λ c. let (_, any-is) = c .before .loop .inv in high-none (c .before .before .args .addresses .now) (c .before .loop .i) _ any-is (omega arith)))

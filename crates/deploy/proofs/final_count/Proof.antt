@@ -19,16 +19,10 @@ abbrev μ-loop : tie.MeasureT-loop
 
 pub final-count-spec : {M : Type 1} → statement M
 final-count-spec =
-    tie.close
-    (tie.spec
-    Inv-loop
-    μ-loop
+    tie.close (tie.spec Inv-loop μ-loop
     (λ c κs. search needs)
     (λ c. (omega arith, (omega arith, omega arith)))
-    (λ c κs. search needs)
-    (λ c. search needs)
-    (λ c. search needs)
-    (λ c. search needs)
+    (λ c κs. search needs) (λ c. search needs) (λ c. search needs) (λ c. search needs)
     (λ c. let k = c .before .before in
     let file = k .before .before .before .args .file .now in
     let counted = fields-count file in

@@ -16,15 +16,10 @@ abbrev μ-loop : tie.MeasureT-loop
 
 pub copied-spec : {M : Type 1} → statement M
 copied-spec =
-    tie.close
-    (tie.spec
-    Inv-loop
-    μ-loop
+    tie.close (tie.spec Inv-loop μ-loop
     (λ c. (omega arith, (refl, refl)))
-    (λ c. search needs)
-    (λ c. omega arith)
-    (λ c. search needs)
-    (λ c. search needs)
+    (λ c. search needs) (λ c. omega arith) (λ c. search needs) (λ c. search needs)
     (λ c. let k = c .before .before in
     (omega arith, (simp length-set (k .loop .inv .1 .0), copy-next (k .before .args .file .now) _ (k .loop .i) (omega arith) (omega arith) (k .loop .inv .1 .1))))
-    (λ c. copy-done (c .before .before .args .file .now) _ (c .before .loop .i) (omega arith) (omega arith) (c .before .loop .inv .1 .1)))
+    (λ c. let (_, (_, take-is)) = c .before .loop .inv in
+    copy-done (c .before .before .args .file .now) _ (c .before .loop .i) (omega arith) (omega arith) take-is))

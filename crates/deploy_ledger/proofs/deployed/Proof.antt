@@ -23,18 +23,15 @@ returns c =
 
 pub deployed-spec : {M : Type 1} → statement M
 deployed-spec =
-    tie.close
-    (tie.spec
-    (λ c κs. search needs)
-    (λ c. search needs)
-    (λ c κs. search needs)
-    (λ c. search needs)
+    tie.close (tie.spec
+    (λ c κs. search needs) (λ c. search needs) (λ c κs. search needs) (λ c. search needs)
     (λ c. let n = c .before .before .put-numbers .ensures in
     n .many ∙ sym (ap length (front-stored _ _ _ _ (n .stand) (n .many))))
-    (λ c κs. let n = c .before .before .put-numbers .ensures in
+    (λ c κs. let shared-slice-known2 = c .before .before .before .before .before .shared-slice-known2 .given in
+    let n = c .before .before .put-numbers .ensures in
     let s = c .before .before .before .before .before .before .before in
     let front = front-stored _ _ _ _ (n .stand) (n .many) in
     let long = ap length front in
     deployable (s .args .file .now) (s .args .addresses .now) _ (s .pre .0) front (omega (arith, n .few, n .many))
-    (λ i. omega (arith, c .before .before .before .before .before .shared-slice-known2 .given i)))
+    (λ i. omega (arith, shared-slice-known2 i)))
     returns)

@@ -30,26 +30,21 @@ long c = search (unmapped, needs)
 
 pub put-field-spec : {M : Type 1} → statement M
 put-field-spec =
-    tie.close
-    (tie.spec
-    Inv-loop
-    μ-loop
+    tie.close (tie.spec Inv-loop μ-loop
     (λ c. let s = c .before .before in
     (omega arith, (long s, field-start (fieldsIn (s .args .file .now)) (s .args .numbers .now) (s .args .f) (s .args .p) (s .args .count) (s .args .places))))
     (λ c. search needs)
-    (λ c κs. (c .before .before .before .before .pre .1 .0, c .before .before .before .before .pre .0 .fewFields))
-    (λ c. search needs)
-    (λ c. search needs)
-    (λ c. search needs)
-    (λ c κs. let s = c .before .before .before .before .before .before in
-    short-reader (c .before .place-reader .result) (finalAddress (fieldsIn (s .args .file .now)) (s .args .numbers .now)) ((fieldAt (fieldsIn (s .args .file .now)) (s .args .f)) .owner)
-    (c .before .before .before .loop .key) (c .before .place-reader .ensures)
+    (λ c κs. let (deployable, (f-bound, _)) = c .before .before .before .before .pre in (f-bound, deployable .fewFields))
+    (λ c. search needs) (λ c. search needs) (λ c. search needs)
+    (λ c κs. let place-reader = c .before .place-reader in
+    let s = c .before .before .before .before .before .before in
+    short-reader (place-reader .result) (finalAddress (fieldsIn (s .args .file .now)) (s .args .numbers .now)) ((fieldAt (fieldsIn (s .args .file .now)) (s .args .f)) .owner)
+    (c .before .before .before .loop .key) (place-reader .ensures)
     (λ g. s .pre .0 .bytes (position (fieldsIn (s .args .file .now)) g 0)) (omega (arith, s .pre .1 .1)))
-    (λ c. search needs)
-    (λ c. search needs)
-    (λ c. omega (arith, c .before .before .before .before .before .before .before .pre .0 .fewPlaces, c .before .before .before .before .before .before .before .pre .1 .1))
-    (λ c. search needs)
-    (λ c. search needs)
+    (λ c. search needs) (λ c. search needs)
+    (λ c. let (deployable, (_, (numbers-room, count-bound))) = c .before .before .before .before .before .before .before .pre in
+    omega (arith, deployable .fewPlaces, numbers-room, count-bound))
+    (λ c. search needs) (λ c. search needs)
     (λ c. let k = c .before .before .before .before in
     let s = c .before .before .before .before .before .before .before in
     let few = s .pre .0 .fewPlaces in
@@ -63,9 +58,10 @@ put-field-spec =
             (k .loop .inv .1 .1),
       ),
     ))
-    (λ c. let s = c .before .before .before .before in
+    (λ c. let (_, (_, contents-in-is)) = c .before .loop .inv in
+    let s = c .before .before .before .before in
     record {
       stands =
           field-done (fieldsIn (s .args .file .now)) (s .args .numbers .now) (s .args .f) (s .args .p) (s .args .count) (c .before .loop .key) _ _ (omega arith) (omega arith)
-          (c .before .loop .inv .1 .1);
+          contents-in-is;
     }))

@@ -23,27 +23,17 @@ abbrev μ-loop : tie.MeasureT-loop
 
 pub put-numbers-spec : {M : Type 1} → statement M
 put-numbers-spec =
-    tie.close
-    (tie.spec
-    Inv-loop
-    μ-loop
+    tie.close (tie.spec Inv-loop μ-loop
     (λ c κs. search needs)
     (λ c. (omega arith, (omega arith, (omega arith, (refl, (refl, omega arith))))))
-    (λ c. search needs)
-    (λ c. search needs)
-    (λ c κs. search needs)
-    (λ c κs. search needs)
-    (λ c. search needs)
-    (λ c. search needs)
-    (λ c. search needs)
-    (λ c. search needs)
-    (λ c. search needs)
-    (λ c. search needs)
-    (λ c. let k = c .before .before .before .before in
+    (λ c. search needs) (λ c. search needs) (λ c κs. search needs) (λ c κs. search needs) (λ c. search needs) (λ c. search needs)
+    (λ c. search needs) (λ c. search needs) (λ c. search needs) (λ c. search needs)
+    (λ c. let byte-at = c .before .before .before .before .before .byte-at .ensures .0 in
+    let k = c .before .before .before .before in
     let s = c .before .before .before .before .before .before .before .before .before in
     let file = s .args .file .now in
     let counted = fields-count file in
-    let same = c .before .before .before .before .before .byte-at .ensures .0 in
+    let same = byte-at in
     let inside : k .loop .f < length (fieldsIn file) = omega arith in
     let final = is-final file (k .loop .f) _ (omega arith) (c .before .before .byte-at2 .ensures .0) (c .before .if1 .taken) in (
       omega arith,
@@ -62,29 +52,29 @@ put-numbers-spec =
         ),
       ),
     ))
-    (λ c κs. search needs)
-    (λ c κs. search needs)
-    (λ c. search needs)
-    (λ c. search needs)
-    (λ c. search needs)
-    (λ c. let k = c .before .before .before .before .before .before .before .before in
+    (λ c κs. search needs) (λ c κs. search needs) (λ c. search needs) (λ c. search needs) (λ c. search needs)
+    (λ c. let byte-at = c .before .before .before .before .before .before .before .before .before .byte-at .ensures .0 in
+    let byte-at2 = c .before .before .before .before .before .before .byte-at2 .ensures .0 in
+    let if1-left = c .before .before .before .before .before .if1 .left in
+    let place-count = c .before .before .before .before .place-count .ensures in let put-zeros = c .before .before .put-zeros in
+    let k = c .before .before .before .before .before .before .before .before in
     let s = c .before .before .before .before .before .before .before .before .before .before .before .before .before in
     let file = s .args .file .now in
     let counted = fields-count file in
-    let same = c .before .before .before .before .before .before .before .before .before .byte-at .ensures .0 in
+    let same = byte-at in
     let inside : k .loop .f < length (fieldsIn file) = omega arith in
-    let final = not-final file (k .loop .f) _ (omega arith) (c .before .before .before .before .before .before .byte-at2 .ensures .0) (c .before .before .before .before .before .if1 .left) in
-    let many = c .before .before .before .before .place-count .ensures .0 in
-    let few = c .before .before .before .before .place-count .ensures .1 in (
+    let final = not-final file (k .loop .f) _ (omega arith) byte-at2 if1-left in
+    let many = place-count .0 in
+    let few = place-count .1 in (
       omega arith,
       (
         omega arith,
         (
           omega arith,
           (
-            c .before .before .put-zeros .kept .0 ∙ k .loop .inv .1 .1 .1 .0,
+            put-zeros .kept .0 ∙ k .loop .inv .1 .1 .1 .0,
             (
-              zeros-field (fieldsIn file) (k .loop .f) inside _ (k .loop .numbers) _ _ (k .loop .p) _ final (omega arith) many (c .before .before .put-zeros .ensures)
+              zeros-field (fieldsIn file) (k .loop .f) inside _ (k .loop .numbers) _ _ (k .loop .p) _ final (omega arith) many (put-zeros .ensures)
                   (k .loop .inv .1 .1 .1 .1 .0),
               zeros-count (fieldsIn file) (k .loop .f) inside _ (k .loop .p) _ _ final many (k .loop .inv .1 .1 .1 .1 .1),
             ),
@@ -92,7 +82,7 @@ put-numbers-spec =
         ),
       ),
     ))
-    (λ c. c .before .loop .inv .1 .1 .1 .0)
+    (λ c. let (_, (_, (_, (numbers-length, _)))) = c .before .loop .inv in numbers-length)
     (λ c. let k = c .before in
     let s = c .before .before .before .before .before .before in
     let file = s .args .file .now in

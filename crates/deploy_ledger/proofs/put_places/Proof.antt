@@ -24,10 +24,7 @@ abbrev μ-loop : tie.MeasureT-loop
 
 pub put-places-spec : {M : Type 1} → statement M
 put-places-spec =
-    tie.close
-    (tie.spec
-    Inv-loop
-    μ-loop
+    tie.close (tie.spec Inv-loop μ-loop
     (λ c κs. search needs)
     (λ c. (omega arith, (omega (arith, c .before .before .before .pre .perPlace), refl)))
     (λ c κs. omega (arith, c .before .before .before .before .before .pre .fewFields, c .before .before .byte-at .ensures .0))
@@ -40,19 +37,19 @@ put-places-spec =
     let more = field-counted (fieldsIn file) (s .args .numbers .now) (k .loop .f) (k .loop .p) _ inside (c .place-count .ensures .0) (k .loop .inv .1 .0) in
     (s .pre, (omega arith, omega (arith, c .place-count .ensures .1))))
     (λ c. omega (arith, c .before .before .before .before .before .before .before .pre .fewPlaces, c .before .place-count .ensures .1))
-    (λ c. search needs)
-    (λ c. search needs)
-    (λ c. let k = c .before .before .before in
+    (λ c. search needs) (λ c. search needs)
+    (λ c. let place-count = c .before .place-count .ensures .0 in
+    let k = c .before .before .before in
     let s = c .before .before .before .before .before .before .before in
     let file = s .args .file .now in
     let same = c .before .before .before .before .byte-at .ensures .0 in
     let counted = fields-count file in
     let inside : k .loop .f < length (fieldsIn file) = omega arith in
-    let more = field-counted (fieldsIn file) (s .args .numbers .now) (k .loop .f) (k .loop .p) _ inside (c .before .place-count .ensures .0) (k .loop .inv .1 .0) in (
+    let more = field-counted (fieldsIn file) (s .args .numbers .now) (k .loop .f) (k .loop .p) _ inside place-count (k .loop .inv .1 .0) in (
       omega arith,
       (
         more,
-        field-given (fieldsIn file) (s .args .numbers .now) (k .loop .f) (k .loop .p) _ inside (c .before .place-count .ensures .0) (k .loop .places) _ _ (omega arith)
+        field-given (fieldsIn file) (s .args .numbers .now) (k .loop .f) (k .loop .p) _ inside place-count (k .loop .places) _ _ (omega arith)
             (c .put-field .ensures .stands) (k .loop .inv .1 .1),
       ),
     ))

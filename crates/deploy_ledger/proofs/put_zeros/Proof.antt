@@ -18,19 +18,12 @@ abbrev μ-loop : tie.MeasureT-loop
 
 pub put-zeros-spec : {M : Type 1} → statement M
 put-zeros-spec =
-    tie.close
-    (tie.spec
-    Inv-loop
-    μ-loop
+    tie.close (tie.spec Inv-loop μ-loop
     (λ c. (refl, (refl, refl)))
-    (λ c. search needs)
-    (λ c. search needs)
-    (λ c. search needs)
-    (λ c. search needs)
-    (λ c. search needs)
+    (λ c. search needs) (λ c. search needs) (λ c. search needs) (λ c. search needs) (λ c. search needs)
     (λ c. let k = c .before in (
       omega arith,
       (simp length-set (k .loop .inv .1 .0), zeros-next _ _ _ _ (c .loop-test .taken) (omega arith) (k .loop .inv .1 .1)),
     ))
-    (λ c. c .before .loop .inv .1 .0)
-    (λ c. zeros-done _ _ _ _ (c .loop-test .left) (c .before .loop .inv .1 .1)))
+    (λ c. let (_, (numbers-length, _)) = c .before .loop .inv in numbers-length)
+    (λ c. let (_, (_, stored-is)) = c .before .loop .inv in zeros-done _ _ _ _ (c .loop-test .left) stored-is))

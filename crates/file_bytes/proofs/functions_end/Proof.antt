@@ -1,4 +1,3 @@
--- `file_bytes::functions_end` meets its contract.
 use mathlib.Core.Path.{_≡_}
 use Prim.Native.Nat.{_+_, _*_, _≤_}
 use native.Mathlib.Omega.{arith}
@@ -16,13 +15,8 @@ abbrev μ-loop : tie.MeasureT-loop
 
 pub functions-end-spec : {M : Type 1} → statement M
 functions-end-spec =
-    tie.close
-    (tie.spec
-    Inv-loop
-    μ-loop
-    (λ c. search needs)
-    (λ c κs. search needs)
-    (λ c. search needs)
-    (λ c. search needs)
-    (λ c. (functionsEnd-next _ _ _ _ _ (c .before .loop-test .taken) (c .function-end .ensures .0) (c .before .before .loop .inv .0), omega arith))
-    (λ c. (functionsEnd-done _ _ _ _ (c .loop-test .left) (c .before .loop .inv .0), omega arith)))
+    tie.close (tie.spec Inv-loop μ-loop
+    (λ c. search needs) (λ c κs. search needs) (λ c. search needs) (λ c. search needs)
+    (λ c. let (functions-end-is, _) = c .before .before .loop .inv in
+    (functionsEnd-next _ _ _ _ _ (c .before .loop-test .taken) (c .function-end .ensures .0) functions-end-is, omega arith))
+    (λ c. let (functions-end-is, _) = c .before .loop .inv in (functionsEnd-done _ _ _ _ (c .loop-test .left) functions-end-is, omega arith)))

@@ -1,4 +1,3 @@
--- `file_bytes::node_at` meets its contract.
 use borrow.Author.Needs.{needs}
 use Rattle.file_bytes.proofs.node_at.Statement.{statement}
 use Rattle.file_bytes.proofs.node_at.Tie as tie

@@ -1,4 +1,3 @@
--- `file_bytes::read_layout` meets its contract.
 use borrow.Author.Needs.{needs}
 use Rattle.file_bytes.proofs.Layouts.{layout-is}
 use Rattle.file_bytes.proofs.read_layout.Statement.{statement}
@@ -6,14 +5,8 @@ use Rattle.file_bytes.proofs.read_layout.Tie as tie
 
 pub read-layout-spec : {M : Type 1} → statement M
 read-layout-spec =
-    tie.close
-    (tie.spec
-    (λ c κs. search needs)
-    (λ c. search needs)
-    (λ c. search needs)
-    (λ c κs. search needs)
-    (λ c. search needs)
-    (λ c κs. search needs)
+    tie.close (tie.spec
+    (λ c κs. search needs) (λ c. search needs) (λ c. search needs) (λ c κs. search needs) (λ c. search needs) (λ c κs. search needs)
     (λ c κs. search needs)
     (λ c. let d = c .before .before .before in
     layout-is _ _ _ _ _ (d .byte-at .ensures .0) (c .before .before .byte-at2 .ensures .0) (c .before .functions-end .ensures .0)

@@ -1,4 +1,3 @@
--- `file_bytes::two_bytes_at` meets its contract.
 use Prim.Native.Nat.{_+_}
 use native.Mathlib.Omega.{arith}
 use borrow.Author.Needs.{needs}
@@ -8,14 +7,9 @@ use Rattle.file_bytes.proofs.two_bytes_at.Tie as tie
 
 pub two-bytes-at-spec : {M : Type 1} → statement M
 two-bytes-at-spec =
-    tie.close
-    (tie.spec
-    (λ c κs. search needs)
-    (λ c. search needs)
-    (λ c κs. search needs)
-    (λ c. search needs)
-    (λ c. search needs)
-    (λ c. search needs)
-    (λ c. let low = byteAt-past (c .before .before .args .file .now) (c .before .before .args .at) (c .if1 .left) in
-    let high = byteAt-past (c .before .before .args .file .now) (c .before .before .args .at + 1) (omega arith) in
+    tie.close (tie.spec
+    (λ c κs. search needs) (λ c. search needs) (λ c κs. search needs) (λ c. search needs) (λ c. search needs) (λ c. search needs)
+    (λ c. let args = c .before .before .args in
+    let low = byteAt-past (args .file .now) (args .at) (c .if1 .left) in
+    let high = byteAt-past (args .file .now) (args .at + 1) (omega arith) in
     (omega arith, omega arith)))

@@ -1,4 +1,3 @@
--- `file_children::is_statement_kind` meets its contract.
 use borrow.Author.Tests.{le-leb, lt-leb}
 use Rattle.file_children.proofs.is_statement_kind.Statement.{statement}
 use Rattle.file_children.proofs.is_statement_kind.Tie as tie

@@ -1,4 +1,3 @@
--- `file_functions::function_start` meets its contract.
 use mathlib.Core.Path.{_≡_, ap}
 use mathlib.Core.List.{List}
 use Prim.Native.Nat.{ℕ, _+_, _*_, _≤_}
@@ -21,17 +20,10 @@ abbrev μ-loop : tie.MeasureT-loop
 
 pub function-start-spec : {M : Type 1} → statement M
 function-start-spec =
-    tie.close
-    (tie.spec
-    Inv-loop
-    μ-loop
-    (λ c κs. search needs)
-    (λ c. search needs)
-    (λ c. search needs)
-    (λ c. search needs)
+    tie.close (tie.spec Inv-loop μ-loop
+    (λ c κs. search needs) (λ c. search needs) (λ c. search needs) (λ c. search needs)
     (λ c. (from-fields _ _ _ (c .byte-at .ensures .0), (omega arith, omega arith)))
-    (λ c κs. search needs)
-    (λ c. search needs)
-    (λ c. search needs)
-    (λ c. (functionsEnd-next _ _ _ _ _ (c .before .loop-test .taken) (c .function-end .ensures .0) (c .before .before .loop .inv .0), (omega arith, omega arith)))
-    (λ c. (functionsEnd-done _ _ _ _ (c .loop-test .left) (c .before .loop .inv .0), omega arith)))
+    (λ c κs. search needs) (λ c. search needs) (λ c. search needs)
+    (λ c. let (functions-end-is, _) = c .before .before .loop .inv in
+    (functionsEnd-next _ _ _ _ _ (c .before .loop-test .taken) (c .function-end .ensures .0) functions-end-is, (omega arith, omega arith)))
+    (λ c. let (functions-end-is, _) = c .before .loop .inv in (functionsEnd-done _ _ _ _ (c .loop-test .left) functions-end-is, omega arith)))

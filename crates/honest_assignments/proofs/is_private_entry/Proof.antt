@@ -1,4 +1,3 @@
--- `honest_assignments::is_private_entry` meets its contract.
 use Rattle.definitions.specs.ContractFile.{fieldAt}
 use Rattle.file_accepted.specs.Context.{fieldsIn, scopeIn}
 use Rattle.definitions.specs.Owners.{nameOf}
@@ -10,4 +9,5 @@ use Rattle.honest_assignments.proofs.is_private_entry.Tie as tie
 
 pub is-private-entry-spec : {M : Type 1} → statement M
 is-private-entry-spec =
-    tie.close (tie.spec (λ c κs. search needs) (λ c κs. search needs) (λ c κs. search needs) (λ c. private-is _ _ _ ((fieldAt (fieldsIn (c .before .before .before .before .args .file .now)) (c .before .before .before .before .args .f)) .owner) (nameOf (scopeIn (c .before .before .before .before .args .file .now) (c .before .before .before .before .args .function-at)) (nodeExpression (c .before .before .before .before .args .file .now) (c .before .before .before .before .args .key))) (c .place-code .ensures) (c .before .before .field-owner .ensures) (c .before .name-code .ensures)))
+    tie.close (tie.spec (λ c κs. search needs) (λ c κs. search needs) (λ c κs. search needs) (λ c. let args = c .before .before .before .before .args in
+    private-is _ _ _ ((fieldAt (fieldsIn (args .file .now)) (args .f)) .owner) (nameOf (scopeIn (args .file .now) (args .function-at)) (nodeExpression (args .file .now) (args .key))) (c .place-code .ensures) (c .before .before .field-owner .ensures) (c .before .name-code .ensures)))

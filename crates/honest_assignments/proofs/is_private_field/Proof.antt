@@ -1,4 +1,3 @@
--- `honest_assignments::is_private_field` meets its contract.
 use Rattle.definitions.specs.ContractFile.{fieldAt}
 use Rattle.file_accepted.specs.Context.{fieldsIn}
 use mathlib.Core.Option.{none}
@@ -9,4 +8,5 @@ use Rattle.honest_assignments.proofs.is_private_field.Statement.{statem
 use Rattle.honest_assignments.proofs.is_private_field.Tie as tie
 
 pub is-private-field-spec : {M : Type 1} → statement M
-is-private-field-spec = tie.close (tie.spec (λ c κs. search needs) (λ c κs. search needs) (λ c. private-is _ _ 0 ((fieldAt (fieldsIn (c .before .before .before .args .file .now)) (c .before .before .before .args .f)) .owner) none (c .place-code .ensures) (c .before .field-owner .ensures) refl))
+is-private-field-spec = tie.close (tie.spec (λ c κs. search needs) (λ c κs. search needs) (λ c. let args = c .before .before .before .args in
+    private-is _ _ 0 ((fieldAt (fieldsIn (args .file .now)) (args .f)) .owner) none (c .place-code .ensures) (c .before .field-owner .ensures) refl))

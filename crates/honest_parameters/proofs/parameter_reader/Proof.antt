@@ -6,12 +6,9 @@ use Rattle.honest_parameters.proofs.parameter_reader.Tie as tie
 
 pub parameter-reader-spec : {M : Type 1} → statement M
 parameter-reader-spec =
-    tie.close
-    (tie.spec
-    (λ c. search needs)
-    (λ c. search needs)
-    (λ c. search needs)
-    (λ c. search needs)
-    (λ c κs. search needs)
-    (λ c. (reader-public _ _ _ _ (c .before .before .before .pre .1) (c .before .byte-at .ensures .0) _ (c .if1 .taken), search needs))
-    (λ c. (reader-private _ _ _ _ (c .before .before .before .pre .1) (c .before .byte-at .ensures .0) _ (c .if1 .left), search needs)))
+    tie.close (tie.spec
+    (λ c. search needs) (λ c. search needs) (λ c. search needs) (λ c. search needs) (λ c κs. search needs)
+    (λ c. let (_, k-bound) = c .before .before .before .pre in
+    (reader-public _ _ _ _ k-bound (c .before .byte-at .ensures .0) _ (c .if1 .taken), search needs))
+    (λ c. let (_, k-bound) = c .before .before .before .pre in
+    (reader-private _ _ _ _ k-bound (c .before .byte-at .ensures .0) _ (c .if1 .left), search needs)))

@@ -11,16 +11,12 @@ use Rattle.honest_parameters.proofs.put_if_public.Tie as tie
 
 pub put-if-public-spec : {M : Type 1} → statement M
 put-if-public-spec =
-    tie.close
-    (tie.spec
-    (λ c. search needs)
-    (λ c. search needs)
-    (λ c. search needs)
-    (λ c. search needs)
-    (λ c κs. search needs)
-    (λ c κs. search needs)
-    (λ c κs. search needs)
-    (λ c. search needs)
-    (λ c. search needs)
-    (λ c. picked _ (c .before .before .before .before .before .before .before .before .before .before .args .flat .now) _ (c .before .before .before .before .before .before .before .before .before .before .args .r) _ (public-here (c .before .before .before .before .before .before .before .before .before .before .args .file .now) (c .before .before .before .before .before .before .before .before .before .before .args .function-at) (c .before .before .before .before .before .before .before .before .before .before .args .k) _ (c .before .before .before .before .before .before .before .before .before .before .pre .1 .0) (c .before .before .before .before .before .before .byte-at .ensures .0) (c .before .before .before .before .before .if1 .taken)) (c .before .before .before .before .before .before .before .before .before .before .pre .1 .1) (c .before .before .put-content .ensures ∙ ap (λ (item : Content). set (contentsOf (c .before .before .before .before .before .before .before .before .before .before .args .flat .now)) (c .before .before .before .before .before .before .before .before .before .before .args .r) item) (c .before .before .before .before .content-at .ensures)))
-    (λ c. not-picked _ (c .before .before .before .before .before .args .flat .now) (c .before .before .before .before .before .args .flat .now) (c .before .before .before .before .before .args .r) _ (private-here (c .before .before .before .before .before .args .file .now) (c .before .before .before .before .before .args .function-at) (c .before .before .before .before .before .args .k) _ (c .before .before .before .before .before .pre .1 .0) (c .before .byte-at .ensures .0) (c .if1 .left))))
+    tie.close (tie.spec
+    (λ c. search needs) (λ c. search needs) (λ c. search needs) (λ c. search needs) (λ c κs. search needs) (λ c κs. search needs)
+    (λ c κs. search needs) (λ c. search needs) (λ c. search needs)
+    (λ c. let start = c .before .before .before .before .before .before .before .before .before .before in let args = start .args in
+    let (_, (k-bound, r-bound)) = start .pre in let byte-at = c .before .before .before .before .before .before .byte-at .ensures .0 in
+    let if1-taken = c .before .before .before .before .before .if1 .taken in
+    picked _ (args .flat .now) _ (args .r) _ (public-here (args .file .now) (args .function-at) (args .k) _ k-bound byte-at if1-taken) r-bound (c .before .before .put-content .ensures ∙ ap (λ (item : Content). set (contentsOf (args .flat .now)) (args .r) item) (c .before .before .before .before .content-at .ensures)))
+    (λ c. let start = c .before .before .before .before .before in let args = start .args in let (_, (k-bound, _)) = start .pre in
+    not-picked _ (args .flat .now) (args .flat .now) (args .r) _ (private-here (args .file .now) (args .function-at) (args .k) _ k-bound (c .before .byte-at .ensures .0) (c .if1 .left))))

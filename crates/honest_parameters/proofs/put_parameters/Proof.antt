@@ -21,18 +21,20 @@ abbrev μ-loop : tie.MeasureT-loop
 
 pub put-parameters-spec : {M : Type 1} → statement M
 put-parameters-spec =
-    tie.close
-    (tie.spec
-    Inv-loop
-    μ-loop
+    tie.close (tie.spec Inv-loop μ-loop
     (λ c. (refl, (omega arith, (refl, refl))))
-    (λ c κs. (c .before .before .before .before .before .pre .place, omega (arith, c .before .before .before .before .before .pre .count)))
+    (λ c κs. let pre = c .before .before .before .before .before .pre in (pre .place, omega (arith, pre .count)))
     (λ c κs. search needs)
-    (λ c. omega (arith, c .before .before .before .before .before .before .before .pre .count, c .before .before .before .before .before .before .before .pre .place .few))
+    (λ c. let pre = c .before .before .before .before .before .before .before .pre in omega (arith, pre .count, pre .place .few))
     (λ c κs. c .before .parameter-reader .ensures .1)
-    (λ c κs. search needs)
-    (λ c. omega arith)
-    (λ c. omega arith)
-    (λ c. (parameter-more (c .before .before .before .before .before .before .before .before .before .before .before .before .args .caller) (c .before .before .before .before .before .before .before .before .before .before .before .before .args .call) (c .before .before .before .before .before .before .before .before .before .before .before .before .args .file .now) (c .before .before .before .before .before .before .before .before .before .before .before .before .args .function-at) (c .before .before .before .before .before .before .before .before .before .before .before .before .args .arguments .now) (c .before .before .before .before .before .before .before .before .before .before .before .before .args .flat .now) (c .before .before .before .before .before .before .before .before .before .before .before .before .pre) _ _ (c .before .before .before .before .before .before .before .before .loop .k) _ _ _ (omega arith) (c .before .before .before .before .before .before .before .before .loop .inv .1 .1 .1) (c .before .before .before .before .before .before .before .before .loop .inv .0) (c .before .before .before .before .before .before .parameter-reader .ensures .0) (c .before .before .before .before .before .number-at .ensures) (c .before .before .before .before .content-for .ensures) (c .before .before .put-content .ensures), (omega arith, (c .before .before .before .before .before .before .before .before .loop .inv .1 .1 .0, search needs))))
-    (λ c. c .before .loop .inv .1 .1 .1)
-    (λ c. parameters-done (c .before .before .before .before .before .args .caller) (c .before .before .before .before .before .args .call) (c .before .before .before .before .before .args .file .now) (c .before .before .before .before .before .args .function-at) (c .before .before .before .before .before .args .arguments .now) (c .before .before .before .before .before .args .flat .now) (c .before .before .before .before .before .pre) _ (c .before .loop .k) (omega arith) (c .before .loop .inv .1 .1 .1) (c .before .loop .inv .0)))
+    (λ c κs. search needs) (λ c. omega arith) (λ c. omega arith)
+    (λ c. let start = c .before .before .before .before .before .before .before .before .before .before .before .before in let args = start .args in
+    let pre = start .pre in let loop-k = c .before .before .before .before .before .before .before .before .loop .k in
+    let (take-is, (_, (count-is, flat-length))) = c .before .before .before .before .before .before .before .before .loop .inv in
+    let parameter-reader = c .before .before .before .before .before .before .parameter-reader .ensures .0 in
+    let number-at = c .before .before .before .before .before .number-at .ensures in
+    (parameter-more (args .caller) (args .call) (args .file .now) (args .function-at) (args .arguments .now) (args .flat .now) pre _ _ loop-k _ _ _ (omega arith) flat-length take-is parameter-reader number-at (c .before .before .before .before .content-for .ensures) (c .before .before .put-content .ensures), (omega arith, (count-is, search needs))))
+    (λ c. let (_, (_, (_, flat-length))) = c .before .loop .inv in flat-length)
+    (λ c. let start = c .before .before .before .before .before in let args = start .args in let pre = start .pre in
+    let (take-is, (_, (_, flat-length))) = c .before .loop .inv in
+    parameters-done (args .caller) (args .call) (args .file .now) (args .function-at) (args .arguments .now) (args .flat .now) pre _ (c .before .loop .k) (omega arith) flat-length take-is))

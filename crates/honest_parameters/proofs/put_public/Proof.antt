@@ -18,15 +18,19 @@ abbrev μ-loop : tie.MeasureT-loop
 
 pub put-public-spec : {M : Type 1} → statement M
 put-public-spec =
-    tie.close
-    (tie.spec
-    Inv-loop
-    μ-loop
+    tie.close (tie.spec Inv-loop μ-loop
     (λ c κs. search needs)
-    (λ c. (picking-none (c .before .before .before .before .args .file .now) (c .before .before .before .before .args .function-at) (c .before .before .before .before .args .parameters .now) (c .before .before .before .before .args .flat .now) (c .before .before .before .before .pre), c .byte-at .ensures .0))
-    (λ c κs. (c .before .before .before .before .before .before .before .pre .place, (omega arith, picking-room (c .before .before .before .before .before .before .before .args .file .now) (c .before .before .before .before .before .before .before .args .function-at) (c .before .before .before .before .before .before .before .args .parameters .now) (c .before .before .before .before .before .before .before .args .flat .now) (c .before .before .before .before .before .before .before .pre) _ (c .before .before .loop .k) (c .before .before .loop .r) (c .before .before .loop .inv .0) (omega arith))))
-    (λ c. omega arith)
-    (λ c. omega arith)
-    (λ c. (picking-more (c .before .before .before .before .before .before .before .before .before .before .args .file .now) (c .before .before .before .before .before .before .before .before .before .before .args .function-at) (c .before .before .before .before .before .before .before .before .before .before .args .parameters .now) (c .before .before .before .before .before .before .before .before .before .before .args .flat .now) (c .before .before .before .before .before .before .before .before .before .before .pre) _ _ (c .before .before .before .before .before .loop .k) (c .before .before .before .before .before .loop .r) _ (c .before .before .before .before .before .loop .inv .0) (omega arith) (search needs) (c .before .before .put-if-public .ensures), c .before .before .before .before .before .loop .inv .1))
-    (λ c. c .before .loop .inv .0 .size)
-    (λ c. picking-done (c .before .before .before .before .before .before .args .file .now) (c .before .before .before .before .before .before .args .function-at) (c .before .before .before .before .before .before .args .parameters .now) (c .before .before .before .before .before .before .args .flat .now) (c .before .before .before .before .before .before .pre) _ (c .before .loop .k) (c .before .loop .r) (c .before .loop .inv .0) (omega arith)))
+    (λ c. let args = c .before .before .before .before .args in
+    (picking-none (args .file .now) (args .function-at) (args .parameters .now) (args .flat .now) (c .before .before .before .before .pre), c .byte-at .ensures .0))
+    (λ c κs. let start = c .before .before .before .before .before .before .before in let args = start .args in let pre = start .pre in
+    let loop = c .before .before .loop in let (picking, _) = c .before .before .loop .inv in
+    (pre .place, (omega arith, picking-room (args .file .now) (args .function-at) (args .parameters .now) (args .flat .now) pre _ (loop .k) (loop .r) picking (omega arith))))
+    (λ c. omega arith) (λ c. omega arith)
+    (λ c. let start = c .before .before .before .before .before .before .before .before .before .before in let args = start .args in
+    let pre = start .pre in let loop = c .before .before .before .before .before .loop in
+    let (picking, count-is) = c .before .before .before .before .before .loop .inv in
+    (picking-more (args .file .now) (args .function-at) (args .parameters .now) (args .flat .now) pre _ _ (loop .k) (loop .r) _ picking (omega arith) (search needs) (c .before .before .put-if-public .ensures), count-is))
+    (λ c. let (picking, _) = c .before .loop .inv in picking .size)
+    (λ c. let start = c .before .before .before .before .before .before in let args = start .args in let pre = start .pre in
+    let loop = c .before .loop in let (picking, _) = c .before .loop .inv in
+    picking-done (args .file .now) (args .function-at) (args .parameters .now) (args .flat .now) pre _ (loop .k) (loop .r) picking (omega arith)))

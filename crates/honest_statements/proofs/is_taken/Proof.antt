@@ -1,4 +1,3 @@
--- `honest_statements::is_taken` meets its contract.
 use mathlib.Core.Path.{ap}
 use Rattle.definitions.specs.Basics.{isTrue}
 use borrow.Author.Needs.{needs}

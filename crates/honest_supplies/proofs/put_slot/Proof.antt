@@ -1,4 +1,3 @@
--- `honest_supplies::put_slot` meets its contract.
 use mathlib.Core.Path.{sym}
 use Rattle.memory_buffer.proofs.Laws.{stored-one}
 use borrow.Author.Needs.{needs}

@@ -1,4 +1,3 @@
--- `honest_supplies::supplied_number` meets its contract.
 use Rattle.honest_supplies.proofs.Steps.{live-number}
 use borrow.Author.Needs.{needs}
 use Rattle.honest_supplies.proofs.supplied_number.Statement.{statement}

@@ -42,44 +42,22 @@ abbrev μ-value : Measures 3 value-kinds.ps ℕ
 μ-value κs a = 2 * a .1 .1 .1 .1 .1 .1 .0 + 1
 
 abbrev entry-value-at : ℕ → In 3 entry-value-kinds.ps
-entry-value-at t =
-    and 3 entry-value-kinds.ps (is 3 entry-value-kinds.ps μ-entry-value t) entry-value.Pre
+entry-value-at t = and 3 entry-value-kinds.ps (is 3 entry-value-kinds.ps μ-entry-value t) entry-value.Pre
 
 abbrev entry-value-below : ℕ → In 3 entry-value-kinds.ps
-entry-value-below t =
-    and 3 entry-value-kinds.ps (falls 3 entry-value-kinds.ps _<_ μ-entry-value t) entry-value.Pre
+entry-value-below t = and 3 entry-value-kinds.ps (falls 3 entry-value-kinds.ps _<_ μ-entry-value t) entry-value.Pre
 
 abbrev negation-value-at : ℕ → In 3 negation-value-kinds.ps
-negation-value-at t =
-    and
-    3
-    negation-value-kinds.ps
-    (is 3 negation-value-kinds.ps μ-negation-value t)
-    negation-value.Pre
+negation-value-at t = and 3 negation-value-kinds.ps (is 3 negation-value-kinds.ps μ-negation-value t) negation-value.Pre
 
 abbrev negation-value-below : ℕ → In 3 negation-value-kinds.ps
-negation-value-below t =
-    and
-    3
-    negation-value-kinds.ps
-    (falls 3 negation-value-kinds.ps _<_ μ-negation-value t)
-    negation-value.Pre
+negation-value-below t = and 3 negation-value-kinds.ps (falls 3 negation-value-kinds.ps _<_ μ-negation-value t) negation-value.Pre
 
 abbrev operator-value-at : ℕ → In 3 operator-value-kinds.ps
-operator-value-at t =
-    and
-    3
-    operator-value-kinds.ps
-    (is 3 operator-value-kinds.ps μ-operator-value t)
-    operator-value.Pre
+operator-value-at t = and 3 operator-value-kinds.ps (is 3 operator-value-kinds.ps μ-operator-value t) operator-value.Pre
 
 abbrev operator-value-below : ℕ → In 3 operator-value-kinds.ps
-operator-value-below t =
-    and
-    3
-    operator-value-kinds.ps
-    (falls 3 operator-value-kinds.ps _<_ μ-operator-value t)
-    operator-value.Pre
+operator-value-below t = and 3 operator-value-kinds.ps (falls 3 operator-value-kinds.ps _<_ μ-operator-value t) operator-value.Pre
 
 abbrev value-at : ℕ → In 3 value-kinds.ps
 value-at t = and 3 value-kinds.ps (is 3 value-kinds.ps μ-value t) value.Pre
@@ -102,52 +80,64 @@ value-claims t = (node-at-reads.Asked, node-at-reads.Learnt, constant-of-reads.A
 pub +entry-value+negation-value+operator-value+value-spec : {M : Type 1} → statement M
 +entry-value+negation-value+operator-value+value-spec =
     close μ-entry-value μ-negation-value μ-operator-value μ-value (λ t. entry-value-lts.spec (entry-value-claims t)
-    (entry-value-at t)
-    entry-value.Post
-    (λ c κs. (c .before .before .before .pre .1 .1 .1 .nearNodes, omega (arith, c .before .before .before .pre .1 .1 .1 .fewNodes, c .before .before .before .pre .1 .1 .0)))
-    (λ c κs. let less = (key-below _ _ _ (c .before .before .before .before .pre .1 .1 .1) _ (c .before .before .before .before .pre .1 .1 .0) _ (c .node-at .ensures .same) (kind-as _ _ _ (c .node-at .ensures .same) (c .before .before .before .before .pre .1 .0))) in
-    (omega (arith, c .before .before .before .before .pre .0, less), (omega (arith, c .before .before .before .before .pre .1 .1 .0, less), c .before .before .before .before .pre .1 .1 .1)))
+    (entry-value-at t) entry-value.Post
+    (λ c κs. let (_, (_, (n-bound, context))) = c .before .before .before .pre in (context .nearNodes, omega (arith, context .fewNodes, n-bound)))
+    (λ c κs. let (falls-2, (kind-at-is, (n-bound, context))) = c .before .before .before .before .pre in
+    let less = key-below _ _ _ context _ n-bound _ (c .node-at .ensures .same) (kind-as _ _ _ (c .node-at .ensures .same) kind-at-is) in
+    (omega (arith, falls-2, less), (omega (arith, n-bound, less), context)))
     (λ c. search needs)
-    (λ c κs. (c .before .before .before .before .before .pre .1 .1 .1 .fewFields, omega arith))
+    (λ c κs. let (_, (_, (_, context))) = c .before .before .before .before .before .pre in (context .fewFields, omega arith))
     (λ c κs. tt)
-    (λ c. entry-value _ _ _ _ _ _ _ _ _ _ (entry-is _ _ _ (c .before .before .before .before .before .before .before .pre .1 .1 .1) _ (c .before .before .before .before .before .before .before .pre .1 .1 .0) _ (c .before .before .before .node-at .ensures .same) (kind-as _ _ _ (c .before .before .before .node-at .ensures .same) (c .before .before .before .before .before .before .before .pre .1 .0))) (c .before .before .value .ensures) (c .before .position .ensures) (c .number-at .ensures)))
-    (λ t. negation-value-lts.spec (negation-value-claims t)
-    (negation-value-at t)
-    negation-value.Post
-    (λ c κs. (c .before .before .before .pre .1 .1 .1 .nearNodes, omega (arith, c .before .before .before .pre .1 .1 .1 .fewNodes, c .before .before .before .pre .1 .1 .0)))
-    (λ c κs. let less = (part-below _ _ _ (c .before .before .before .before .pre .1 .1 .1) _ (c .before .before .before .before .pre .1 .1 .0) _ (c .node-at .ensures .same) (kind-as _ _ _ (c .node-at .ensures .same) (c .before .before .before .before .pre .1 .0))) in
-    (omega (arith, c .before .before .before .before .pre .0, less), (omega (arith, c .before .before .before .before .pre .1 .1 .0, less), c .before .before .before .before .pre .1 .1 .1)))
+    (λ c. let (_, (kind-at-is, (n-bound, context))) = c .before .before .before .before .before .before .before .pre in
+    let node-at-same = c .before .before .before .node-at .ensures .same in
+    entry-value _ _ _ _ _ _ _ _ _ _ (entry-is _ _ _ context _ n-bound _ node-at-same (kind-as _ _ _ node-at-same kind-at-is)) (c .before .before .value .ensures) (c .before .position .ensures) (c .number-at .ensures)))
+    (λ t. negation-value-lts.spec (negation-value-claims t) (negation-value-at t) negation-value.Post
+    (λ c κs. let (_, (_, (n-bound, context))) = c .before .before .before .pre in (context .nearNodes, omega (arith, context .fewNodes, n-bound)))
+    (λ c κs. let (falls-2, (kind-at-is, (n-bound, context))) = c .before .before .before .before .pre in
+    let less = part-below _ _ _ context _ n-bound _ (c .node-at .ensures .same) (kind-as _ _ _ (c .node-at .ensures .same) kind-at-is) in
+    (omega (arith, falls-2, less), (omega (arith, n-bound, less), context)))
     (λ c κs. tt)
-    (λ c. negation-value _ _ _ _ _ _ _ _ (negation-is _ _ _ (c .before .before .before .before .before .before .pre .1 .1 .1) _ (c .before .before .before .before .before .before .pre .1 .1 .0) _ (c .before .before .node-at .ensures .same) (kind-as _ _ _ (c .before .before .node-at .ensures .same) (c .before .before .before .before .before .before .pre .1 .0))) (c .before .value .ensures) (c .negated .ensures)))
-    (λ t. operator-value-lts.spec (operator-value-claims t)
-    (operator-value-at t)
-    operator-value.Post
-    (λ c κs. (c .before .before .before .pre .1 .1 .1 .nearNodes, omega (arith, c .before .before .before .pre .1 .1 .1 .fewNodes, c .before .before .before .pre .1 .1 .0)))
-    (λ c κs. let less = (operands-below _ _ _ (c .before .before .before .before .pre .1 .1 .1) _ (c .before .before .before .before .pre .1 .1 .0) _ (c .node-at .ensures .same) (kind-as _ _ _ (c .node-at .ensures .same) (c .before .before .before .before .pre .1 .0))) in
-    (omega (arith, c .before .before .before .before .pre .0, less .0), (omega (arith, c .before .before .before .before .pre .1 .1 .0, less .0), c .before .before .before .before .pre .1 .1 .1)))
-    (λ c κs. let less = (operands-below _ _ _ (c .before .before .before .before .before .pre .1 .1 .1) _ (c .before .before .before .before .before .pre .1 .1 .0) _ (c .before .node-at .ensures .same) (kind-as _ _ _ (c .before .node-at .ensures .same) (c .before .before .before .before .before .pre .1 .0))) in
-    (omega (arith, c .before .before .before .before .before .pre .0, less .1), (omega (arith, c .before .before .before .before .before .pre .1 .1 .0, less .1), c .before .before .before .before .before .pre .1 .1 .1)))
+    (λ c. let (_, (kind-at-is, (n-bound, context))) = c .before .before .before .before .before .before .pre in
+    let node-at-same = c .before .before .node-at .ensures .same in
+    negation-value _ _ _ _ _ _ _ _ (negation-is _ _ _ context _ n-bound _ node-at-same (kind-as _ _ _ node-at-same kind-at-is)) (c .before .value .ensures) (c .negated .ensures)))
+    (λ t. operator-value-lts.spec (operator-value-claims t) (operator-value-at t) operator-value.Post
+    (λ c κs. let (_, (_, (n-bound, context))) = c .before .before .before .pre in (context .nearNodes, omega (arith, context .fewNodes, n-bound)))
+    (λ c κs. let (falls-2, (kind-at-is, (n-bound, context))) = c .before .before .before .before .pre in
+    let less = operands-below _ _ _ context _ n-bound _ (c .node-at .ensures .same) (kind-as _ _ _ (c .node-at .ensures .same) kind-at-is) in
+    (omega (arith, falls-2, less .0), (omega (arith, n-bound, less .0), context)))
+    (λ c κs. let (falls-2, (kind-at-is, (n-bound, context))) = c .before .before .before .before .before .pre in
+    let node-at-same = c .before .node-at .ensures .same in
+    let less = operands-below _ _ _ context _ n-bound _ node-at-same (kind-as _ _ _ node-at-same kind-at-is) in
+    (omega (arith, falls-2, less .1), (omega (arith, n-bound, less .1), context)))
     (λ c κs. tt)
-    (λ c. operator-value _ _ _ _ _ _ _ _ _ _ _ (operator-is _ _ _ (c .before .before .before .before .before .before .before .pre .1 .1 .1) _ (c .before .before .before .before .before .before .before .pre .1 .1 .0) _ (c .before .before .before .node-at .ensures .same) (kind-as _ _ _ (c .before .before .before .node-at .ensures .same) (c .before .before .before .before .before .before .before .pre .1 .0))) (c .before .before .value .ensures) (c .before .value2 .ensures) (c .operated .ensures)))
-    λ t. value-lts.spec (value-claims t)
-    (value-at t)
-    value.Post
-    (λ c κs. (c .before .before .before .pre .1 .1 .nearNodes, omega (arith, c .before .before .before .pre .1 .1 .fewNodes, c .before .before .before .pre .1 .0)))
-    (λ c κs. (c .before .node-at .ensures .smallFirst, c .before .node-at .ensures .smallSecond))
-    (λ c κs. (c .before .before .before .before .before .pre .1 .1 .fewFields, omega arith))
+    (λ c. let (_, (kind-at-is, (n-bound, context))) = c .before .before .before .before .before .before .before .pre in
+    let node-at-same = c .before .before .before .node-at .ensures .same in
+    operator-value _ _ _ _ _ _ _ _ _ _ _ (operator-is _ _ _ context _ n-bound _ node-at-same (kind-as _ _ _ node-at-same kind-at-is)) (c .before .before .value .ensures) (c .before .value2 .ensures) (c .operated .ensures)))
+    λ t. value-lts.spec (value-claims t) (value-at t) value.Post
+    (λ c κs. let (_, (n-bound, context)) = c .before .before .before .pre in (context .nearNodes, omega (arith, context .fewNodes, n-bound)))
+    (λ c κs. let node-at = c .before .node-at .ensures in (node-at .smallFirst, node-at .smallSecond))
+    (λ c κs. let (_, (_, context)) = c .before .before .before .before .before .pre in (context .fewFields, omega arith))
     (λ c κs. tt)
-    (λ c κs. (omega (arith, c .before .before .before .before .before .pre .0), (kind-as _ _ _ (sym (c .before .node-at .ensures .same)) (c .match .keys3), c .before .before .before .before .before .pre .1)))
+    (λ c κs. let (falls-2, (n-bound, context)) = c .before .before .before .before .before .pre in
+    (omega (arith, falls-2), (kind-as _ _ _ (sym (c .before .node-at .ensures .same)) (c .match .keys3), (n-bound, context))))
     (λ c κs. tt)
-    (λ c κs. (omega (arith, c .before .before .before .before .before .pre .0), (kind-as _ _ _ (sym (c .before .node-at .ensures .same)) (c .match .keys5), c .before .before .before .before .before .pre .1)))
-    (λ c κs. (omega (arith, c .before .before .before .before .before .pre .0), (kind-as _ _ _ (sym (c .before .node-at .ensures .same)) (c .match .keys6), c .before .before .before .before .before .pre .1)))
-    (λ c κs. let less = (revealed-below _ _ _ (c .before .before .before .before .before .pre .1 .1) _ (c .before .before .before .before .before .pre .1 .0) _ (c .before .node-at .ensures .same) (c .match .keys7)) in
-    (omega (arith, c .before .before .before .before .before .pre .0, less), (omega (arith, c .before .before .before .before .before .pre .1 .0, less), c .before .before .before .before .before .pre .1 .1)))
-    (λ c. constant-value _ _ _ _ _ _ _ _ (constant-is _ _ _ (c .before .before .before .before .before .before .pre .1 .1) _ (c .before .before .before .before .before .before .pre .1 .0) _ (c .before .before .node-at .ensures .same) (c .before .match .keys1)) (c .constant-of .ensures))
-    (λ c. field-value _ _ _ _ _ _ _ _ (field-is _ _ _ (c .before .before .before .before .before .before .before .pre .1 .1) _ (c .before .before .before .before .before .before .before .pre .1 .0) _ (c .before .before .before .node-at .ensures .same) (c .before .before .match .keys2)) (c .before .position .ensures) (c .number-at .ensures))
+    (λ c κs. let (falls-2, (n-bound, context)) = c .before .before .before .before .before .pre in
+    (omega (arith, falls-2), (kind-as _ _ _ (sym (c .before .node-at .ensures .same)) (c .match .keys5), (n-bound, context))))
+    (λ c κs. let (falls-2, (n-bound, context)) = c .before .before .before .before .before .pre in
+    (omega (arith, falls-2), (kind-as _ _ _ (sym (c .before .node-at .ensures .same)) (c .match .keys6), (n-bound, context))))
+    (λ c κs. let (falls-2, (n-bound, context)) = c .before .before .before .before .before .pre in
+    let less = revealed-below _ _ _ context _ n-bound _ (c .before .node-at .ensures .same) (c .match .keys7) in
+    (omega (arith, falls-2, less), (omega (arith, n-bound, less), context)))
+    (λ c. let (_, (n-bound, context)) = c .before .before .before .before .before .before .pre in
+    constant-value _ _ _ _ _ _ _ _ (constant-is _ _ _ context _ n-bound _ (c .before .before .node-at .ensures .same) (c .before .match .keys1)) (c .constant-of .ensures))
+    (λ c. let (_, (n-bound, context)) = c .before .before .before .before .before .before .before .pre in
+    field-value _ _ _ _ _ _ _ _ (field-is _ _ _ context _ n-bound _ (c .before .before .before .node-at .ensures .same) (c .before .before .match .keys2)) (c .before .position .ensures) (c .number-at .ensures))
     (λ c. c .entry-value .ensures)
-    (λ c. parameter-value _ _ _ _ _ _ _ (parameter-is _ _ _ (c .before .before .before .before .before .before .pre .1 .1) _ (c .before .before .before .before .before .before .pre .1 .0) _ (c .before .before .node-at .ensures .same) (c .before .match .keys4)) (c .number-at2 .ensures))
-    (λ c. c .operator-value .ensures)
-    (λ c. c .negation-value .ensures)
-    (λ c. reveal-value _ _ _ _ _ _ _ _ (reveal-is _ _ _ (c .before .before .before .before .before .before .pre .1 .1) _ (c .before .before .before .before .before .before .pre .1 .0) _ (c .before .before .node-at .ensures .same) (c .before .match .keys7)) (c .value .ensures))
-    (λ c. let u = c .match .rest in
-    me-value _ _ _ _ _ _ (other-is _ _ _ (c .before .before .before .before .before .pre .1 .1) _ (c .before .before .before .before .before .pre .1 .0) _ (c .before .node-at .ensures .same) (record { constant = u .0 .0 .0 .0 .0 .0 .1; field = u .0 .0 .0 .0 .0 .1; entry = u .0 .0 .0 .0 .1; parameter = u .0 .0 .0 .1; operator = u .0 .0 .1; negation = u .0 .1; reveal = u .1 })) refl)
+    (λ c. let (_, (n-bound, context)) = c .before .before .before .before .before .before .pre in
+    parameter-value _ _ _ _ _ _ _ (parameter-is _ _ _ context _ n-bound _ (c .before .before .node-at .ensures .same) (c .before .match .keys4)) (c .number-at2 .ensures))
+    (λ c. c .operator-value .ensures) (λ c. c .negation-value .ensures)
+    (λ c. let (_, (n-bound, context)) = c .before .before .before .before .before .before .pre in
+    reveal-value _ _ _ _ _ _ _ _ (reveal-is _ _ _ context _ n-bound _ (c .before .before .node-at .ensures .same) (c .before .match .keys7)) (c .value .ensures))
+    (λ c. let (_, (n-bound, context)) = c .before .before .before .before .before .pre in
+    let u = c .match .rest in
+    me-value _ _ _ _ _ _ (other-is _ _ _ context _ n-bound _ (c .before .node-at .ensures .same) (record { constant = u .0 .0 .0 .0 .0 .0 .1; field = u .0 .0 .0 .0 .0 .1; entry = u .0 .0 .0 .0 .1; parameter = u .0 .0 .0 .1; operator = u .0 .0 .1; negation = u .0 .1; reveal = u .1 })) refl)

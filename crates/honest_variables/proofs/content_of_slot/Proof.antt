@@ -9,13 +9,11 @@ use Rattle.honest_variables.proofs.content_of_slot.Tie as tie
 
 pub content-of-slot-spec : {M : Type 1} → statement M
 content-of-slot-spec =
-    tie.close
-    (tie.spec
-    (λ c κs. search needs)
-    (λ c. search needs)
-    (λ c. search needs)
-    (λ c. search needs)
-    (λ c. search needs)
-    (λ c κs. reader-short (c .before .before .before .args .addresses .now) (c .before .before .before .args .code) (c .reader-of .result) (c .reader-of .ensures) (c .before .before .before .pre .narrow))
-    (λ c. slot-none (addressFrom (c .before .before .args .addresses .now)) (c .before .before .args .call) (c .before .before .args .n) (ownerOfCode (c .before .before .args .code)) (c .before .before .args .slot) (c .if1 .taken))
-    (λ c. slot-some (addressFrom (c .before .before .before .before .args .addresses .now)) (c .before .before .before .before .args .call) (c .before .before .before .before .args .n) (ownerOfCode (c .before .before .before .before .args .code)) (c .before .before .before .before .args .slot) _ _ _ _ (c .before .before .if1 .left) (c .before .reader-of .ensures) refl refl (c .content-for .ensures)))
+    tie.close (tie.spec
+    (λ c κs. search needs) (λ c. search needs) (λ c. search needs) (λ c. search needs) (λ c. search needs)
+    (λ c κs. let args = c .before .before .before .args in
+    reader-short (args .addresses .now) (args .code) (c .reader-of .result) (c .reader-of .ensures) (c .before .before .before .pre .narrow))
+    (λ c. let args = c .before .before .args in
+    slot-none (addressFrom (args .addresses .now)) (args .call) (args .n) (ownerOfCode (args .code)) (args .slot) (c .if1 .taken))
+    (λ c. let args = c .before .before .before .before .args in
+    slot-some (addressFrom (args .addresses .now)) (args .call) (args .n) (ownerOfCode (args .code)) (args .slot) _ _ _ _ (c .before .before .if1 .left) (c .before .reader-of .ensures) refl refl (c .content-for .ensures)))

@@ -28,27 +28,31 @@ abbrev μ-loop2 : tie.MeasureT-loop2
 
 pub put-variables-spec : {M : Type 1} → statement M
 put-variables-spec =
-    tie.close
-    (tie.spec
-    Inv-loop
-    μ-loop
-    Inv-loop2
-    μ-loop2
-    (λ c. (opening-start (c .before .before .before .before .args .log .now) (c .before .before .before .before .args .private) (c .before .before .before .before .args .slots .now) (c .before .before .before .before .args .addresses .now) (c .before .before .before .before .args .flat .now) (c .before .before .before .before .args .call) (c .before .before .before .before .pre), refl))
-    (λ c κs. entry-ready (c .before .before .before .before .before .before .before .args .call) (c .before .before .before .before .before .before .before .args .slots .now) (c .before .before .before .before .before .before .before .args .addresses .now) 2 1 _ _ (codesOf (c .before .before .loop .left - 1) (c .before .before .before .before .before .before .before .args .log .now)) _ (c .before .before .loop .n) (c .before .before .before .before .before .before .before .pre .small) (c .before .before .before .before .before .before .before .pre .few) (opening-next (c .before .before .before .before .before .before .before .args .log .now) (c .before .before .before .before .before .before .before .args .private) (c .before .before .before .before .before .before .before .args .slots .now) (c .before .before .before .before .before .before .before .args .addresses .now) (c .before .before .before .before .before .before .before .args .flat .now) (c .before .before .before .before .before .before .before .args .call) (c .before .before .loop .left) _ (c .before .before .loop .n) (omega arith) (c .before .before .loop .inv .0)))
-    (λ c. search needs)
-    (λ c. search needs)
-    (λ c. (c .before .before .put-entry .ensures .passes _ _ (opening-next (c .before .before .before .before .before .before .before .before .before .before .args .log .now) (c .before .before .before .before .before .before .before .before .before .before .args .private) (c .before .before .before .before .before .before .before .before .before .before .args .slots .now) (c .before .before .before .before .before .before .before .before .before .before .args .addresses .now) (c .before .before .before .before .before .before .before .before .before .before .args .flat .now) (c .before .before .before .before .before .before .before .before .before .before .args .call) (c .before .before .before .before .before .loop .left) _ (c .before .before .before .before .before .loop .n) (omega arith) (c .before .before .before .before .before .loop .inv .0)), search needs))
-    (λ c. (opening-done (c .before .before .before .before .before .before .args .log .now) (c .before .before .before .before .before .before .args .private) (c .before .before .before .before .before .before .args .slots .now) (c .before .before .before .before .before .before .args .addresses .now) (c .before .before .before .before .before .before .args .flat .now) (c .before .before .before .before .before .before .args .call) (c .before .loop .left) _ (c .before .loop .n) (omega arith) (c .before .loop .inv .0), (omega arith, refl)))
-    (λ c. search needs)
-    (λ c. search needs)
-    (λ c. search needs)
-    (λ c. search needs)
-    (λ c. search needs)
-    (λ c. search needs)
-    (λ c κs. entry-ready (c .before .before .before .before .before .before .before .before .before .before .before .args .call) (c .before .before .before .before .before .before .before .before .before .before .before .args .slots .now) (c .before .before .before .before .before .before .before .before .before .before .before .args .addresses .now) _ _ _ _ (perEntry codeOf (drop (c .before .before .before .before .loop2 .i + 5) (c .before .before .before .before .before .before .before .before .before .before .before .args .log .now))) _ (c .before .before .before .before .loop2 .n) (c .before .before .before .before .before .before .before .before .before .before .before .pre .small) (c .before .before .before .before .before .before .before .before .before .before .before .pre .few) (entering-next (c .before .before .before .before .before .before .before .before .before .before .before .args .log .now) (c .before .before .before .before .before .before .before .before .before .before .before .args .private) (c .before .before .before .before .before .before .before .before .before .before .before .args .slots .now) (c .before .before .before .before .before .before .before .before .before .before .before .args .addresses .now) (c .before .before .before .before .before .before .before .before .before .before .before .args .flat .now) (c .before .before .before .before .before .before .before .before .before .before .before .args .call) (c .before .before .before .before .loop2 .i) _ (c .before .before .before .before .loop2 .n) (omega arith) (c .before .before .before .before .loop2 .inv .0)))
-    (λ c. search needs)
-    (λ c. search needs)
-    (λ c. (c .before .before .put-entry2 .ensures .passes _ _ (entering-next (c .before .before .before .before .before .before .before .before .before .before .before .before .before .before .args .log .now) (c .before .before .before .before .before .before .before .before .before .before .before .before .before .before .args .private) (c .before .before .before .before .before .before .before .before .before .before .before .before .before .before .args .slots .now) (c .before .before .before .before .before .before .before .before .before .before .before .before .before .before .args .addresses .now) (c .before .before .before .before .before .before .before .before .before .before .before .before .before .before .args .flat .now) (c .before .before .before .before .before .before .before .before .before .before .before .before .before .before .args .call) (c .before .before .before .before .before .before .before .loop2 .i) _ (c .before .before .before .before .before .before .before .loop2 .n) (omega arith) (c .before .before .before .before .before .before .before .loop2 .inv .0)), (omega arith, search needs)))
-    (λ c. c .before .loop2 .inv .1 .1 ∙ c .before .before .before .loop .inv .1)
-    (λ c. entering-done (c .before .before .before .before .before .before .before .before .args .log .now) (c .before .before .before .before .before .before .before .before .args .private) (c .before .before .before .before .before .before .before .before .args .slots .now) (c .before .before .before .before .before .before .before .before .args .addresses .now) (c .before .before .before .before .before .before .before .before .args .flat .now) (c .before .before .before .before .before .before .before .before .args .call) (c .before .loop2 .i) _ (c .before .loop2 .n) (omega arith) (c .before .loop2 .inv .0)))
+    tie.close (tie.spec Inv-loop μ-loop Inv-loop2 μ-loop2
+    (λ c. let args = c .before .before .before .before .args in
+    (opening-start (args .log .now) (args .private) (args .slots .now) (args .addresses .now) (args .flat .now) (args .call) (c .before .before .before .before .pre), refl))
+    (λ c κs. let start = c .before .before .before .before .before .before .before in let args = start .args in let pre = start .pre in
+    let loop = c .before .before .loop in let (opening, _) = c .before .before .loop .inv in
+    entry-ready (args .call) (args .slots .now) (args .addresses .now) 2 1 _ _ (codesOf (loop .left - 1) (args .log .now)) _ (loop .n) (pre .small) (pre .few) (opening-next (args .log .now) (args .private) (args .slots .now) (args .addresses .now) (args .flat .now) (args .call) (loop .left) _ (loop .n) (omega arith) opening))
+    (λ c. search needs) (λ c. search needs)
+    (λ c. let args = c .before .before .before .before .before .before .before .before .before .before .args in
+    let loop = c .before .before .before .before .before .loop in let (opening, _) = c .before .before .before .before .before .loop .inv in
+    (c .before .before .put-entry .ensures .passes _ _ (opening-next (args .log .now) (args .private) (args .slots .now) (args .addresses .now) (args .flat .now) (args .call) (loop .left) _ (loop .n) (omega arith) opening), search needs))
+    (λ c. let args = c .before .before .before .before .before .before .args in let loop = c .before .loop in
+    let (opening, _) = c .before .loop .inv in
+    (opening-done (args .log .now) (args .private) (args .slots .now) (args .addresses .now) (args .flat .now) (args .call) (loop .left) _ (loop .n) (omega arith) opening, (omega arith, refl)))
+    (λ c. search needs) (λ c. search needs) (λ c. search needs) (λ c. search needs) (λ c. search needs) (λ c. search needs)
+    (λ c κs. let start = c .before .before .before .before .before .before .before .before .before .before .before in let args = start .args in
+    let pre = start .pre in let loop2 = c .before .before .before .before .loop2 in
+    let (entering, _) = c .before .before .before .before .loop2 .inv in
+    entry-ready (args .call) (args .slots .now) (args .addresses .now) _ _ _ _ (perEntry codeOf (drop (loop2 .i + 5) (args .log .now))) _ (loop2 .n) (pre .small) (pre .few) (entering-next (args .log .now) (args .private) (args .slots .now) (args .addresses .now) (args .flat .now) (args .call) (loop2 .i) _ (loop2 .n) (omega arith) entering))
+    (λ c. search needs) (λ c. search needs)
+    (λ c. let args = c .before .before .before .before .before .before .before .before .before .before .before .before .before .before .args in
+    let loop2 = c .before .before .before .before .before .before .before .loop2 in
+    let (entering, _) = c .before .before .before .before .before .before .before .loop2 .inv in
+    (c .before .before .put-entry2 .ensures .passes _ _ (entering-next (args .log .now) (args .private) (args .slots .now) (args .addresses .now) (args .flat .now) (args .call) (loop2 .i) _ (loop2 .n) (omega arith) entering), (omega arith, search needs)))
+    (λ c. let (_, flat-length) = c .before .before .before .loop .inv in let (_, (_, flat-length-2)) = c .before .loop2 .inv in
+    flat-length-2 ∙ flat-length)
+    (λ c. let args = c .before .before .before .before .before .before .before .before .args in let loop2 = c .before .loop2 in
+    let (entering, _) = c .before .loop2 .inv in
+    entering-done (args .log .now) (args .private) (args .slots .now) (args .addresses .now) (args .flat .now) (args .call) (loop2 .i) _ (loop2 .n) (omega arith) entering))

@@ -5,4 +5,5 @@ use Rattle.honest_variables.proofs.reader_of.Statement.{statement}
 use Rattle.honest_variables.proofs.reader_of.Tie as tie
 
 pub reader-of-spec : {M : Type 1} → statement M
-reader-of-spec = tie.close (tie.spec (λ c κs. search needs) (λ c κs. search needs) (λ c. reader-everyone (c .before .before .args .addresses .now) (c .before .before .args .code) (c .if1 .taken)) (λ c. reader-named (c .before .before .before .before .args .addresses .now) (c .before .before .before .before .args .code) _ _ (c .before .address-place .ensures) (c .number-at .ensures)))
+reader-of-spec = tie.close (tie.spec (λ c κs. search needs) (λ c κs. search needs) (λ c. let args = c .before .before .args in reader-everyone (args .addresses .now) (args .code) (c .if1 .taken)) (λ c. let args = c .before .before .before .before .args in
+    reader-named (args .addresses .now) (args .code) _ _ (c .before .address-place .ensures) (c .number-at .ensures)))

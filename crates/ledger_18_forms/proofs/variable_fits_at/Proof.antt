@@ -13,10 +13,12 @@ use Rattle.ledger_18_forms.proofs.variable_fits_at.Tie as tie
 pub variable-fits-at-spec : {M : Type 1} → statement M
 variable-fits-at-spec =
     tie.close
-    (tie.spec (λ c κs. search needs) (λ c κs. search needs) (λ c κs. search needs) (λ c. let a = c .before .before .before .before .before .args in
+    (tie.spec (λ c κs. search needs) (λ c κs. search needs) (λ c κs. search needs) (λ c. let args = c .before .before .before .before .before .args in
+    let a = args in
     found fitsOrZero (a .flat .now) (a .p) (formOf (a .code) (a .reader)) _ (omega arith)
-    (zero-fits (formOf (a .code) (a .reader)) (contentAt (contentsOf (a .flat .now)) (a .p)) _ (c .before .is-plain-zero .ensures ∙ ap isPlainZero (c .before .before .content-at .ensures)) (c .if2 .taken))) (λ c. let a = c .before .before .before .before .before .before .args in
+    (zero-fits (formOf (a .code) (a .reader)) (contentAt (contentsOf (a .flat .now)) (a .p)) _ (c .before .is-plain-zero .ensures ∙ ap isPlainZero (c .before .before .content-at .ensures)) (c .if2 .taken))) (λ c. let args = c .before .before .before .before .before .before .args in let content-at = c .before .before .before .content-at .ensures in
+    let a = args in
     found fitsOrZero (a .flat .now) (a .p) (formOf (a .code) (a .reader)) _ (omega arith)
-    (other-fits (formOf (a .code) (a .reader)) (contentAt (contentsOf (a .flat .now)) (a .p)) _ _ (c .before .before .is-plain-zero .ensures ∙ ap isPlainZero (c .before .before .before .content-at .ensures)) (c .before .if2 .left)
-    (c .fits2 .ensures ∙ ap (fits (formOf (a .code) (a .reader))) (c .before .before .before .content-at .ensures)))) (λ c. let a = c .before .before .args in
+    (other-fits (formOf (a .code) (a .reader)) (contentAt (contentsOf (a .flat .now)) (a .p)) _ _ (c .before .before .is-plain-zero .ensures ∙ ap isPlainZero content-at) (c .before .if2 .left)
+    (c .fits2 .ensures ∙ ap (fits (formOf (a .code) (a .reader))) content-at))) (λ c. let a = c .before .before .args in
     absent fitsOrZero (a .flat .now) (a .p) (formOf (a .code) (a .reader)) (omega arith)))

@@ -4,4 +4,4 @@ use Rattle.ledger_18_parameters.proofs.is_hidden.Statement.{statement}
 use Rattle.ledger_18_parameters.proofs.is_hidden.Tie as tie
 
 pub is-hidden-spec : {M : Type 1} → statement M
-is-hidden-spec = tie.close (tie.spec (λ c. hidden-public (c .before .args .owner) (c .before .args .all) (c .if1 .taken)) (λ c. hidden-private (c .before .args .owner) (c .before .args .all) (c .if1 .left)))
+is-hidden-spec = tie.close (tie.spec (λ c. let args = c .before .args in hidden-public (args .owner) (args .all) (c .if1 .taken)) (λ c. let args = c .before .args in hidden-private (args .owner) (args .all) (c .if1 .left)))

@@ -25,43 +25,31 @@ abbrev μ-loop : tie.MeasureT-loop
 
 pub parameters-fit-spec : {M : Type 1} → statement M
 parameters-fit-spec =
-    tie.close
-    (tie.spec
-    Inv-loop
-    μ-loop
+    tie.close (tie.spec Inv-loop μ-loop
     (λ c κs. search needs)
     (λ c. let a = c .before .before .before .args in (
       omega arith,
       (omega arith, sym (ap (λ (l : List Form). allFit fits l (contentsOf (a .flat .now))) (shown-forms (a .all) (a .caller) (parametersIn (a .file .now) (a .function-at))))),
     ))
-    (λ c. search needs)
-    (λ c. search needs)
-    (λ c. search needs)
-    (λ c. search needs)
-    (λ c κs. search needs)
-    (λ c κs. search needs)
-    (λ c. search needs)
-    (λ c. search needs)
-    (λ c. let k = c .before .before .before .before in
+    (λ c. search needs) (λ c. search needs) (λ c. search needs) (λ c. search needs) (λ c κs. search needs) (λ c κs. search needs)
+    (λ c. search needs) (λ c. search needs)
+    (λ c. let byte-at2 = c .before .before .byte-at2 in
+    let k = c .before .before .before .before in
     let a = k .before .before .before .before .args in
     let same = k .before .byte-at .ensures .0 in
     let counted = parameters-count (a .file .now) (a .function-at) in
     let inside : k .loop .k < length (parametersIn (a .file .now) (a .function-at)) = omega arith in
-    let private = private-is (a .file .now) (a .function-at) (k .loop .k) _ (omega arith) (c .before .before .byte-at2 .ensures .0) in (
+    let private = private-is (a .file .now) (a .function-at) (k .loop .k) _ (omega arith) (byte-at2 .ensures .0) in (
       omega arith,
       (
         omega arith,
-        hidden-next (a .all) (a .caller) (parametersIn (a .file .now) (a .function-at)) (k .loop .k) inside (c .before .before .byte-at2 .result) private
+        hidden-next (a .all) (a .caller) (parametersIn (a .file .now) (a .function-at)) (k .loop .k) inside (byte-at2 .result) private
             (contentsOf (a .flat .now)) (k .loop .p) _ _ (c .before .is-hidden .ensures) (k .loop .inv .1 .1) (c .if1 .taken),
       ),
     ))
-    (λ c κs. search needs)
-    (λ c κs. search needs)
-    (λ c κs. search needs)
-    (λ c. search needs)
-    (λ c. search needs)
-    (λ c. search needs)
-    (λ c. let k = c .before .before .before .before .before .before .before .before in
+    (λ c κs. search needs) (λ c κs. search needs) (λ c κs. search needs) (λ c. search needs) (λ c. search needs) (λ c. search needs)
+    (λ c. let parameter-type = c .before .before .before .parameter-type in let parameter-reader = c .before .before .parameter-reader in
+    let k = c .before .before .before .before .before .before .before .before in
     let a = k .before .before .before .before .args in
     let same = k .before .byte-at .ensures .0 in
     let counted = parameters-count (a .file .now) (a .function-at) in
@@ -72,11 +60,12 @@ parameters-fit-spec =
       (
         omega arith,
         shown-next (a .all) (a .caller) (parametersIn (a .file .now) (a .function-at)) (k .loop .k) inside (seen .before .byte-at2 .result) private
-            (contentsOf (a .flat .now)) (k .loop .p) _ _ (seen .is-hidden .ensures) (k .loop .inv .1 .1) _ (c .before .before .before .parameter-type .result)
-            (c .before .before .parameter-reader .result) (c .before .before .before .parameter-type .ensures) (c .before .before .parameter-reader .ensures) (c .before .fits-at .ensures) (c .before .before .before .before .if1 .left) (c .if2 .taken),
+            (contentsOf (a .flat .now)) (k .loop .p) _ _ (seen .is-hidden .ensures) (k .loop .inv .1 .1) _ (parameter-type .result)
+            (parameter-reader .result) (parameter-type .ensures) (parameter-reader .ensures) (c .before .fits-at .ensures) (c .before .before .before .before .if1 .left) (c .if2 .taken),
       ),
     ))
-    (λ c. let k = c .before .before .before .before .before .before .before .before in
+    (λ c. let parameter-type = c .before .before .before .parameter-type in let parameter-reader = c .before .before .parameter-reader in
+    let k = c .before .before .before .before .before .before .before .before in
     let a = k .before .before .before .before .args in
     let same = k .before .byte-at .ensures .0 in
     let counted = parameters-count (a .file .now) (a .function-at) in
@@ -84,8 +73,8 @@ parameters-fit-spec =
     let seen = c .before .before .before .before .before in
     let private = private-is (a .file .now) (a .function-at) (k .loop .k) _ (omega arith) (seen .before .byte-at2 .ensures .0) in
     shown-stops (a .all) (a .caller) (parametersIn (a .file .now) (a .function-at)) (k .loop .k) inside (seen .before .byte-at2 .result) private
-    (contentsOf (a .flat .now)) (k .loop .p) _ _ (seen .is-hidden .ensures) (k .loop .inv .1 .1) _ (c .before .before .before .parameter-type .result)
-    (c .before .before .parameter-reader .result) (c .before .before .before .parameter-type .ensures) (c .before .before .parameter-reader .ensures) (c .before .fits-at .ensures) (c .before .before .before .before .if1 .left) (c .if2 .left))
+    (contentsOf (a .flat .now)) (k .loop .p) _ _ (seen .is-hidden .ensures) (k .loop .inv .1 .1) _ (parameter-type .result)
+    (parameter-reader .result) (parameter-type .ensures) (parameter-reader .ensures) (c .before .fits-at .ensures) (c .before .before .before .before .if1 .left) (c .if2 .left))
     (λ c. let k = c .before in
     let a = k .before .before .before .before .args in
     let same = k .before .byte-at .ensures .0 in

@@ -24,29 +24,23 @@ abbrev μ-loop : tie.MeasureT-loop
 
 pub field-fits-spec : {M : Type 1} → statement M
 field-fits-spec =
-    tie.close
-    (tie.spec
-    Inv-loop
-    μ-loop
+    tie.close (tie.spec Inv-loop μ-loop
     (λ c κs. search needs)
     (λ c. let a = c .before .before .before .before .args in
     (omega arith, keys-start (fieldsIn (a .file .now)) (a .numbers .now) (a .f) (contentsOf (a .flat .now)) (a .p) (a .count)))
-    (λ c. search needs)
-    (λ c κs. search needs)
-    (λ c. search needs)
-    (λ c κs. search needs)
-    (λ c. search needs)
-    (λ c. search needs)
-    (λ c. let k = c .before .before .before .before in
+    (λ c. search needs) (λ c κs. search needs) (λ c. search needs) (λ c κs. search needs) (λ c. search needs) (λ c. search needs)
+    (λ c. let place-reader = c .before .before .place-reader in
+    let k = c .before .before .before .before in
     let a = k .before .before .before .before .before .args in (
       omega arith,
-      key-next (fieldsIn (a .file .now)) (a .numbers .now) (a .f) (contentsOf (a .flat .now)) (a .p) (k .loop .key) (a .count) _ _ (k .before .field-type .result) (c .before .before .place-reader .result) (omega arith)
-          (k .before .field-type .ensures) (c .before .before .place-reader .ensures) (c .before .fits-at .ensures) (k .loop .inv .1) (c .if1 .taken),
+      key-next (fieldsIn (a .file .now)) (a .numbers .now) (a .f) (contentsOf (a .flat .now)) (a .p) (k .loop .key) (a .count) _ _ (k .before .field-type .result) (place-reader .result) (omega arith)
+          (k .before .field-type .ensures) (place-reader .ensures) (c .before .fits-at .ensures) (k .loop .inv .1) (c .if1 .taken),
     ))
-    (λ c. let k = c .before .before .before .before in
+    (λ c. let place-reader = c .before .before .place-reader in
+    let k = c .before .before .before .before in
     let a = k .before .before .before .before .before .args in
-    key-stops (fieldsIn (a .file .now)) (a .numbers .now) (a .f) (contentsOf (a .flat .now)) (a .p) (k .loop .key) (a .count) _ _ (k .before .field-type .result) (c .before .before .place-reader .result) (omega arith)
-    (k .before .field-type .ensures) (c .before .before .place-reader .ensures) (c .before .fits-at .ensures) (k .loop .inv .1) (c .if1 .left))
+    key-stops (fieldsIn (a .file .now)) (a .numbers .now) (a .f) (contentsOf (a .flat .now)) (a .p) (k .loop .key) (a .count) _ _ (k .before .field-type .result) (place-reader .result) (omega arith)
+    (k .before .field-type .ensures) (place-reader .ensures) (c .before .fits-at .ensures) (k .loop .inv .1) (c .if1 .left))
     (λ c. let k = c .before in
     let a = k .before .before .before .before .before .args in
     keys-done (fieldsIn (a .file .now)) (a .numbers .now) (a .f) (contentsOf (a .flat .now)) (a .p) (k .loop .key) (a .count) _ (omega arith) (k .loop .inv .1)))

@@ -26,39 +26,34 @@ abbrev μ-loop : tie.MeasureT-loop
 
 pub places-fit-spec : {M : Type 1} → statement M
 places-fit-spec =
-    tie.close
-    (tie.spec
-    Inv-loop
-    μ-loop
+    tie.close (tie.spec Inv-loop μ-loop
     (λ c κs. search needs)
     (λ c. let a = c .before .before .before .before .args in (
       omega arith,
       (omega arith, sym (ap (λ (l : List Form). allFit fits l (contentsOf (a .flat .now))) (forms-listed (fieldsIn (a .file .now)) (a .numbers .now)))),
     ))
-    (λ c κs. search needs)
-    (λ c κs. search needs)
-    (λ c. search needs)
-    (λ c. search needs)
-    (λ c. search needs)
-    (λ c. let k = c .before .before .before .before in
+    (λ c κs. search needs) (λ c κs. search needs) (λ c. search needs) (λ c. search needs) (λ c. search needs)
+    (λ c. let place-count = c .before .before .place-count in
+    let k = c .before .before .before .before in
     let a = k .before .before .before .before .before .args in
     let same = k .before .byte-at .ensures .0 in
     let counted = fields-count (a .file .now) in
     let inside : k .loop .f < length (fieldsIn (a .file .now)) = omega arith in (
       omega arith,
       (
-        omega (arith, c .before .before .place-count .ensures .1),
-        field-next (fieldsIn (a .file .now)) (a .numbers .now) (k .loop .f) inside (contentsOf (a .flat .now)) (k .loop .p) (c .before .before .place-count .result)
-            (c .before .before .place-count .ensures .0) _ _ (c .before .field-fits .ensures) (k .loop .inv .1 .1) (c .if1 .taken),
+        omega (arith, place-count .ensures .1),
+        field-next (fieldsIn (a .file .now)) (a .numbers .now) (k .loop .f) inside (contentsOf (a .flat .now)) (k .loop .p) (place-count .result)
+            (place-count .ensures .0) _ _ (c .before .field-fits .ensures) (k .loop .inv .1 .1) (c .if1 .taken),
       ),
     ))
-    (λ c. let k = c .before .before .before .before in
+    (λ c. let place-count = c .before .before .place-count in
+    let k = c .before .before .before .before in
     let a = k .before .before .before .before .before .args in
     let same = k .before .byte-at .ensures .0 in
     let counted = fields-count (a .file .now) in
     let inside : k .loop .f < length (fieldsIn (a .file .now)) = omega arith in
-    field-stops (fieldsIn (a .file .now)) (a .numbers .now) (k .loop .f) inside (contentsOf (a .flat .now)) (k .loop .p) (c .before .before .place-count .result)
-    (c .before .before .place-count .ensures .0) _ _ (c .before .field-fits .ensures) (k .loop .inv .1 .1) (c .if1 .left))
+    field-stops (fieldsIn (a .file .now)) (a .numbers .now) (k .loop .f) inside (contentsOf (a .flat .now)) (k .loop .p) (place-count .result)
+    (place-count .ensures .0) _ _ (c .before .field-fits .ensures) (k .loop .inv .1 .1) (c .if1 .left))
     (λ c. let k = c .before in
     let a = k .before .before .before .before .before .args in
     let same = k .before .byte-at .ensures .0 in

@@ -5,7 +5,7 @@ use lib.ListN.{length}
 use lib.Seq.{length-take-le}
 use Rattle.ledger_struct.specs.Ledgers.{ledgerOf}
 use Rattle.ledger_struct.proofs.Flat.{take-many}
-use Rattle.ledger_18_test.proofs.Tests.{refused}
+use Rattle.ledger_18_parts.proofs.Tests.{refused}
 use borrow.Author.Needs.{needs}
 use Rattle.ledger_18_test.proofs.is_well_formed.Statement.{statement}
 use Rattle.ledger_18_test.proofs.is_well_formed.Tie as tie
@@ -32,13 +32,13 @@ returns-2 c =
 
 pub is-well-formed-spec : {M : Type 1} → statement M
 is-well-formed-spec =
-    tie.close
-    (tie.spec
+    tie.close (tie.spec
     (λ c κs. search needs)
     (λ c. let s = c .before .before in
     omega (arith, c .before .at-most .ensures, bytes s))
-    (λ c. let s = c .before .before .before in
-    sym (length-take-le (c .before .before .at-most .result) (s .args .l .file) (omega (arith, c .before .before .at-most .ensures, bytes s))))
+    (λ c. let at-most = c .before .before .at-most in
+    let s = c .before .before .before in
+    sym (length-take-le (at-most .result) (s .args .l .file) (omega (arith, at-most .ensures, bytes s))))
     (λ c κs. search needs)
     (λ c. let k = c .before .before .before .before in
     omega (arith, k .at-most .ensures, bytes (k .before)))

@@ -23,16 +23,9 @@ abbrev μ-loop : tie.MeasureT-loop
 
 pub log-fits-spec : {M : Type 1} → statement M
 log-fits-spec =
-    tie.close
-    (tie.spec
-    Inv-loop
-    μ-loop
+    tie.close (tie.spec Inv-loop μ-loop
     (λ c. (omega arith, (omega arith, refl)))
-    (λ c. search needs)
-    (λ c. search needs)
-    (λ c. search needs)
-    (λ c. search needs)
-    (λ c. search needs)
+    (λ c. search needs) (λ c. search needs) (λ c. search needs) (λ c. search needs) (λ c. search needs)
     (λ c. let k = c .before .before .before in
     let a = k .before .before .before .before .before .args in (
       omega arith,
@@ -41,35 +34,31 @@ log-fits-spec =
         claim-next (a .file .now) (a .function-at) (a .addresses .now) (a .log .now) (k .loop .i) (omega arith) (contentsOf (a .flat .now)) (k .loop .p) _ (k .loop .inv .1 .1) (c .if1 .taken),
       ),
     ))
-    (λ c. search needs)
-    (λ c. search needs)
-    (λ c. search needs)
+    (λ c. search needs) (λ c. search needs) (λ c. search needs)
     (λ c. omega (arith, c .shared-slice-known6 .given (c .before .before .before .before .loop .i + 3)))
-    (λ c κs. c .before .before .before .before .before .before .before .before .before .pre .0)
-    (λ c. search needs)
-    (λ c. search needs)
-    (λ c. search needs)
+    (λ c κs. let (context, _) = c .before .before .before .before .before .before .before .before .before .pre in context)
+    (λ c. search needs) (λ c. search needs) (λ c. search needs)
     (λ c. omega (arith, c .shared-slice-known7 .given (c .before .before .before .before .before .before .loop .i + 2)))
-    (λ c κs. search needs)
-    (λ c κs. search needs)
-    (λ c. search needs)
-    (λ c. search needs)
-    (λ c. search needs)
-    (λ c. let k = c .before .before .before .before .before .before .before .before .before in
+    (λ c κs. search needs) (λ c κs. search needs) (λ c. search needs) (λ c. search needs) (λ c. search needs)
+    (λ c. let if1-left = c .before .before .before .before .before .before .if1 .left in
+    let entry-type = c .before .before .before .before .entry-type in let code-reader = c .before .before .code-reader in
+    let k = c .before .before .before .before .before .before .before .before .before in
     let a = k .before .before .before .before .before .args in (
       omega arith,
       (
         omega arith,
         entry-next (a .file .now) (a .function-at) (a .addresses .now) (a .log .now) (k .loop .i) (omega arith) (contentsOf (a .flat .now)) (k .loop .p) _ (k .loop .inv .1 .1) _
-            (c .before .before .before .before .entry-type .result) (c .before .before .code-reader .result) (c .before .before .before .before .entry-type .ensures) (c .before .before .code-reader .ensures)
-            (c .before .variable-fits-at .ensures) (c .before .before .before .before .before .before .if1 .left) (c .if2 .taken),
+            (entry-type .result) (code-reader .result) (entry-type .ensures) (code-reader .ensures)
+            (c .before .variable-fits-at .ensures) if1-left (c .if2 .taken),
       ),
     ))
-    (λ c. let k = c .before .before .before .before .before .before .before .before .before in
+    (λ c. let if1-left = c .before .before .before .before .before .before .if1 .left in
+    let entry-type = c .before .before .before .before .entry-type in let code-reader = c .before .before .code-reader in
+    let k = c .before .before .before .before .before .before .before .before .before in
     let a = k .before .before .before .before .before .args in
     entry-stops (a .file .now) (a .function-at) (a .addresses .now) (a .log .now) (k .loop .i) (omega arith) (contentsOf (a .flat .now)) (k .loop .p) _ (k .loop .inv .1 .1) _
-    (c .before .before .before .before .entry-type .result) (c .before .before .code-reader .result) (c .before .before .before .before .entry-type .ensures) (c .before .before .code-reader .ensures)
-    (c .before .variable-fits-at .ensures) (c .before .before .before .before .before .before .if1 .left) (c .if2 .left))
+    (entry-type .result) (code-reader .result) (entry-type .ensures) (code-reader .ensures)
+    (c .before .variable-fits-at .ensures) if1-left (c .if2 .left))
     (λ c. let k = c .before in
     let a = k .before .before .before .before .before .args in
     log-done (a .file .now) (a .function-at) (a .addresses .now) (a .log .now) (k .loop .i) (a .flat .now) (k .loop .p) _ (omega arith) (k .loop .inv .1 .1)))

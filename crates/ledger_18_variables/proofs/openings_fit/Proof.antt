@@ -24,18 +24,10 @@ abbrev μ-loop : tie.MeasureT-loop
 
 pub openings-fit-spec : {M : Type 1} → statement M
 openings-fit-spec =
-    tie.close
-    (tie.spec
-    Inv-loop
-    μ-loop
+    tie.close (tie.spec Inv-loop μ-loop
     (λ c κs. search needs)
     (λ c. (omega arith, (omega arith, refl)))
-    (λ c. search needs)
-    (λ c. search needs)
-    (λ c. search needs)
-    (λ c. search needs)
-    (λ c κs. search needs)
-    (λ c. search needs)
+    (λ c. search needs) (λ c. search needs) (λ c. search needs) (λ c. search needs) (λ c κs. search needs) (λ c. search needs)
     (λ c. search needs)
     (λ c. let k = c .before .before .before in
     let a = k .before .before .before .before .before .args in
@@ -49,13 +41,9 @@ openings-fit-spec =
         public-next (parametersIn (a .file .now) (a .function-at)) (getD (a .addresses .now) 1 0) (k .loop .k) inside (contentsOf (a .flat .now)) (k .loop .p) _ (k .loop .inv .1 .1) public,
       ),
     ))
-    (λ c κs. search needs)
-    (λ c κs. search needs)
-    (λ c κs. search needs)
-    (λ c. search needs)
-    (λ c. search needs)
-    (λ c. search needs)
-    (λ c. let seen = c .before .before .before .before .before in
+    (λ c κs. search needs) (λ c κs. search needs) (λ c κs. search needs) (λ c. search needs) (λ c. search needs) (λ c. search needs)
+    (λ c. let parameter-type = c .before .before .before .parameter-type in let code-reader = c .before .before .code-reader in
+    let seen = c .before .before .before .before .before in
     let k = seen .before .before in
     let a = k .before .before .before .before .before .args in
     let same = k .before .byte-at .ensures .0 in
@@ -66,11 +54,12 @@ openings-fit-spec =
       (
         omega arith,
         private-next (parametersIn (a .file .now) (a .function-at)) (getD (a .addresses .now) 1 0) (k .loop .k) inside (contentsOf (a .flat .now)) (k .loop .p) _ (k .loop .inv .1 .1)
-            _ (c .before .before .before .parameter-type .result) (c .before .before .code-reader .result) (c .before .before .before .parameter-type .ensures) (c .before .before .code-reader .ensures)
+            _ (parameter-type .result) (code-reader .result) (parameter-type .ensures) (code-reader .ensures)
             (c .before .variable-fits-at .ensures) private (c .if2 .taken),
       ),
     ))
-    (λ c. let seen = c .before .before .before .before .before in
+    (λ c. let parameter-type = c .before .before .before .parameter-type in let code-reader = c .before .before .code-reader in
+    let seen = c .before .before .before .before .before in
     let k = seen .before .before in
     let a = k .before .before .before .before .before .args in
     let same = k .before .byte-at .ensures .0 in
@@ -78,7 +67,7 @@ openings-fit-spec =
     let inside : k .loop .k < length (parametersIn (a .file .now) (a .function-at)) = omega arith in
     let private = is-private (a .file .now) (a .function-at) (k .loop .k) _ (omega arith) (seen .byte-at2 .ensures .0) (c .before .before .before .before .if1 .left) in
     private-stops (parametersIn (a .file .now) (a .function-at)) (getD (a .addresses .now) 1 0) (k .loop .k) inside (contentsOf (a .flat .now)) (k .loop .p) _ (k .loop .inv .1 .1)
-    _ (c .before .before .before .parameter-type .result) (c .before .before .code-reader .result) (c .before .before .before .parameter-type .ensures) (c .before .before .code-reader .ensures)
+    _ (parameter-type .result) (code-reader .result) (parameter-type .ensures) (code-reader .ensures)
     (c .before .variable-fits-at .ensures) private (c .if2 .left))
     (λ c. let k = c .before in
     let a = k .before .before .before .before .before .args in

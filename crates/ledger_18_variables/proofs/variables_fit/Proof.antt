@@ -11,14 +11,8 @@ use Rattle.write_function_room.proofs.Room.{private-counted}
 
 pub variables-fit-spec : {M : Type 1} → statement M
 variables-fit-spec =
-    tie.close
-    (tie.spec
-    (λ c κs. search needs)
-    (λ c κs. search needs)
-    (λ c. search needs)
-    (λ c κs. search needs)
-    (λ c κs. search needs)
-    (λ c. search needs)
+    tie.close (tie.spec
+    (λ c κs. search needs) (λ c κs. search needs) (λ c. search needs) (λ c κs. search needs) (λ c κs. search needs) (λ c. search needs)
     (λ c κs. let s = c .before .before .before .before .before .before .before .before .before in
     let same = private-counted (s .args .file .now) (s .args .function-at) _ _ (c .before .before .before .byte-at .ensures .0) (c .before .before .count-private .ensures) in
     log-ready (s .args .file .now) (s .args .function-at) (s .pre .0) _ same (s .args .nodes-at) _ (s .pre .1) (c .before .empty-log .ensures))

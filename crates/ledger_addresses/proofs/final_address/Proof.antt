@@ -8,14 +8,12 @@ use Rattle.ledger_addresses.proofs.final_address.Tie as tie
 
 pub final-address-spec : {M : Type 1} → statement M
 final-address-spec =
-    tie.close
-    (tie.spec
-    (λ c κs. search needs)
-    (λ c. search needs)
-    (λ c. search needs)
-    (λ c κs. search needs)
-    (λ c κs. search needs)
-    (λ c κs. search needs)
-    (λ c. final-held (c .before .before .before .before .before .before .before .before .args .file .now) 0 0 (c .before .before .before .before .before .before .before .before .args .places .now) (c .before .before .before .before .before .before .before .before .args .places .now) (c .before .before .before .before .before .before .before .before .args .f) _ _ (omega (arith, c .before .before .before .before .before .byte-at .ensures .0, c .before .before .before .before .if1 .taken)) (sym (c .before .before .before .byte-at2 .ensures .0) ∙ c .before .before .if2 .taken) (c .before .position .ensures) (c .number-at .ensures))
-    (λ c. final-not (c .before .before .before .before .before .before .args .file .now) 0 0 (c .before .before .before .before .before .before .args .places .now) (c .before .before .before .before .before .before .args .places .now) (c .before .before .before .before .before .before .args .f) (omega (arith, c .before .before .before .byte-at .ensures .0, c .before .before .if1 .taken)) (λ e. c .if2 .left (c .before .byte-at2 .ensures .0 ∙ e)))
-    (λ c. final-missing (c .before .before .before .before .args .file .now) 0 0 (c .before .before .before .before .args .places .now) (c .before .before .before .before .args .places .now) (c .before .before .before .before .args .f) (omega (arith, c .before .byte-at .ensures .0, c .if1 .left))))
+    tie.close (tie.spec
+    (λ c κs. search needs) (λ c. search needs) (λ c. search needs) (λ c κs. search needs) (λ c κs. search needs) (λ c κs. search needs)
+    (λ c. let args = c .before .before .before .before .before .before .before .before .args in
+    let byte-at = c .before .before .before .before .before .byte-at .ensures .0 in
+    final-held (args .file .now) 0 0 (args .places .now) (args .places .now) (args .f) _ _ (omega (arith, byte-at, c .before .before .before .before .if1 .taken)) (sym (c .before .before .before .byte-at2 .ensures .0) ∙ c .before .before .if2 .taken) (c .before .position .ensures) (c .number-at .ensures))
+    (λ c. let args = c .before .before .before .before .before .before .args in
+    final-not (args .file .now) 0 0 (args .places .now) (args .places .now) (args .f) (omega (arith, c .before .before .before .byte-at .ensures .0, c .before .before .if1 .taken)) (λ e. c .if2 .left (c .before .byte-at2 .ensures .0 ∙ e)))
+    (λ c. let args = c .before .before .before .before .args in
+    final-missing (args .file .now) 0 0 (args .places .now) (args .places .now) (args .f) (omega (arith, c .before .byte-at .ensures .0, c .if1 .left))))

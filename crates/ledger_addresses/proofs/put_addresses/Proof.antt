@@ -17,15 +17,13 @@ abbrev μ-loop : tie.MeasureT-loop
 
 pub put-addresses-spec : {M : Type 1} → statement M
 put-addresses-spec =
-    tie.close
-    (tie.spec
-    Inv-loop
-    μ-loop
+    tie.close (tie.spec Inv-loop μ-loop
     (λ c. placed-none _ _ _ _ _ _ (c .before .before .before .before .pre .room))
     (λ c κs. c .before .before .before .before .before .before .pre .names)
-    (λ c κs. search needs)
-    (λ c. omega arith)
-    (λ c. omega arith)
-    (λ c. placed-more (c .before .before .before .before .before .before .before .before .before .before .before .args .file .now) (c .before .before .before .before .before .before .before .before .before .before .before .args .function-at) (c .before .before .before .before .before .before .before .before .before .before .before .args .caller) (c .before .before .before .before .before .before .before .before .before .before .before .args .arguments .now) (c .before .before .before .before .before .before .before .before .before .before .before .args .places .now) _ _ (c .before .before .before .before .before .before .loop .code) _ (c .before .before .before .before .before .before .loop .inv) (omega arith) (c .before .before .before .before .address-of-code .ensures) (c .before .before .put-number .ensures))
+    (λ c κs. search needs) (λ c. omega arith) (λ c. omega arith)
+    (λ c. let args = c .before .before .before .before .before .before .before .before .before .before .before .args in
+    let loop-code = c .before .before .before .before .before .before .loop .code in
+    let loop = c .before .before .before .before .before .before .loop .inv in
+    placed-more (args .file .now) (args .function-at) (args .caller) (args .arguments .now) (args .places .now) _ _ loop-code _ loop (omega arith) (c .before .before .before .before .address-of-code .ensures) (c .before .before .put-number .ensures))
     (λ c. c .before .loop .inv .room ∙ sym (c .before .before .before .before .before .before .pre .room))
     (λ c. placed-all _ _ _ _ _ _ (c .before .loop .code) (c .before .before .before .before .before .before .pre .names) (omega arith) (c .before .loop .inv)))

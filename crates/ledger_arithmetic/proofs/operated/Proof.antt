@@ -1,4 +1,3 @@
--- `ledger_arithmetic::operated` meets its contract.
 use Rattle.ledger_arithmetic.proofs.Laws.{by-code, by-other}
 use borrow.Author.Needs.{needs}
 use Rattle.ledger_arithmetic.proofs.operated.Statement.{statement}
@@ -6,18 +5,9 @@ use Rattle.ledger_arithmetic.proofs.operated.Tie as tie
 
 pub operated-spec : {M : Type 1} → statement M
 operated-spec =
-    tie.close
-    (tie.spec
-    (λ c κs. search needs)
-    (λ c κs. search needs)
-    (λ c κs. search needs)
-    (λ c κs. search needs)
-    (λ c κs. search needs)
-    (λ c κs. search needs)
-    (λ c κs. search needs)
-    (λ c κs. search needs)
-    (λ c κs. search needs)
-    (λ c κs. search needs)
+    tie.close (tie.spec
+    (λ c κs. search needs) (λ c κs. search needs) (λ c κs. search needs) (λ c κs. search needs) (λ c κs. search needs)
+    (λ c κs. search needs) (λ c κs. search needs) (λ c κs. search needs) (λ c κs. search needs) (λ c κs. search needs)
     (λ c κs. search needs)
     (λ c. by-code _ 1 _ _ _ (c .before .match .keys1) (c .difference .ensures))
     (λ c. by-code _ 2 _ _ _ (c .before .match .keys2) (c .product .ensures))

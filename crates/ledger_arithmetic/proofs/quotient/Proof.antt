@@ -1,4 +1,3 @@
--- `ledger_arithmetic::quotient` meets its contract.
 use Rattle.ledger_arithmetic.proofs.Laws.{div-by-zero}
 use borrow.Author.Needs.{needs}
 use Rattle.ledger_arithmetic.proofs.quotient.Statement.{statement}

@@ -1,4 +1,3 @@
--- `ledger_arithmetic::rest` meets its contract.
 use Rattle.ledger_arithmetic.proofs.Laws.{rest-by-zero}
 use borrow.Author.Needs.{needs}
 use Rattle.ledger_arithmetic.proofs.rest.Statement.{statement}

@@ -7,14 +7,8 @@ use Rattle.ledger_contents.proofs.put_content.Tie as tie
 
 pub put-content-spec : {M : Type 1} → statement M
 put-content-spec =
-    tie.close
-    (tie.spec
-    (λ c. search needs)
-    (λ c. search needs)
-    (λ c κs. search needs)
-    (λ c. search needs)
-    (λ c. search needs)
-    (λ c κs. search needs)
+    tie.close (tie.spec
+    (λ c. search needs) (λ c. search needs) (λ c κs. search needs) (λ c. search needs) (λ c. search needs) (λ c κs. search needs)
     (λ c. search needs)
     (λ c. let d = c .before .before .before .before .before in
     rw (d .content .given .1) (put-plain _ _ _ _ (d .before .before .if1 .taken) (c .before .before .put-five .ensures)))

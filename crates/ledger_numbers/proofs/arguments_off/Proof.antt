@@ -22,21 +22,21 @@ abbrev μ-loop : tie.MeasureT-loop
 
 pub arguments-off-spec : {M : Type 1} → statement M
 arguments-off-spec =
-    tie.close
-    (tie.spec
-    Inv-loop
-    μ-loop
+    tie.close (tie.spec Inv-loop μ-loop
     (λ c κs. search needs)
-    (λ c. off-count (parametersIn (c .before .before .before .before .args .file .now) (c .before .before .before .before .args .function-at)) (c .before .before .before .before .args .arguments .now) (λ e. c .if1 .taken (e ∙ parameters-count (c .before .before .before .before .args .file .now) (c .before .before .before .before .args .function-at) ∙ sym (c .before .byte-at .ensures .0))))
+    (λ c. let args = c .before .before .before .before .args in
+    off-count (parametersIn (args .file .now) (args .function-at)) (args .arguments .now) (λ e. c .if1 .taken (e ∙ parameters-count (args .file .now) (args .function-at) ∙ sym (c .before .byte-at .ensures .0))))
     (λ c. (refl, (omega arith, (c .before .byte-at .ensures .0, c .if1 .left))))
-    (λ c. search needs)
-    (λ c. search needs)
-    (λ c. search needs)
-    (λ c κs. search needs)
-    (λ c κs. search needs)
-    (λ c κs. search needs)
-    (λ c. search needs)
-    (λ c. search needs)
-    (λ c. (off-next (parametersIn (c .before .before .before .before .before .before .before .before .before .before .args .file .now) (c .before .before .before .before .before .before .before .before .before .before .args .function-at)) (c .before .before .before .before .before .before .before .before .before .before .args .arguments .now) (c .before .before .before .before .before .loop .k) (omega (arith, parameters-count (c .before .before .before .before .before .before .before .before .before .before .args .file .now) (c .before .before .before .before .before .before .before .before .before .before .args .function-at))) (omega arith) _ (c .before .before .before .before .before .loop .inv .0) _ (typed (c .before .before .before .before .before .before .before .before .before .before .args .file .now) (c .before .before .before .before .before .before .before .before .before .before .args .arguments .now) (c .before .before .before .before .before .before .before .before .before .before .args .function-at) (c .before .before .before .before .before .loop .k) _ _ _ (omega arith) (c .before .before .before .byte-at2 .ensures .0) (c .before .before .number-at .ensures) (c .before .is-of-type .ensures)) (c .if2 .taken), (omega arith, (c .before .before .before .before .before .loop .inv .1 .1 .0, c .before .before .before .before .before .loop .inv .1 .1 .1))))
-    (λ c. off-types (parametersIn (c .before .before .before .before .before .before .before .before .before .before .args .file .now) (c .before .before .before .before .before .before .before .before .before .before .args .function-at)) (c .before .before .before .before .before .before .before .before .before .before .args .arguments .now) (c .before .before .before .before .before .loop .inv .1 .1 .1 ∙ c .before .before .before .before .before .loop .inv .1 .1 .0 ∙ sym (parameters-count (c .before .before .before .before .before .before .before .before .before .before .args .file .now) (c .before .before .before .before .before .before .before .before .before .before .args .function-at))) _ (off-found (parametersIn (c .before .before .before .before .before .before .before .before .before .before .args .file .now) (c .before .before .before .before .before .before .before .before .before .before .args .function-at)) (c .before .before .before .before .before .before .before .before .before .before .args .arguments .now) (c .before .before .before .before .before .loop .k) (omega (arith, parameters-count (c .before .before .before .before .before .before .before .before .before .before .args .file .now) (c .before .before .before .before .before .before .before .before .before .before .args .function-at))) (omega arith) _ (c .before .before .before .before .before .loop .inv .0) _ (typed (c .before .before .before .before .before .before .before .before .before .before .args .file .now) (c .before .before .before .before .before .before .before .before .before .before .args .arguments .now) (c .before .before .before .before .before .before .before .before .before .before .args .function-at) (c .before .before .before .before .before .loop .k) _ _ _ (omega arith) (c .before .before .before .byte-at2 .ensures .0) (c .before .before .number-at .ensures) (c .before .is-of-type .ensures)) (c .if2 .left)))
-    (λ c. off-types (parametersIn (c .before .before .before .before .before .before .args .file .now) (c .before .before .before .before .before .before .args .function-at)) (c .before .before .before .before .before .before .args .arguments .now) (c .before .loop .inv .1 .1 .1 ∙ c .before .loop .inv .1 .1 .0 ∙ sym (parameters-count (c .before .before .before .before .before .before .args .file .now) (c .before .before .before .before .before .before .args .function-at))) _ (off-none (parametersIn (c .before .before .before .before .before .before .args .file .now) (c .before .before .before .before .before .before .args .function-at)) (c .before .before .before .before .before .before .args .arguments .now) (c .before .loop .k) _ (omega (arith, parameters-count (c .before .before .before .before .before .before .args .file .now) (c .before .before .before .before .before .before .args .function-at))) (c .before .loop .inv .0))))
+    (λ c. search needs) (λ c. search needs) (λ c. search needs) (λ c κs. search needs) (λ c κs. search needs) (λ c κs. search needs)
+    (λ c. search needs) (λ c. search needs)
+    (λ c. let args = c .before .before .before .before .before .before .before .before .before .before .args in
+    let loop-k = c .before .before .before .before .before .loop .k in
+    let (any-outside-is, (_, (count-is, arguments-length))) = c .before .before .before .before .before .loop .inv in
+    (off-next (parametersIn (args .file .now) (args .function-at)) (args .arguments .now) loop-k (omega (arith, parameters-count (args .file .now) (args .function-at))) (omega arith) _ any-outside-is _ (typed (args .file .now) (args .arguments .now) (args .function-at) loop-k _ _ _ (omega arith) (c .before .before .before .byte-at2 .ensures .0) (c .before .before .number-at .ensures) (c .before .is-of-type .ensures)) (c .if2 .taken), (omega arith, (count-is, arguments-length))))
+    (λ c. let args = c .before .before .before .before .before .before .before .before .before .before .args in
+    let loop-k = c .before .before .before .before .before .loop .k in
+    let (any-outside-is, (_, (count-is, arguments-length))) = c .before .before .before .before .before .loop .inv in
+    off-types (parametersIn (args .file .now) (args .function-at)) (args .arguments .now) (arguments-length ∙ count-is ∙ sym (parameters-count (args .file .now) (args .function-at))) _ (off-found (parametersIn (args .file .now) (args .function-at)) (args .arguments .now) loop-k (omega (arith, parameters-count (args .file .now) (args .function-at))) (omega arith) _ any-outside-is _ (typed (args .file .now) (args .arguments .now) (args .function-at) loop-k _ _ _ (omega arith) (c .before .before .before .byte-at2 .ensures .0) (c .before .before .number-at .ensures) (c .before .is-of-type .ensures)) (c .if2 .left)))
+    (λ c. let args = c .before .before .before .before .before .before .args in
+    let (any-outside-is, (_, (count-is, arguments-length))) = c .before .loop .inv in
+    off-types (parametersIn (args .file .now) (args .function-at)) (args .arguments .now) (arguments-length ∙ count-is ∙ sym (parameters-count (args .file .now) (args .function-at))) _ (off-none (parametersIn (args .file .now) (args .function-at)) (args .arguments .now) (c .before .loop .k) _ (omega (arith, parameters-count (args .file .now) (args .function-at))) any-outside-is)))

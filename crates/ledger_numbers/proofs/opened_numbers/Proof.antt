@@ -21,15 +21,13 @@ abbrev μ-loop : tie.MeasureT-loop
 
 pub opened-numbers-spec : {M : Type 1} → statement M
 opened-numbers-spec =
-    tie.close
-    (tie.spec
-    Inv-loop
-    μ-loop
+    tie.close (tie.spec Inv-loop μ-loop
     (λ c. (refl, (omega arith, (refl, refl))))
-    (λ c κs. search needs)
-    (λ c κs. search needs)
-    (λ c. search needs)
-    (λ c. search needs)
-    (λ c. (numbers-more openedNumber (c .before .before .before .before .before .before .before .before .before .args .flat .now) _ _ (c .before .before .before .before .before .before .loop .i) _ (omega arith) (omega arith) (c .before .before .before .before .before .before .loop .inv .0) (c .before .before .before .before .opened-at .ensures) (c .before .before .put-number .ensures), (omega arith, (c .before .before .before .before .before .before .loop .inv .1 .1 .0, search needs))))
-    (λ c. c .before .loop .inv .1 .1 .1)
-    (λ c. numbers-done openedNumber (c .before .before .before .before .args .flat .now) _ _ _ (c .before .loop .i) (c .before .loop .inv .1 .1 .0) (omega arith) (c .before .loop .inv .1 .1 .1) (c .before .loop .inv .0)))
+    (λ c κs. search needs) (λ c κs. search needs) (λ c. search needs) (λ c. search needs)
+    (λ c. let args-flat = c .before .before .before .before .before .before .before .before .before .args .flat .now in
+    let loop-i = c .before .before .before .before .before .before .loop .i in
+    let (take-is, (_, (count-is, _))) = c .before .before .before .before .before .before .loop .inv in
+    (numbers-more openedNumber args-flat _ _ loop-i _ (omega arith) (omega arith) take-is (c .before .before .before .before .opened-at .ensures) (c .before .before .put-number .ensures), (omega arith, (count-is, search needs))))
+    (λ c. let (_, (_, (_, out-length))) = c .before .loop .inv in out-length)
+    (λ c. let (take-is, (_, (count-is, out-length))) = c .before .loop .inv in
+    numbers-done openedNumber (c .before .before .before .before .args .flat .now) _ _ _ (c .before .loop .i) count-is (omega arith) out-length take-is))

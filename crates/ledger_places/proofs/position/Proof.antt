@@ -19,19 +19,18 @@ abbrev μ-loop : tie.MeasureT-loop
 
 pub position-spec : {M : Type 1} → statement M
 position-spec =
-    tie.close
-    (tie.spec
-    Inv-loop
-    μ-loop
+    tie.close (tie.spec Inv-loop μ-loop
     (λ c κs. search needs)
     (λ c. (position-start _ _ _, (c .byte-at .ensures .0, omega arith)))
-    (λ c κs. (omega arith, c .before .before .before .before .before .pre .0))
+    (λ c κs. let (field-count-bound, _) = c .before .before .before .before .before .pre in (omega arith, field-count-bound))
+    (λ c. omega arith) (λ c. omega arith) (λ c. omega arith)
+    (λ c. let args = c .before .before .before .before .before .before .args in
+    let (position-is, (count-is, _)) = c .before .before .before .loop .inv in
+    let length-is = fields-count (args .file .now) in
+    (position-next (fieldsIn (args .file .now)) (args .f) (c .before .before .before .loop .i) _ _ position-is _ (omega arith) (omega arith) (c .place-count .ensures .0), (count-is, omega arith)))
     (λ c. omega arith)
-    (λ c. omega arith)
-    (λ c. omega arith)
-    (λ c. let length-is = fields-count (c .before .before .before .before .before .before .args .file .now) in
-    (position-next (fieldsIn (c .before .before .before .before .before .before .args .file .now)) (c .before .before .before .before .before .before .args .f) (c .before .before .before .loop .i) _ _ (c .before .before .before .loop .inv .0) _ (omega arith) (omega arith) (c .place-count .ensures .0), (c .before .before .before .loop .inv .1 .0, omega arith)))
-    (λ c. omega arith)
-    (λ c. let length-is = fields-count (c .before .before .before .before .before .args .file .now) in
-    (position-all (fieldsIn (c .before .before .before .before .before .args .file .now)) (c .before .before .before .before .before .args .f) (c .before .before .loop .i) _ _ (c .before .before .loop .inv .0) (omega arith), (c .before .before .loop .inv .1 .0, omega arith)))
-    (λ c. position-done (fieldsIn (c .before .before .before .before .args .file .now)) (c .before .before .before .before .args .f) (c .before .loop .i) _ _ (c .before .loop .inv .0) (omega arith)))
+    (λ c. let args = c .before .before .before .before .before .args in let (position-is, (count-is, _)) = c .before .before .loop .inv in
+    let length-is = fields-count (args .file .now) in
+    (position-all (fieldsIn (args .file .now)) (args .f) (c .before .before .loop .i) _ _ position-is (omega arith), (count-is, omega arith)))
+    (λ c. let args = c .before .before .before .before .args in let (position-is, _) = c .before .loop .inv in
+    position-done (fieldsIn (args .file .now)) (args .f) (c .before .loop .i) _ _ position-is (omega arith)))

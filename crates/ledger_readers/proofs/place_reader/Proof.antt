@@ -11,19 +11,14 @@ use Rattle.ledger_readers.proofs.place_reader.Tie as tie
 
 pub place-reader-spec : {M : Type 1} → statement M
 place-reader-spec =
-    tie.close
-    (tie.spec
-    (λ c. search needs)
-    (λ c. search needs)
-    (λ c. search needs)
-    (λ c κs. search needs)
+    tie.close (tie.spec
+    (λ c. search needs) (λ c. search needs) (λ c. search needs) (λ c κs. search needs)
     (λ c. let s = c .before .before .before .before in
     reader-all (s .args .file .now) (s .args .f) (s .pre .0) (finalAddress (fieldsIn (s .args .file .now)) (s .args .numbers .now)) (s .args .key) _ (c .before .byte-at .ensures .0) (c .if1 .taken))
     (λ c. let s = c .before .before .before .before .before in
     reader-key (s .args .file .now) (s .args .f) (s .pre .0) (finalAddress (fieldsIn (s .args .file .now)) (s .args .numbers .now)) (s .args .key) _ (c .before .before .byte-at .ensures .0) (c .before .if1 .left) (c .if2 .taken))
-    (λ c κs. search needs)
-    (λ c κs. search needs)
-    (λ c κs. search needs)
-    (λ c. let s = c .before .before .before .before .before .before .before .before in
-    reader-final (s .args .file .now) (s .args .f) (s .pre .0) (finalAddress (fieldsIn (s .args .file .now)) (s .args .numbers .now)) (s .args .key) _ (c .before .before .before .before .before .byte-at .ensures .0) _ (c .before .before .before .before .if1 .left) (c .before .before .before .if2 .left)
+    (λ c κs. search needs) (λ c κs. search needs) (λ c κs. search needs)
+    (λ c. let byte-at = c .before .before .before .before .before .byte-at .ensures .0 in
+    let s = c .before .before .before .before .before .before .before .before in
+    reader-final (s .args .file .now) (s .args .f) (s .pre .0) (finalAddress (fieldsIn (s .args .file .now)) (s .args .numbers .now)) (s .args .key) _ byte-at _ (c .before .before .before .before .if1 .left) (c .before .before .before .if2 .left)
     (c .number-at .ensures ∙ ap (λ (p : ℕ). getD (s .args .numbers .now) p 0) (c .before .position .ensures ∙ ap (λ (f : ℕ). position (fieldsIn (s .args .file .now)) f 0) (c .before .before .final-of .ensures)))))

@@ -23,8 +23,7 @@ abbrev type-code-at : ℕ → In 1 type-code-kinds.ps
 type-code-at t = and 1 type-code-kinds.ps (is 1 type-code-kinds.ps μ-type-code t) type-code.Pre
 
 abbrev type-code-below : ℕ → In 1 type-code-kinds.ps
-type-code-below t =
-    and 1 type-code-kinds.ps (falls 1 type-code-kinds.ps _<_ μ-type-code t) type-code.Pre
+type-code-below t = and 1 type-code-kinds.ps (falls 1 type-code-kinds.ps _<_ μ-type-code t) type-code.Pre
 
 abbrev type-code-claims : ℕ → type-code-lts.Claims
 type-code-claims t = (node-at-reads.Asked, node-at-reads.Learnt, field-type-reads.Asked, field-type-reads.Learnt, parameter-type-reads.Asked, parameter-type-reads.Learnt, operator-type-reads.Asked, operator-type-reads.Learnt, type-code-below t, type-code.Post)
@@ -32,13 +31,11 @@ type-code-claims t = (node-at-reads.Asked, node-at-reads.Learnt, field-type-read
 pub +type-code-spec : {M : Type 1} → statement M
 +type-code-spec =
     close μ-type-code
-    (λ t. type-code-lts.spec (type-code-claims t)
-    (type-code-at t)
-    type-code.Post
-    (λ c κs. (c .before .pre .1 .1 .nearNodes, omega (arith, c .before .pre .1 .1 .fewNodes)))
-    (λ c κs. c .before .before .before .pre .1 .1 .fewFields)
-    (λ c κs. c .before .before .before .pre .1 .1 .fewFields)
-    (λ c κs. (c .before .before .before .pre .1 .1 .nearFunction, c .before .before .before .pre .1 .1 .fewParameters))
+    (λ t. type-code-lts.spec (type-code-claims t) (type-code-at t) type-code.Post
+    (λ c κs. let (_, (_, context)) = c .before .pre in (context .nearNodes, omega (arith, context .fewNodes)))
+    (λ c κs. let (_, (_, context)) = c .before .before .before .pre in context .fewFields)
+    (λ c κs. let (_, (_, context)) = c .before .before .before .pre in context .fewFields)
+    (λ c κs. let (_, (_, context)) = c .before .before .before .pre in (context .nearFunction, context .fewParameters))
     (λ c κs. search needs)
     (λ c κs. let s = c .before .before .before in
     let less = revealed-below _ _ _ (s .pre .1 .1) _ (s .pre .1 .0) _ (c .before .node-at .ensures .same) (c .match .keys7) in

@@ -1,4 +1,3 @@
--- `ledger_types::field_type` meets its contract.
 use native.Mathlib.Omega.{arith}
 use Rattle.ledger_types.proofs.Laws.{field-typed, field-untyped}
 use borrow.Author.Needs.{needs}
@@ -7,12 +6,7 @@ use Rattle.ledger_types.proofs.field_type.Tie as tie
 
 pub field-type-spec : {M : Type 1} → statement M
 field-type-spec =
-    tie.close
-    (tie.spec
-    (λ c κs. search needs)
-    (λ c. search needs)
-    (λ c. search needs)
-    (λ c. search needs)
-    (λ c κs. search needs)
+    tie.close (tie.spec
+    (λ c κs. search needs) (λ c. search needs) (λ c. search needs) (λ c. search needs) (λ c κs. search needs)
     (λ c. field-typed _ _ _ (omega arith) (c .byte-at2 .ensures .0))
     (λ c. field-untyped _ _ 0 (omega arith)))

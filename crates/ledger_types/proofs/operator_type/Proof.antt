@@ -1,4 +1,3 @@
--- `ledger_types::operator_type` meets its contract.
 use native.Mathlib.Omega.{arith}
 use Rattle.ledger_types.proofs.Laws.{uint-operator, bool-operator, other-operator}
 use Rattle.ledger_types.proofs.operator_type.Statement.{statement}

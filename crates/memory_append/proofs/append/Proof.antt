@@ -17,19 +17,11 @@ abbrev μ-loop : tie.MeasureT-loop
 
 pub append-spec : {M : Type 1} → statement M
 append-spec =
-    tie.close
-    (tie.spec
-    Inv-loop
-    μ-loop
+    tie.close (tie.spec Inv-loop μ-loop
     (λ c. (copied-start _ _ (c .before .before .args .bytes .now), omega arith, refl))
-    (λ c. search needs)
-    (λ c. search needs)
-    (λ c κs. search needs)
-    (λ c. search needs)
-    (λ c. search needs)
+    (λ c. search needs) (λ c. search needs) (λ c κs. search needs) (λ c. search needs) (λ c. search needs)
     (λ c. let head = c .before .before .before .before .before .before in
     let next = copied-next _ _ (head .before .before .before .args .bytes .now) _ _ _ (head .loop .inv .0) (c .before .before .put-byte .ensures) (omega arith) (omega arith) in
     (next, omega arith, search needs))
-    (λ c. search needs)
-    (λ c. search needs)
-    (λ c. copied-all _ _ _ _ _ (c .before .loop .inv .0) (omega arith) (omega arith)))
+    (λ c. search needs) (λ c. search needs)
+    (λ c. let (out-is, _, _) = c .before .loop .inv in copied-all _ _ _ _ _ out-is (omega arith) (omega arith)))

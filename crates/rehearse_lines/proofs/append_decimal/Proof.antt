@@ -8,23 +8,22 @@ use Rattle.rehearse_lines.proofs.append_decimal.Tie as tie
 
 pub append-decimal-spec : {M : Type 1} → statement M
 append-decimal-spec =
-    tie.close
-    (tie.spec
-    (λ c. search needs)
-    (λ c κs. search needs)
-    (λ c. search needs)
+    tie.close (tie.spec
+    (λ c. search needs) (λ c κs. search needs) (λ c. search needs)
     (λ c. one-appended _ _ _ _ _ (c .before .before .before .before .if1 .taken) (c .before .before .append-byte .ensures))
+    (λ c. search needs) (λ c κs. search needs) (λ c. search needs) (λ c κs. search needs) (λ c. search needs)
+    (λ c. let start = c .before .before .before .before .before .before .before .before .before .before .before in let args = start .args in
+    let pre = start .pre in let if1-left = c .before .before .before .before .before .before .before .before .before .if1 .left in
+    let if2-taken = c .before .before .before .before .before .before .before .before .if2 .taken in
+    let append-byte2 = c .before .before .before .before .before .before .append-byte2 .ensures in
+    two-appended (args .out .now) (args .at) pre _ _ (args .number) _ _ _ refl if1-left if2-taken append-byte2 (c .before .before .append-byte3 .ensures))
+    (λ c. search needs) (λ c κs. search needs) (λ c. search needs) (λ c κs. search needs) (λ c. search needs) (λ c κs. search needs)
     (λ c. search needs)
-    (λ c κs. search needs)
-    (λ c. search needs)
-    (λ c κs. search needs)
-    (λ c. search needs)
-    (λ c. two-appended (c .before .before .before .before .before .before .before .before .before .before .before .args .out .now) (c .before .before .before .before .before .before .before .before .before .before .before .args .at) (c .before .before .before .before .before .before .before .before .before .before .before .pre) _ _ (c .before .before .before .before .before .before .before .before .before .before .before .args .number) _ _ _ refl (c .before .before .before .before .before .before .before .before .before .if1 .left) (c .before .before .before .before .before .before .before .before .if2 .taken) (c .before .before .before .before .before .before .append-byte2 .ensures) (c .before .before .append-byte3 .ensures))
-    (λ c. search needs)
-    (λ c κs. search needs)
-    (λ c. search needs)
-    (λ c κs. search needs)
-    (λ c. search needs)
-    (λ c κs. search needs)
-    (λ c. search needs)
-    (λ c. three-digits (c .before .before .before .before .before .before .before .before .before .before .before .before .before .before .before .args .out .now) (c .before .before .before .before .before .before .before .before .before .before .before .before .before .before .before .args .at) (c .before .before .before .before .before .before .before .before .before .before .before .before .before .before .before .pre) _ _ _ (c .before .before .before .before .before .before .before .before .before .before .before .before .before .before .before .args .number) _ _ _ _ refl (c .before .before .before .before .before .before .before .before .before .before .before .before .if2 .left) (omega (arith, c .before .before .before .before .before .before .before .before .before .before .before .before .before .before .before .fits .number)) (omega (arith, c .before .before .before .before .before .before .before .before .before .before .before .before .before .before .before .fits .number)) (c .before .before .before .before .before .before .before .before .before .before .append-byte4 .ensures) (c .before .before .before .before .before .before .append-byte5 .ensures) (c .before .before .append-byte6 .ensures)))
+    (λ c. let start = c .before .before .before .before .before .before .before .before .before .before .before .before .before .before .before in
+    let args = start .args in
+    let fits-number = c .before .before .before .before .before .before .before .before .before .before .before .before .before .before .before .fits .number in
+    let pre = start .pre in
+    let if2-left = c .before .before .before .before .before .before .before .before .before .before .before .before .if2 .left in
+    let append-byte4 = c .before .before .before .before .before .before .before .before .before .before .append-byte4 .ensures in
+    let append-byte5 = c .before .before .before .before .before .before .append-byte5 .ensures in
+    three-digits (args .out .now) (args .at) pre _ _ _ (args .number) _ _ _ _ refl if2-left (omega (arith, fits-number)) (omega (arith, fits-number)) append-byte4 append-byte5 (c .before .before .append-byte6 .ensures)))

@@ -18,15 +18,17 @@ abbrev μ-loop : tie.MeasureT-loop
 
 pub append-hex-spec : {M : Type 1} → statement M
 append-hex-spec =
-    tie.close
-    (tie.spec
-    Inv-loop
-    μ-loop
+    tie.close (tie.spec Inv-loop μ-loop
     (λ c. (hex-start _ _ _ (c .before .before .pre), (omega arith, refl)))
     (λ c. search needs)
-    (λ c κs. hex-room _ _ _ (c .before .before .before .before .before .before .pre) _ _ (c .before .before .before .loop .i) (c .before .before .before .loop .inv .0) (c .before .before .loop-test .taken))
-    (λ c. search needs)
-    (λ c. search needs)
-    (λ c. (hex-next _ _ _ (c .before .before .before .before .before .before .before .before .before .pre) _ _ (c .before .before .before .before .before .before .loop .i) (c .before .before .before .before .before .before .loop .inv .0) _ _ (c .before .before .before .before .before .loop-test .taken) (c .before .before .append-hex-byte .ensures), (omega arith, search needs)))
-    (λ c. c .before .loop .inv .1 .1)
-    (λ c. hex-done _ _ _ (c .before .before .before .before .pre) _ _ (c .before .loop .i) (c .before .loop .inv .0) (c .loop-test .left)))
+    (λ c κs. let (appending, _) = c .before .before .before .loop .inv in
+    hex-room _ _ _ (c .before .before .before .before .before .before .pre) _ _ (c .before .before .before .loop .i) appending (c .before .before .loop-test .taken))
+    (λ c. search needs) (λ c. search needs)
+    (λ c. let pre = c .before .before .before .before .before .before .before .before .before .pre in
+    let loop-i = c .before .before .before .before .before .before .loop .i in
+    let (appending, _) = c .before .before .before .before .before .before .loop .inv in
+    let loop-test-taken = c .before .before .before .before .before .loop-test .taken in
+    (hex-next _ _ _ pre _ _ loop-i appending _ _ loop-test-taken (c .before .before .append-hex-byte .ensures), (omega arith, search needs)))
+    (λ c. let (_, (_, out-length)) = c .before .loop .inv in out-length)
+    (λ c. let (appending, _) = c .before .loop .inv in
+    hex-done _ _ _ (c .before .before .before .before .pre) _ _ (c .before .loop .i) appending (c .loop-test .left)))

@@ -6,11 +6,10 @@ use Rattle.rehearse_lines.proofs.append_hex_byte.Tie as tie
 
 pub append-hex-byte-spec : {M : Type 1} → statement M
 append-hex-byte-spec =
-    tie.close
-    (tie.spec
-    (λ c κs. search needs)
-    (λ c κs. search needs)
-    (λ c κs. search needs)
-    (λ c κs. search needs)
-    (λ c. search needs)
-    (λ c. byte-appended (c .before .before .before .before .before .before .before .before .before .before .before .args .out .now) _ _ (c .before .before .before .before .before .before .before .before .before .before .before .args .at) _ _ (c .before .before .before .before .before .before .before .before .before .before .before .args .byte) _ _ (c .before .before .before .before .before .before .before .before .before .before .before .pre) (c .before .before .before .before .before .before .before .before .before .hex-digit .ensures) (c .before .before .before .before .before .before .before .before .hex-digit2 .ensures) (c .before .before .before .before .before .before .append-byte .ensures) (c .before .before .append-byte2 .ensures)))
+    tie.close (tie.spec
+    (λ c κs. search needs) (λ c κs. search needs) (λ c κs. search needs) (λ c κs. search needs) (λ c. search needs)
+    (λ c. let start = c .before .before .before .before .before .before .before .before .before .before .before in let args = start .args in
+    let pre = start .pre in let hex-digit = c .before .before .before .before .before .before .before .before .before .hex-digit .ensures in
+    let hex-digit2 = c .before .before .before .before .before .before .before .before .hex-digit2 .ensures in
+    let append-byte = c .before .before .before .before .before .before .append-byte .ensures in
+    byte-appended (args .out .now) _ _ (args .at) _ _ (args .byte) _ _ pre hex-digit hex-digit2 append-byte (c .before .before .append-byte2 .ensures)))

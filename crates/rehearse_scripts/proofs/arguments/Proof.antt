@@ -19,19 +19,11 @@ abbrev μ-loop : tie.MeasureT-loop
 
 pub arguments-spec : {M : Type 1} → statement M
 arguments-spec =
-    tie.close
-    (tie.spec
-    Inv-loop
-    μ-loop
-    (λ c κs. search needs)
-    (λ c. search needs)
-    (λ c. ((omega arith, omega (arith, c .struct-known .given)), (omega (arith, c .before .read-call .ensures .near), (sym (length-replicate {0} {A = ℕ} 255 0), arguments-start _ _ _ (c .before .read-call .ensures)))))
-    (λ c κs. search needs)
-    (λ c. search needs)
-    (λ c. search needs)
-    (λ c. search needs)
-    (λ c. search needs)
-    (λ c. search needs)
+    tie.close (tie.spec Inv-loop μ-loop
+    (λ c κs. search needs) (λ c. search needs)
+    (λ c. let read-call = c .before .read-call .ensures in
+    ((omega arith, omega (arith, c .struct-known .given)), (omega (arith, read-call .near), (sym (length-replicate {0} {A = ℕ} 255 0), arguments-start _ _ _ read-call))))
+    (λ c κs. search needs) (λ c. search needs) (λ c. search needs) (λ c. search needs) (λ c. search needs) (λ c. search needs)
     (λ c. let k = c .before .before in (
       (omega arith, omega arith),
       (

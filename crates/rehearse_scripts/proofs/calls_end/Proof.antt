@@ -16,17 +16,10 @@ abbrev μ-loop : tie.MeasureT-loop
 
 pub calls-end-spec : {M : Type 1} → statement M
 calls-end-spec =
-    tie.close
-    (tie.spec
-    Inv-loop
-    μ-loop
+    tie.close (tie.spec Inv-loop μ-loop
     (λ c. (refl, omega arith))
+    (λ c. search needs) (λ c. search needs) (λ c κs. search needs) (λ c. search needs) (λ c. search needs) (λ c. search needs)
     (λ c. search needs)
-    (λ c. search needs)
-    (λ c κs. search needs)
-    (λ c. search needs)
-    (λ c. search needs)
-    (λ c. search needs)
-    (λ c. search needs)
-    (λ c. (calls-next _ _ _ _ _ (c .before .loop-test .taken) (ap (λ (n : ℕ). c .before .before .loop .at + 3 + 4 * n) (c .byte-at .ensures .0)) (c .before .before .loop .inv .0), omega arith))
-    (λ c. (calls-done _ _ _ _ (c .loop-test .left) (c .before .loop .inv .0), omega arith)))
+    (λ c. let (calls-end-is, _) = c .before .before .loop .inv in
+    (calls-next _ _ _ _ _ (c .before .loop-test .taken) (ap (λ (n : ℕ). c .before .before .loop .at + 3 + 4 * n) (c .byte-at .ensures .0)) calls-end-is, omega arith))
+    (λ c. let (calls-end-is, _) = c .before .loop .inv in (calls-done _ _ _ _ (c .loop-test .left) calls-end-is, omega arith)))

@@ -9,17 +9,10 @@ use Rattle.report.proofs.main.Tie as tie
 
 pub main-spec : {M : Type 1} → statement M
 main-spec =
-    tie.close
-    (tie.spec
-    (λ c κs. search needs)
-    (λ c κs. search needs)
-    (λ c. search needs)
-    (λ c κs. search needs)
-    (λ c. search needs)
-    (λ c. search needs)
-    (λ c. search needs)
-    (λ c κs. search needs)
+    tie.close (tie.spec
+    (λ c κs. search needs) (λ c κs. search needs) (λ c. search needs) (λ c κs. search needs) (λ c. search needs) (λ c. search needs)
+    (λ c. search needs) (λ c κs. search needs)
     (λ c. omega (arith, report-within _ _ _ (c .before .report .ensures .1)))
-    (λ c. sym (length-take-le (c .before .before .report .result .length) (c .before .before .report .last .1 .0) (omega (arith, report-within _ _ _ (c .before .before .report .ensures .1)))))
-    (λ c κs. search needs)
-    (λ c. search needs))
+    (λ c. let report = c .before .before .report in
+    sym (length-take-le (report .result .length) (report .last .1 .0) (omega (arith, report-within _ _ _ (report .ensures .1)))))
+    (λ c κs. search needs) (λ c. search needs))

@@ -6,11 +6,10 @@ use Rattle.report_contract.proofs.append_text.Tie as tie
 
 pub append-text-spec : {M : Type 1} → statement M
 append-text-spec =
-    tie.close
-    (tie.spec
+    tie.close (tie.spec
     (λ c κs. search needs)
-    (λ c κs. line-fits (c .before .before .before .before .args .file .now) _ _ (c .before .before .before .before .pre .1))
-    (λ c. search needs)
-    (λ c. search needs)
-    (λ c. search needs)
-    (λ c. line-told (c .before .before .before .before .before .before .before .args .file .now) _ (c .before .before .before .before .before .before .before .pre .0) (c .before .before .before .before .if1 .left) _ _ _ (c .before .before .refused-line .ensures)))
+    (λ c κs. let (_, text-room) = c .before .before .before .before .pre in line-fits (c .before .before .before .before .args .file .now) _ _ text-room)
+    (λ c. search needs) (λ c. search needs) (λ c. search needs)
+    (λ c. let start = c .before .before .before .before .before .before .before in let args-file = start .args .file .now in
+    let (number-is, _) = start .pre in
+    line-told args-file _ number-is (c .before .before .before .before .if1 .left) _ _ _ (c .before .before .refused-line .ensures)))

@@ -16,16 +16,10 @@ abbrev μ-append-digits : Measures 1 append-digits-kinds.ps ℕ
 μ-append-digits κs a = a .0
 
 abbrev append-digits-at : ℕ → In 1 append-digits-kinds.ps
-append-digits-at t =
-    and 1 append-digits-kinds.ps (is 1 append-digits-kinds.ps μ-append-digits t) append-digits.Pre
+append-digits-at t = and 1 append-digits-kinds.ps (is 1 append-digits-kinds.ps μ-append-digits t) append-digits.Pre
 
 abbrev append-digits-below : ℕ → In 1 append-digits-kinds.ps
-append-digits-below t =
-    and
-    1
-    append-digits-kinds.ps
-    (falls 1 append-digits-kinds.ps _<_ μ-append-digits t)
-    append-digits.Pre
+append-digits-below t = and 1 append-digits-kinds.ps (falls 1 append-digits-kinds.ps _<_ μ-append-digits t) append-digits.Pre
 
 pub +append-digits-spec : {M : Type 1} → statement M
 +append-digits-spec = close μ-append-digits λ t. append-digits-lts.spec (
@@ -34,18 +28,19 @@ pub +append-digits-spec : {M : Type 1} → statement M
   append-digits-below t,
   append-digits.Post,
 )
-    (append-digits-at t)
-    append-digits.Post
+    (append-digits-at t) append-digits.Post
+    (λ c. search needs) (λ c. search needs)
+    (λ c κs. let (_, out-room) = c .before .before .before .before .pre in one-room _ _ _ (omega arith) _ (omega arith) out-room)
     (λ c. search needs)
-    (λ c. search needs)
-    (λ c κs. one-room _ _ _ (omega arith) _ (omega arith) (c .before .before .before .before .pre .1))
-    (λ c. search needs)
-    (λ c κs. let room = front-room _ _ _ (omega arith) _ (omega arith) (c .before .before .before .before .pre .1) in (omega arith, omega arith))
-    (λ c. search needs)
-    (λ c. search needs)
-    (λ c κs. last-room _ _ _ (omega arith) _ _ _ (omega arith) (c .before .before .before .before .before .before .before .before .pre .1) (c .before .before .before .append-digits .ensures))
+    (λ c κs. let (_, out-room) = c .before .before .before .before .pre in
+    let room = front-room _ _ _ (omega arith) _ (omega arith) out-room in (omega arith, omega arith))
+    (λ c. search needs) (λ c. search needs)
+    (λ c κs. let (_, out-room) = c .before .before .before .before .before .before .before .before .pre in
+    last-room _ _ _ (omega arith) _ _ _ (omega arith) out-room (c .before .before .before .append-digits .ensures))
     (λ c. none-appended _ _ _ _ (c .if1 .taken))
     (λ c. search needs)
     (λ c. one-appended _ _ _ (omega arith) _ _ _ (omega arith) (c .before .before .append-byte .ensures))
     (λ c. search needs)
-    (λ c. more-appended _ _ _ (omega arith) _ _ _ _ _ (omega arith) (c .before .before .before .before .before .before .before .before .before .before .before .pre .1) (c .before .before .before .before .before .before .append-digits .ensures) (c .before .before .append-byte2 .ensures))
+    (λ c. let (_, out-room) = c .before .before .before .before .before .before .before .before .before .before .before .pre in
+    let append-digits-2 = c .before .before .before .before .before .before .append-digits .ensures in
+    more-appended _ _ _ (omega arith) _ _ _ _ _ (omega arith) out-room append-digits-2 (c .before .before .append-byte2 .ensures))

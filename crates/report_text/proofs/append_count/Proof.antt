@@ -7,4 +7,6 @@ use Rattle.report_text.proofs.append_count.Tie as tie
 
 pub append-count-spec : {M : Type 1} → statement M
 append-count-spec =
-    tie.close (tie.spec (λ c κs. search needs) (λ c κs. search needs) (λ c. search needs) (λ c. appended-then (c .before .before .before .before .before .before .before .before .before .args .out .now) (c .before .before .before .before .before .before .before .before .before .args .at) _ _ _ _ _ _ (c .before .before .before .before .before .before .append-byte .ensures) (omega arith) (c .before .before .append-digits .ensures)))
+    tie.close (tie.spec (λ c κs. search needs) (λ c κs. search needs) (λ c. search needs) (λ c. let args = c .before .before .before .before .before .before .before .before .before .args in
+    let append-byte = c .before .before .before .before .before .before .append-byte .ensures in
+    appended-then (args .out .now) (args .at) _ _ _ _ _ _ append-byte (omega arith) (c .before .before .append-digits .ensures)))

@@ -21,17 +21,21 @@ abbrev μ-loop : tie.MeasureT-loop
 
 pub append-tallies-spec : {M : Type 1} → statement M
 append-tallies-spec =
-    tie.close
-    (tie.spec
-    Inv-loop
-    μ-loop
-    (λ c. (lines-start (c .before .before .before .args .counts .now) (c .before .before .before .args .order .now) (c .before .before .before .pre .0) (c .before .before .before .args .out .now) (c .before .before .before .args .from) (c .before .before .before .pre .1), omega arith, refl))
+    tie.close (tie.spec Inv-loop μ-loop
+    (λ c. let start = c .before .before .before in let args = start .args in let (order-room, out-room) = start .pre in
+    (lines-start (args .counts .now) (args .order .now) order-room (args .out .now) (args .from) out-room, omega arith, refl))
     (λ c. search needs)
     (λ c. omega (arith, c .before .before .before .before .shared-slice-known2 .given (c .before .before .loop .i)))
     (λ c κs. search needs)
-    (λ c κs. line-room (c .before .before .before .before .before .before .before .before .args .counts .now) (c .before .before .before .before .before .before .before .before .args .order .now) (c .before .before .before .before .before .before .before .before .pre .0) (c .before .before .before .before .before .before .before .before .args .out .now) (c .before .before .before .before .before .before .before .before .args .from) (c .before .before .before .before .before .before .before .before .pre .1) _ (c .before .before .before .before .loop .i) _ _ (omega arith) (c .before .count-of .ensures) (c .before .before .before .before .loop .inv .0))
+    (λ c κs. let start = c .before .before .before .before .before .before .before .before in let args = start .args in
+    let (order-room, out-room) = start .pre in let (appended-2, _, _) = c .before .before .before .before .loop .inv in
+    line-room (args .counts .now) (args .order .now) order-room (args .out .now) (args .from) out-room _ (c .before .before .before .before .loop .i) _ _ (omega arith) (c .before .count-of .ensures) appended-2)
+    (λ c. search needs) (λ c. search needs)
+    (λ c. let start = c .before .before .before .before .before .before .before .before .before .before .before in let args = start .args in
+    let (order-room, out-room) = start .pre in let loop-i = c .before .before .before .before .before .before .before .loop .i in
+    let (appended-2, _, _) = c .before .before .before .before .before .before .before .loop .inv in
+    (line-appended (args .counts .now) (args .order .now) order-room (args .out .now) (args .from) out-room _ _ loop-i _ _ _ (omega arith) (c .before .before .before .before .count-of .ensures) appended-2 (c .before .before .append-tally .ensures), omega arith, search needs))
     (λ c. search needs)
-    (λ c. search needs)
-    (λ c. (line-appended (c .before .before .before .before .before .before .before .before .before .before .before .args .counts .now) (c .before .before .before .before .before .before .before .before .before .before .before .args .order .now) (c .before .before .before .before .before .before .before .before .before .before .before .pre .0) (c .before .before .before .before .before .before .before .before .before .before .before .args .out .now) (c .before .before .before .before .before .before .before .before .before .before .before .args .from) (c .before .before .before .before .before .before .before .before .before .before .before .pre .1) _ _ (c .before .before .before .before .before .before .before .loop .i) _ _ _ (omega arith) (c .before .before .before .before .count-of .ensures) (c .before .before .before .before .before .before .before .loop .inv .0) (c .before .before .append-tally .ensures), omega arith, search needs))
-    (λ c. search needs)
-    (λ c. lines-done (c .before .before .before .before .before .args .counts .now) (c .before .before .before .before .before .args .order .now) (c .before .before .before .before .before .pre .0) (c .before .before .before .before .before .args .out .now) (c .before .before .before .before .before .args .from) (c .before .before .before .before .before .pre .1) _ (c .before .loop .i) _ (omega arith) (c .before .loop .inv .0)))
+    (λ c. let start = c .before .before .before .before .before in let args = start .args in let (order-room, out-room) = start .pre in
+    let (appended-2, _, _) = c .before .loop .inv in
+    lines-done (args .counts .now) (args .order .now) order-room (args .out .now) (args .from) out-room _ (c .before .loop .i) _ (omega arith) appended-2))

@@ -9,10 +9,17 @@ use Rattle.report_text.proofs.append_tally.Tie as tie
 
 pub append-tally-spec : {M : Type 1} → statement M
 append-tally-spec =
-    tie.close
-    (tie.spec
-    (λ c κs. first-room (c .before .before .args .out .now) (c .before .before .args .at) (decimal (c .before .before .args .function)) (spacedCount (c .before .before .args .count)) (10 ∷ []) (c .before .before .pre))
-    (λ c κs. second-room (c .before .before .before .before .before .before .args .out .now) (c .before .before .before .before .before .before .args .at) (decimal (c .before .before .before .before .before .before .args .function)) (spacedCount (c .before .before .before .before .before .before .args .count)) (10 ∷ []) (c .before .before .before .before .before .before .pre) _ _ (c .before .before .before .append-digits .ensures))
-    (λ c κs. third-room (c .before .before .before .before .before .before .before .before .before .before .args .out .now) (c .before .before .before .before .before .before .before .before .before .before .args .at) (decimal (c .before .before .before .before .before .before .before .before .before .before .args .function)) (spacedCount (c .before .before .before .before .before .before .before .before .before .before .args .count)) (10 ∷ []) (c .before .before .before .before .before .before .before .before .before .before .pre) _ _ _ _ (c .before .before .before .before .before .before .before .append-digits .ensures) (c .before .before .before .append-count .ensures))
+    tie.close (tie.spec
+    (λ c κs. let args = c .before .before .args in
+    first-room (args .out .now) (args .at) (decimal (args .function)) (spacedCount (args .count)) (10 ∷ []) (c .before .before .pre))
+    (λ c κs. let start = c .before .before .before .before .before .before in let args = start .args in let pre = start .pre in
+    second-room (args .out .now) (args .at) (decimal (args .function)) (spacedCount (args .count)) (10 ∷ []) pre _ _ (c .before .before .before .append-digits .ensures))
+    (λ c κs. let start = c .before .before .before .before .before .before .before .before .before .before in let args = start .args in
+    let pre = start .pre in let append-digits = c .before .before .before .before .before .before .before .append-digits .ensures in
+    third-room (args .out .now) (args .at) (decimal (args .function)) (spacedCount (args .count)) (10 ∷ []) pre _ _ _ _ append-digits (c .before .before .before .append-count .ensures))
     (λ c. search needs)
-    (λ c. three-appended (c .before .before .before .before .before .before .before .before .before .before .before .before .before .args .out .now) (c .before .before .before .before .before .before .before .before .before .before .before .before .before .args .at) (decimal (c .before .before .before .before .before .before .before .before .before .before .before .before .before .args .function)) (spacedCount (c .before .before .before .before .before .before .before .before .before .before .before .before .before .args .count)) (10 ∷ []) (c .before .before .before .before .before .before .before .before .before .before .before .before .before .pre) _ _ _ _ _ _ (c .before .before .before .before .before .before .before .before .before .before .append-digits .ensures) (c .before .before .before .before .before .before .append-count .ensures) (c .before .before .append-byte .ensures)))
+    (λ c. let start = c .before .before .before .before .before .before .before .before .before .before .before .before .before in
+    let args = start .args in let pre = start .pre in
+    let append-digits = c .before .before .before .before .before .before .before .before .before .before .append-digits .ensures in
+    let append-count = c .before .before .before .before .before .before .append-count .ensures in
+    three-appended (args .out .now) (args .at) (decimal (args .function)) (spacedCount (args .count)) (10 ∷ []) pre _ _ _ _ _ _ append-digits append-count (c .before .before .append-byte .ensures)))

@@ -1,4 +1,3 @@
--- `rewrite_owners::address_code` meets its contract.
 use mathlib.Core.Path.{sym, _∙_}
 use native.Mathlib.Omega.{arith}
 use Rattle.rewrite_owners.proofs.Declared.{address-named, address-private, address-other, address-missing}
@@ -8,20 +7,9 @@ use Rattle.rewrite_owners.proofs.address_code.Tie as tie
 
 pub address-code-spec : {M : Type 1} → statement M
 address-code-spec =
-    tie.close
-    (tie.spec
-    (λ c κs. search needs)
-    (λ c. search needs)
-    (λ c. search needs)
-    (λ c. search needs)
-    (λ c κs. search needs)
-    (λ c. search needs)
-    (λ c. search needs)
-    (λ c. search needs)
-    (λ c. search needs)
-    (λ c κs. search needs)
-    (λ c. search needs)
-    (λ c. search needs)
+    tie.close (tie.spec
+    (λ c κs. search needs) (λ c. search needs) (λ c. search needs) (λ c. search needs) (λ c κs. search needs) (λ c. search needs)
+    (λ c. search needs) (λ c. search needs) (λ c. search needs) (λ c κs. search needs) (λ c. search needs) (λ c. search needs)
     (λ c. address-other _ _ _ (omega arith) (omega arith))
     (λ c. address-named _ _ _ (omega arith) (omega arith) (sym (c .before .before .byte-at3 .ensures .0) ∙ c .if3 .taken))
     (λ c. address-private _ _ _ (omega arith) (λ e. c .if3 .left (c .before .before .byte-at3 .ensures .0 ∙ e)))

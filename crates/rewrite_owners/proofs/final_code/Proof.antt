@@ -1,4 +1,3 @@
--- `rewrite_owners::final_code` meets its contract.
 use mathlib.Core.Path.{sym, _∙_}
 use native.Mathlib.Omega.{arith}
 use Rattle.rewrite_owners.proofs.Declared.{final-named, final-unnamed, final-missing}
@@ -8,14 +7,8 @@ use Rattle.rewrite_owners.proofs.final_code.Tie as tie
 
 pub final-code-spec : {M : Type 1} → statement M
 final-code-spec =
-    tie.close
-    (tie.spec
-    (λ c κs. search needs)
-    (λ c. search needs)
-    (λ c. search needs)
-    (λ c κs. search needs)
-    (λ c. search needs)
-    (λ c. search needs)
+    tie.close (tie.spec
+    (λ c κs. search needs) (λ c. search needs) (λ c. search needs) (λ c κs. search needs) (λ c. search needs) (λ c. search needs)
     (λ c. final-named _ _ (omega arith) (sym (c .before .byte-at2 .ensures .0) ∙ c .if2 .taken))
     (λ c. final-unnamed _ _ (omega arith) (λ e. c .if2 .left (c .before .byte-at2 .ensures .0 ∙ e)))
     (λ c. final-missing _ _ (omega arith)))

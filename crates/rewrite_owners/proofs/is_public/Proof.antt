@@ -1,4 +1,3 @@
--- `rewrite_owners::is_public` meets its contract.
 use Rattle.rewrite_owners.proofs.Names.{tested-public}
 use borrow.Author.Needs.{needs}
 use Rattle.rewrite_owners.proofs.is_public.Statement.{statement}

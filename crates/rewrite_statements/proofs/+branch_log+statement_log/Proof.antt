@@ -27,24 +27,16 @@ abbrev μ-statement-log : Measures 2 statement-log-kinds.ps ℕ
 μ-statement-log κs a = 2 * a .1 .1 .1 .0
 
 abbrev branch-log-at : ℕ → In 2 branch-log-kinds.ps
-branch-log-at t =
-    and 2 branch-log-kinds.ps (is 2 branch-log-kinds.ps μ-branch-log t) branch-log.Pre
+branch-log-at t = and 2 branch-log-kinds.ps (is 2 branch-log-kinds.ps μ-branch-log t) branch-log.Pre
 
 abbrev branch-log-below : ℕ → In 2 branch-log-kinds.ps
-branch-log-below t =
-    and 2 branch-log-kinds.ps (falls 2 branch-log-kinds.ps _<_ μ-branch-log t) branch-log.Pre
+branch-log-below t = and 2 branch-log-kinds.ps (falls 2 branch-log-kinds.ps _<_ μ-branch-log t) branch-log.Pre
 
 abbrev statement-log-at : ℕ → In 2 statement-log-kinds.ps
-statement-log-at t =
-    and 2 statement-log-kinds.ps (is 2 statement-log-kinds.ps μ-statement-log t) statement-log.Pre
+statement-log-at t = and 2 statement-log-kinds.ps (is 2 statement-log-kinds.ps μ-statement-log t) statement-log.Pre
 
 abbrev statement-log-below : ℕ → In 2 statement-log-kinds.ps
-statement-log-below t =
-    and
-    2
-    statement-log-kinds.ps
-    (falls 2 statement-log-kinds.ps _<_ μ-statement-log t)
-    statement-log.Pre
+statement-log-below t = and 2 statement-log-kinds.ps (falls 2 statement-log-kinds.ps _<_ μ-statement-log t) statement-log.Pre
 
 pub +branch-log+statement-log-spec : {M : Type 1} → statement M
 +branch-log+statement-log-spec = close μ-branch-log μ-statement-log (λ t. branch-log-lts.spec (
@@ -53,14 +45,16 @@ pub +branch-log+statement-log-spec : {M : Type 1} → statement M
   statement-log-below t,
   statement-log.Post,
 )
-    (branch-log-at t)
-    branch-log.Post
-    (λ c κs. (guard-slot _ _ _ _ _ _ (c .before .before .before .pre .1), guard-small _ _ _ _ _ _ (c .before .before .before .pre .1)))
-    (λ c. omega (arith, guard-slot _ _ _ _ _ _ (c .before .before .before .before .before .before .pre .1) .few))
-    (λ c. omega (arith, guard-slot _ _ _ _ _ _ (c .before .before .before .before .before .before .pre .1) .few))
-    (λ c κs. (omega arith, inside-ready _ _ _ _ _ _ (c .before .before .before .before .before .before .before .pre .1) _ _ (c .before .before .before .log-entry .ensures)))
+    (branch-log-at t) branch-log.Post
+    (λ c κs. let (_, ready) = c .before .before .before .pre in (guard-slot _ _ _ _ _ _ ready, guard-small _ _ _ _ _ _ ready))
+    (λ c. let (_, ready) = c .before .before .before .before .before .before .pre in omega (arith, guard-slot _ _ _ _ _ _ ready .few))
+    (λ c. let (_, ready) = c .before .before .before .before .before .before .pre in omega (arith, guard-slot _ _ _ _ _ _ ready .few))
+    (λ c κs. let (_, ready) = c .before .before .before .before .before .before .before .pre in
+    (omega arith, inside-ready _ _ _ _ _ _ ready _ _ (c .before .before .before .log-entry .ensures)))
     (λ c. c .before .before .statement-log .kept .1 .1 .1 .1 .1 .0 ∙ c .before .before .before .before .before .before .log-entry .kept .0)
-    (λ c. branch-done _ _ _ _ _ _ (c .before .before .before .before .before .before .before .before .before .before .pre .1) _ _ (c .before .before .before .before .before .before .log-entry .ensures) _ _ (c .before .before .statement-log .ensures)))
+    (λ c. let (_, ready) = c .before .before .before .before .before .before .before .before .before .before .pre in
+    let log-entry = c .before .before .before .before .before .before .log-entry .ensures in
+    branch-done _ _ _ _ _ _ ready _ _ log-entry _ _ (c .before .before .statement-log .ensures)))
     λ t. statement-log-lts.spec (
       node-at-reads.Asked,
       node-at-reads.Learnt,
@@ -75,26 +69,64 @@ pub +branch-log+statement-log-spec : {M : Type 1} → statement M
       branch-log-below t,
       branch-log.Post,
     )
-    (statement-log-at t)
-    statement-log.Post
-    (λ c κs. (c .before .before .pre .1 .context .nearNodes, omega (arith, c .before .before .pre .1 .inside, c .before .before .pre .1 .context .fewNodes)))
-    (λ c κs. let less = steps-less _ _ _ (c .before .before .before .before .before .args .guard) _ _ _ (c .before .before .before .before .before .pre .1) _ (c .before .before .node-at .ensures .same) (c .before .match .keys1) in (omega arith, first-ready _ _ _ (c .before .before .before .before .before .args .guard) _ _ _ (c .before .before .before .before .before .pre .1) _ (c .before .before .node-at .ensures .same) (c .before .match .keys1)))
-    (λ c κs. let less = steps-less _ _ _ (c .before .before .before .before .before .before .before .before .before .args .guard) _ _ _ (c .before .before .before .before .before .before .before .before .before .pre .1) _ (c .before .before .before .before .before .before .node-at .ensures .same) (c .before .before .before .before .before .match .keys1) in (omega arith, second-ready _ _ _ (c .before .before .before .before .before .before .before .before .before .args .guard) _ _ _ (c .before .before .before .before .before .before .before .before .before .pre .1) _ (c .before .before .before .before .before .before .node-at .ensures .same) (c .before .before .before .before .before .match .keys1) _ _ (c .before .before .before .statement-log .ensures)))
-    (λ c κs. (c .before .before .node-at .ensures .smallArg, assign-field-ready _ _ _ (c .before .before .before .before .before .args .guard) _ _ _ (c .before .before .before .before .before .pre .1) _ (c .before .before .node-at .ensures .same) (c .before .match .keys2)))
-    (λ c κs. ((c .before .before .node-at .ensures .smallArg, entry-value-inside _ _ _ (c .before .before .before .before .before .args .guard) _ _ _ (c .before .before .before .before .before .pre .1) _ (c .before .before .node-at .ensures .same) (c .before .match .keys3)), assign-entry-ready _ _ _ (c .before .before .before .before .before .args .guard) _ _ _ (c .before .before .before .before .before .pre .1) _ (c .before .before .node-at .ensures .same) (c .before .match .keys3)))
-    (λ c κs. require-ready _ _ _ (c .before .before .before .before .before .args .guard) _ _ _ (c .before .before .before .before .before .pre .1) _ (c .before .before .node-at .ensures .same) (c .before .match .keys4))
-    (λ c κs. condition-ready _ _ _ (c .before .before .before .before .before .args .guard) _ _ _ (c .before .before .before .before .before .pre .1) _ (c .before .before .node-at .ensures .same) (c .before .match .keys5))
-    (λ c κs. let less = branches-less _ _ _ (c .before .before .before .before .before .before .before .before .before .args .guard) _ _ _ (c .before .before .before .before .before .before .before .before .before .pre .1) _ (c .before .before .before .before .before .before .node-at .ensures .same) (c .before .before .before .before .before .match .keys5) in (omega arith, then-ready _ _ _ (c .before .before .before .before .before .before .before .before .before .args .guard) _ _ _ (c .before .before .before .before .before .before .before .before .before .pre .1) _ (c .before .before .before .before .before .before .node-at .ensures .same) (c .before .before .before .before .before .match .keys5) _ _ (c .before .before .before .body-log2 .ensures)))
-    (λ c κs. let less = branches-less _ _ _ (c .before .before .before .before .before .before .before .before .before .before .before .before .before .args .guard) _ _ _ (c .before .before .before .before .before .before .before .before .before .before .before .before .before .pre .1) _ (c .before .before .before .before .before .before .before .before .before .before .node-at .ensures .same) (c .before .before .before .before .before .before .before .before .before .match .keys5) in (omega arith, else-ready _ _ _ (c .before .before .before .before .before .before .before .before .before .before .before .before .before .args .guard) _ _ _ (c .before .before .before .before .before .before .before .before .before .before .before .before .before .pre .1) _ (c .before .before .before .before .before .before .before .before .before .before .node-at .ensures .same) (c .before .before .before .before .before .before .before .before .before .match .keys5) _ _ (c .before .before .before .before .before .before .before .body-log2 .ensures) _ _ (c .before .before .before .branch-log .ensures)))
+    (statement-log-at t) statement-log.Post
+    (λ c κs. let (_, ready) = c .before .before .pre in (ready .context .nearNodes, omega (arith, ready .inside, ready .context .fewNodes)))
+    (λ c κs. let start = c .before .before .before .before .before in let args-guard = start .args .guard in let (_, ready) = start .pre in
+    let node-at-same = c .before .before .node-at .ensures .same in let match-keys1 = c .before .match .keys1 in
+    let less = steps-less _ _ _ args-guard _ _ _ ready _ node-at-same match-keys1 in (omega arith, first-ready _ _ _ args-guard _ _ _ ready _ node-at-same match-keys1))
+    (λ c κs. let start = c .before .before .before .before .before .before .before .before .before in let args-guard = start .args .guard in
+    let (_, ready) = start .pre in let node-at-same = c .before .before .before .before .before .before .node-at .ensures .same in
+    let match-keys1 = c .before .before .before .before .before .match .keys1 in
+    let less = steps-less _ _ _ args-guard _ _ _ ready _ node-at-same match-keys1 in (omega arith, second-ready _ _ _ args-guard _ _ _ ready _ node-at-same match-keys1 _ _ (c .before .before .before .statement-log .ensures)))
+    (λ c κs. let start = c .before .before .before .before .before in let args-guard = start .args .guard in let (_, ready) = start .pre in
+    let node-at = c .before .before .node-at .ensures in
+    (node-at .smallArg, assign-field-ready _ _ _ args-guard _ _ _ ready _ (node-at .same) (c .before .match .keys2)))
+    (λ c κs. let start = c .before .before .before .before .before in let args-guard = start .args .guard in let (_, ready) = start .pre in
+    let node-at = c .before .before .node-at .ensures in let match-keys3 = c .before .match .keys3 in
+    ((node-at .smallArg, entry-value-inside _ _ _ args-guard _ _ _ ready _ (node-at .same) match-keys3), assign-entry-ready _ _ _ args-guard _ _ _ ready _ (node-at .same) match-keys3))
+    (λ c κs. let (_, ready) = c .before .before .before .before .before .pre in
+    require-ready _ _ _ (c .before .before .before .before .before .args .guard) _ _ _ ready _ (c .before .before .node-at .ensures .same) (c .before .match .keys4))
+    (λ c κs. let (_, ready) = c .before .before .before .before .before .pre in
+    condition-ready _ _ _ (c .before .before .before .before .before .args .guard) _ _ _ ready _ (c .before .before .node-at .ensures .same) (c .before .match .keys5))
+    (λ c κs. let start = c .before .before .before .before .before .before .before .before .before in let args-guard = start .args .guard in
+    let (_, ready) = start .pre in let node-at-same = c .before .before .before .before .before .before .node-at .ensures .same in
+    let match-keys5 = c .before .before .before .before .before .match .keys5 in
+    let less = branches-less _ _ _ args-guard _ _ _ ready _ node-at-same match-keys5 in (omega arith, then-ready _ _ _ args-guard _ _ _ ready _ node-at-same match-keys5 _ _ (c .before .before .before .body-log2 .ensures)))
+    (λ c κs. let start = c .before .before .before .before .before .before .before .before .before .before .before .before .before in
+    let args-guard = start .args .guard in let (_, ready) = start .pre in
+    let node-at-same = c .before .before .before .before .before .before .before .before .before .before .node-at .ensures .same in
+    let match-keys5 = c .before .before .before .before .before .before .before .before .before .match .keys5 in
+    let body-log2 = c .before .before .before .before .before .before .before .body-log2 .ensures in
+    let less = branches-less _ _ _ args-guard _ _ _ ready _ node-at-same match-keys5 in (omega arith, else-ready _ _ _ args-guard _ _ _ ready _ node-at-same match-keys5 _ _ body-log2 _ _ (c .before .before .before .branch-log .ensures)))
     (λ c. c .before .before .statement-log2 .kept .1 .1 .1 .1 .1 .0 ∙ c .before .before .before .before .before .before .statement-log .kept .1 .1 .1 .1 .1 .0)
-    (λ c. sequence-logged _ _ _ (c .before .before .before .before .before .before .before .before .before .before .before .before .args .guard) _ _ _ (c .before .before .before .before .before .before .before .before .before .before .before .before .pre .1) _ (c .before .before .before .before .before .before .before .before .before .node-at .ensures .same) (c .before .before .before .before .before .before .before .before .match .keys1) _ _ (c .before .before .before .before .before .before .statement-log .ensures) _ _ (c .before .before .statement-log2 .ensures))
+    (λ c. let start = c .before .before .before .before .before .before .before .before .before .before .before .before in
+    let args-guard = start .args .guard in let (_, ready) = start .pre in
+    let node-at-same = c .before .before .before .before .before .before .before .before .before .node-at .ensures .same in
+    let match-keys1 = c .before .before .before .before .before .before .before .before .match .keys1 in
+    let statement-log-2 = c .before .before .before .before .before .before .statement-log .ensures in
+    sequence-logged _ _ _ args-guard _ _ _ ready _ node-at-same match-keys1 _ _ statement-log-2 _ _ (c .before .before .statement-log2 .ensures))
     (λ c. c .before .before .assign-field-log .kept .1 .1 .1 .1 .1 .1 .0)
-    (λ c. assign-field-logged _ _ _ (c .before .before .before .before .before .before .before .before .args .guard) _ _ _ (c .before .before .before .before .before .before .before .before .pre .1) _ (c .before .before .before .before .before .node-at .ensures .same) (c .before .before .before .before .match .keys2) _ _ (c .before .before .assign-field-log .ensures))
+    (λ c. let start = c .before .before .before .before .before .before .before .before in let args-guard = start .args .guard in
+    let (_, ready) = start .pre in let node-at-same = c .before .before .before .before .before .node-at .ensures .same in
+    assign-field-logged _ _ _ args-guard _ _ _ ready _ node-at-same (c .before .before .before .before .match .keys2) _ _ (c .before .before .assign-field-log .ensures))
     (λ c. c .before .before .assign-entry-log .kept .1 .1 .1 .1 .1 .1 .1 .0)
-    (λ c. assign-entry-logged _ _ _ (c .before .before .before .before .before .before .before .before .args .guard) _ _ _ (c .before .before .before .before .before .before .before .before .pre .1) _ (c .before .before .before .before .before .node-at .ensures .same) (c .before .before .before .before .match .keys3) _ _ (c .before .before .assign-entry-log .ensures))
+    (λ c. let start = c .before .before .before .before .before .before .before .before in let args-guard = start .args .guard in
+    let (_, ready) = start .pre in let node-at-same = c .before .before .before .before .before .node-at .ensures .same in
+    assign-entry-logged _ _ _ args-guard _ _ _ ready _ node-at-same (c .before .before .before .before .match .keys3) _ _ (c .before .before .assign-entry-log .ensures))
     (λ c. c .before .before .body-log .kept .1 .1 .1 .1 .1 .0)
-    (λ c. require-logged _ _ _ (c .before .before .before .before .before .before .before .before .args .guard) _ _ _ (c .before .before .before .before .before .before .before .before .pre .1) _ (c .before .before .before .before .before .node-at .ensures .same) (c .before .before .before .before .match .keys4) _ _ (c .before .before .body-log .ensures))
-    (λ c. c .before .before .branch-log2 .kept .1 .1 .1 .1 .0 ∙ c .before .before .before .before .before .before .branch-log .kept .1 .1 .1 .1 .0 ∙ c .before .before .before .before .before .before .before .before .before .before .body-log2 .kept .1 .1 .1 .1 .1 .0)
-    (λ c. conditional-logged _ _ _ (c .before .before .before .before .before .before .before .before .before .before .before .before .before .before .before .before .args .guard) _ _ _ (c .before .before .before .before .before .before .before .before .before .before .before .before .before .before .before .before .pre .1) _ (c .before .before .before .before .before .before .before .before .before .before .before .before .before .node-at .ensures .same) (c .before .before .before .before .before .before .before .before .before .before .before .before .match .keys5) _ _ (c .before .before .before .before .before .before .before .before .before .before .body-log2 .ensures) _ _ (c .before .before .before .before .before .before .branch-log .ensures) _ _ (c .before .before .branch-log2 .ensures))
-    (λ c. let u = c .match .rest in
-    still-logged _ _ _ (c .before .before .before .before .args .guard) _ _ _ (c .before .before .before .before .pre .1) _ (c .before .node-at .ensures .same) (record { sequence = u .0 .0 .0 .0 .1; assignField = u .0 .0 .0 .1; assignEntry = u .0 .0 .1; require = u .0 .1; conditional = u .1 }))
+    (λ c. let start = c .before .before .before .before .before .before .before .before in let args-guard = start .args .guard in
+    let (_, ready) = start .pre in let node-at-same = c .before .before .before .before .before .node-at .ensures .same in
+    require-logged _ _ _ args-guard _ _ _ ready _ node-at-same (c .before .before .before .before .match .keys4) _ _ (c .before .before .body-log .ensures))
+    (λ c. let body-log2-kept = c .before .before .before .before .before .before .before .before .before .before .body-log2 .kept .1 .1 .1 .1 .1 .0 in
+    let branch-log-kept = c .before .before .before .before .before .before .branch-log .kept .1 .1 .1 .1 .0 in
+    c .before .before .branch-log2 .kept .1 .1 .1 .1 .0 ∙ branch-log-kept ∙ body-log2-kept)
+    (λ c. let start = c .before .before .before .before .before .before .before .before .before .before .before .before .before .before .before .before in
+    let args-guard = start .args .guard in let (_, ready) = start .pre in
+    let node-at-same = c .before .before .before .before .before .before .before .before .before .before .before .before .before .node-at .ensures .same in
+    let match-keys5 = c .before .before .before .before .before .before .before .before .before .before .before .before .match .keys5 in
+    let body-log2 = c .before .before .before .before .before .before .before .before .before .before .body-log2 .ensures in
+    let branch-log-2 = c .before .before .before .before .before .before .branch-log .ensures in
+    conditional-logged _ _ _ args-guard _ _ _ ready _ node-at-same match-keys5 _ _ body-log2 _ _ branch-log-2 _ _ (c .before .before .branch-log2 .ensures))
+    (λ c. let (_, ready) = c .before .before .before .before .pre in
+    let u = c .match .rest in
+    still-logged _ _ _ (c .before .before .before .before .args .guard) _ _ _ ready _ (c .before .node-at .ensures .same) (record { sequence = u .0 .0 .0 .0 .1; assignField = u .0 .0 .0 .1; assignEntry = u .0 .0 .1; require = u .0 .1; conditional = u .1 }))

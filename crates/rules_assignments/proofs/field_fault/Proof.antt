@@ -1,4 +1,3 @@
--- `rules_assignments::field_fault` meets its contract.
 use Rattle.rules_codes.proofs.Codes.{place-listed}
 use Rattle.definitions.specs.Numbers.{targetInTables}
 use mathlib.Core.Path.{refl, ap, _∙_}

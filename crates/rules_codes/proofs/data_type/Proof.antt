@@ -1,4 +1,3 @@
--- `rules_codes::data_type` meets its contract.
 use borrow.Author.Tests.{ne-eqb}
 use Rattle.rules_codes.proofs.data_type.Statement.{statement}
 use Rattle.rules_codes.proofs.data_type.Tie as tie

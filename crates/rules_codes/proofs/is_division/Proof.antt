@@ -1,4 +1,3 @@
--- `rules_codes::is_division` meets its contract.
 use Rattle.rules_codes.proofs.Codes.{division-code}
 use mathlib.Core.Path.{_∙_}
 use borrow.Author.Needs.{needs}

@@ -1,4 +1,3 @@
--- `rules_codes::misplaced` meets its contract.
 use Rattle.rules_codes.proofs.Codes.{put-by-all, put-for-all, put-linked}
 use mathlib.Core.Path.{_∙_}
 use borrow.Author.Needs.{needs}

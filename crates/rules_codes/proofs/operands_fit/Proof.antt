@@ -1,4 +1,3 @@
--- `rules_codes::operands_fit` meets its contract.
 use Rattle.rules_codes.proofs.Codes.{fit-rest}
 use mathlib.Core.Path.{sym, _∙_}
 use borrow.Author.Needs.{needs}
@@ -7,11 +6,8 @@ use Rattle.rules_codes.proofs.operands_fit.Tie as tie
 
 pub operands-fit-spec : {M : Type 1} → statement M
 operands-fit-spec =
-    tie.close
-    (tie.spec
-    (λ c κs. search needs)
-    (λ c κs. search needs)
-    (λ c κs. search needs)
+    tie.close (tie.spec
+    (λ c κs. search needs) (λ c κs. search needs) (λ c κs. search needs)
     (λ c. rw (c .match .keys1))
     (λ c. rw (c .match .keys2))
     (λ c. rw (c .before .match .keys3) (c .both .ensures))

@@ -1,4 +1,3 @@
--- `rules_codes::parts_owner` meets its contract.
 use borrow.Author.Needs.{needs}
 use Rattle.rules_codes.proofs.parts_owner.Statement.{statement}
 use Rattle.rules_codes.proofs.parts_owner.Tie as tie

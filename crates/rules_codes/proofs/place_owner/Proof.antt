@@ -1,4 +1,3 @@
--- `rules_codes::place_owner` meets its contract.
 use borrow.Author.Tests.{ne-eqb}
 use Rattle.rules_codes.proofs.place_owner.Statement.{statement}
 use Rattle.rules_codes.proofs.place_owner.Tie as tie

@@ -1,4 +1,3 @@
--- `rules_codes::result_type` meets its contract.
 use Rattle.rules_codes.proofs.Codes.{result-rest}
 use mathlib.Core.Path.{sym}
 use Rattle.rules_codes.proofs.result_type.Statement.{statement}

@@ -1,4 +1,3 @@
--- `rules_codes::unread` meets its contract.
 use Rattle.rules_codes.proofs.Codes.{read-by-all, read-by-caller}
 use mathlib.Core.Path.{_∙_}
 use borrow.Author.Needs.{needs}

@@ -22,17 +22,11 @@ abbrev μ-loop : tie.MeasureT-loop
 
 pub fields-fault-spec : {M : Type 1} → statement M
 fields-fault-spec =
-    tie.close
-    (tie.spec
-    Inv-loop
-    μ-loop
-    (λ c. (omega arith, omega arith, fault-start (fieldFaults (fieldsOf (c .before .args .file .now))) (fieldsOf (c .before .args .file .now))))
-    (λ c. search needs)
-    (λ c κs. search needs)
-    (λ c κs. search needs)
-    (λ c. search needs)
-    (λ c. search needs)
-    (λ c. let s = c .before .before .before .before .before in
+    tie.close (tie.spec Inv-loop μ-loop
+    (λ c. let args-file = c .before .args .file .now in (omega arith, omega arith, fault-start (fieldFaults (fieldsOf args-file)) (fieldsOf args-file)))
+    (λ c. search needs) (λ c κs. search needs) (λ c κs. search needs) (λ c. search needs) (λ c. search needs)
+    (λ c. let loop = c .before .before .before .loop in
+    let s = c .before .before .before .before .before in
     let file = s .args .file .now in
     let inv = c .before .before .before .loop .inv in
     let n = count-fields file in
@@ -40,9 +34,9 @@ fields-fault-spec =
     let l = c .least .ensures in (
       omega arith,
       omega arith,
-      fault-next (fieldFaults (fieldsOf file)) (fieldsOf file) (c .before .before .before .loop .i)
+      fault-next (fieldFaults (fieldsOf file)) (fieldsOf file) (loop .i)
           (record { shape = plainField; type = boolean; owner = toEveryone }) _ _ _ (omega arith) (inv .2)
-          (l ∙ ap (min (c .before .before .before .loop .fault)) (c .before .owner-fault .ensures)),
+          (l ∙ ap (min (loop .fault)) (c .before .owner-fault .ensures)),
     ))
     (λ c. let s = c .before .before .before in
     let file = s .args .file .now in

@@ -19,13 +19,13 @@ use Rattle.rules_expressions.proofs.judge.Kinds as judge-kinds
 use Rattle.rules_expressions.proofs.+judge.Lts-judge as judge-lts
 use Rattle.file_bytes.proofs.node_at.Reads as node-at-reads
 use Rattle.rules_judgements.proofs.constant_judged.Reads as constant-judged-reads
-use Rattle.rules_judgements.proofs.entry_judged.Reads as entry-judged-reads
+use Rattle.rules_entries.proofs.entry_judged.Reads as entry-judged-reads
 use Rattle.rules_judgements.proofs.field_judged.Reads as field-judged-reads
 use Rattle.rules_judgements.proofs.me_judged.Reads as me-judged-reads
-use Rattle.rules_operators.proofs.negation_judged.Reads as negation-judged-reads
+use Rattle.rules_reveals.proofs.negation_judged.Reads as negation-judged-reads
 use Rattle.rules_operators.proofs.operator_judged.Reads as operator-judged-reads
 use Rattle.rules_judgements.proofs.parameter_judged.Reads as parameter-judged-reads
-use Rattle.rules_operators.proofs.reveal_judged.Reads as reveal-judged-reads
+use Rattle.rules_reveals.proofs.reveal_judged.Reads as reveal-judged-reads
 use Rattle.rules_scopes.proofs.field_at.Reads as field-at-reads
 use Rattle.rules_scopes.proofs.parameter_at.Reads as parameter-at-reads
 use Rattle.rules_scopes.proofs.target_fits.Reads as target-fits-reads
@@ -81,12 +81,8 @@ target t c e = let s = c .before .before in target-listed _ _ _ _ _ (s .pre .1 .
 
 pub +judge-spec : {M : Type 1} → statement M
 +judge-spec = close μ-judge λ t. judge-lts.spec (judge-claims t)
-    (judge-at t)
-    judge.Post
-    (λ c κs. search needs)
-    (λ c. search needs)
-    (λ c κs. search needs)
-    (λ c κs. search needs)
+    (judge-at t) judge.Post
+    (λ c κs. search needs) (λ c. search needs) (λ c κs. search needs) (λ c κs. search needs)
     (λ c κs. (c .field-at .ensures .final, c .field-at .ensures .same .listed))
     (λ c κs. let s = c .before .before .before .before in
     let inside = s .pre .1 .0 in
@@ -94,8 +90,7 @@ pub +judge-spec : {M : Type 1} → statement M
     (omega arith, (omega arith, s .pre .1 .1)))
     (λ c κs. search needs)
     (λ c κs. (c .field-at2 .ensures .same .listed, c .before .judge .ensures .nameListed))
-    (λ c κs. search needs)
-    (λ c κs. c .parameter-at .ensures .present)
+    (λ c κs. search needs) (λ c κs. c .parameter-at .ensures .present)
     (λ c κs. let s = c .before .before .before .before in
     let inside = s .pre .1 .0 in
     let h = left-below _ (s .pre .1 .1 .settled) _ _ (here t (c .before .before)) (c .match .keys5) in
@@ -118,33 +113,38 @@ pub +judge-spec : {M : Type 1} → statement M
     (s .pre .1 .1 .settled, s .pre .1 .1 .fewParameters, s .pre .1 .1 .nearParameters, target t (c .before .before .before) (c .before .match .keys7)))
     (λ c κs. c .before .judge5 .ensures .ownerListed)
     (λ c κs. search needs)
-    (λ c. let s = c .before .before .before .before .before in
+    (λ c. let node-at-result = c .before .before .before .node-at .result in
+    let s = c .before .before .before .before .before in
     judged-same _ _ _ _ _ _ (constant-tree _ (s .pre .1 .1 .settled) _ _ (here t (c .before .before .before)) (c .before .match .keys1)) (c .constant-judged .ensures)
-    (constant-is _ _ (c .before .before .before .node-at .result .arg) (constantValue (recordOf (c .before .before .before .node-at .result)))))
-    (λ c. let s = c .before .before .before .before .before .before in
+    (constant-is _ _ (node-at-result .arg) (constantValue (recordOf node-at-result))))
+    (λ c. let field-at = c .before .field-at .ensures in
+    let s = c .before .before .before .before .before .before in
     judged-same _ _ _ _ _ _ (field-tree _ (s .pre .1 .1 .settled) _ _ (here t (c .before .before .before .before)) (c .before .before .match .keys2))
     (c .field-judged .ensures)
-    (field-is _ _ _ _ (c .before .field-at .ensures .final) (c .before .field-at .ensures .same)))
+    (field-is _ _ _ _ (field-at .final) (field-at .same)))
     (λ c. let s = c .before .before .before .before .before .before .before in
     judged-same _ _ _ _ _ _ (entry-tree _ (s .pre .1 .1 .settled) _ _ (here t (c .before .before .before .before .before))
     (c .before .before .before .match .keys3)) (c .entry-judged .ensures)
     (entry-is _ _ _ _ _ _ (c .before .field-at2 .ensures .same) (c .before .before .judge .ensures)))
-    (λ c. let s = c .before .before .before .before .before .before in
+    (λ c. let parameter-at = c .before .parameter-at .ensures in
+    let s = c .before .before .before .before .before .before in
     judged-same _ _ _ _ _ _ (parameter-tree _ (s .pre .1 .1 .settled) _ _ (here t (c .before .before .before .before))
     (c .before .before .match .keys4)) (c .parameter-judged .ensures)
-    (parameter-is _ _ _ _ _ (count-parameters (s .args .file .now) (s .args .p)) (c .before .parameter-at .ensures .same) (c .before .parameter-at .ensures .present)))
-    (λ c. let s = c .before .before .before .before .before .before .before in
+    (parameter-is _ _ _ _ _ (count-parameters (s .args .file .now) (s .args .p)) (parameter-at .same) (parameter-at .present)))
+    (λ c. let node-at-result-arg = c .before .before .before .before .before .node-at .result .arg in
+    let s = c .before .before .before .before .before .before .before in
     judged-same _ _ _ _ _ _ (operator-tree _ (s .pre .1 .1 .settled) _ _ (here t (c .before .before .before .before .before))
     (c .before .before .before .match .keys5)) (c .operator-judged .ensures)
-    (operator-is _ _ (c .before .before .before .before .before .node-at .result .arg) _ _ _ _ (c .before .before .judge2 .ensures) (c .before .judge3 .ensures)))
+    (operator-is _ _ node-at-result-arg _ _ _ _ (c .before .before .judge2 .ensures) (c .before .judge3 .ensures)))
     (λ c. let s = c .before .before .before .before .before .before in
     judged-same _ _ _ _ _ _ (negation-tree _ (s .pre .1 .1 .settled) _ _ (here t (c .before .before .before .before))
     (c .before .before .match .keys6)) (c .negation-judged .ensures)
     (negation-is _ _ _ _ (c .before .judge4 .ensures)))
-    (λ c. let s = c .before .before .before .before .before .before .before in
+    (λ c. let match-keys7 = c .before .before .before .match .keys7 in
+    let s = c .before .before .before .before .before .before .before in
     judged-same _ _ _ _ _ _ (reveal-tree _ (s .pre .1 .1 .settled) _ _ (here t (c .before .before .before .before .before))
-    (c .before .before .before .match .keys7)) (c .reveal-judged .ensures)
-    (reveal-is _ _ _ _ _ _ (target t (c .before .before .before .before .before) (c .before .before .before .match .keys7))
+    match-keys7) (c .reveal-judged .ensures)
+    (reveal-is _ _ _ _ _ _ (target t (c .before .before .before .before .before) match-keys7)
     (c .before .target-fits .ensures) (c .before .before .judge5 .ensures)))
     (λ c. let s = c .before .before .before .before .before in
     let other = c .before .match .rest in

@@ -1,4 +1,3 @@
--- `rules_judgements::constant_judged` meets its contract.
 use borrow.Author.Needs.{needs}
 use Rattle.rules_judgements.proofs.constant_judged.Statement.{statement}
 use Rattle.rules_judgements.proofs.constant_judged.Tie as tie

@@ -1,4 +1,3 @@
--- `rules_judgements::final_name` meets its contract.
 use native.Mathlib.Omega.{arith}
 use borrow.Author.Tests.{eq-eqb, ne-eqb}
 use Rattle.rules_judgements.proofs.final_name.Statement.{statement}

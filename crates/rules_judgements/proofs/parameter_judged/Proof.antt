@@ -1,4 +1,3 @@
--- `rules_judgements::parameter_judged` meets its contract.
 use Rattle.definitions.specs.Numbers.{targetInTables}
 use mathlib.Core.Path.{ap, _∙_}
 use lib.Dec.{eqb}
@@ -10,11 +9,8 @@ use Rattle.rules_judgements.proofs.parameter_judged.Tie as tie
 
 pub parameter-judged-spec : {M : Type 1} → statement M
 parameter-judged-spec =
-    tie.close
-    (tie.spec
-    (λ c κs. search needs)
-    (λ c κs. search needs)
-    (λ c κs. search needs)
+    tie.close (tie.spec
+    (λ c κs. search needs) (λ c κs. search needs) (λ c κs. search needs)
     (λ c κs. ap targetInTables (c .before .before .code-if .ensures) ∙ caller-listed (not (eqb (c .before .before .before .before .args .p .owner) 0)))
     (λ c κs. search needs)
     (λ c. cc))

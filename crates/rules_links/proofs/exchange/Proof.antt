@@ -1,4 +1,3 @@
--- `rules_links::exchange` meets its contract.
 use borrow.Author.Tests.{eq-eqb, ne-eqb}
 use Rattle.rules_links.proofs.exchange.Statement.{statement}
 use Rattle.rules_links.proofs.exchange.Tie as tie

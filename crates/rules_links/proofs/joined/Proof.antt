@@ -19,19 +19,13 @@ long c = search needs
 
 pub joined-spec : {M : Type 1} → statement M
 joined-spec =
-    tie.close
-    (tie.spec
-    Inv-loop
-    μ-loop
+    tie.close (tie.spec Inv-loop μ-loop
     (λ c. (omega arith, up-to-start _ _ _))
-    (λ c. search needs)
-    (λ c κs. search needs)
-    (λ c. search needs)
-    (λ c. search needs)
-    (λ c. search needs)
-    (λ c. let inv = c .before .before .before .loop .inv in
+    (λ c. search needs) (λ c κs. search needs) (λ c. search needs) (λ c. search needs) (λ c. search needs)
+    (λ c. let loop = c .before .before .before .loop in
+    let inv = c .before .before .before .loop .inv in
     let n = long (c .before .before .before .before) in
     let s = inv .1 .size in
-    let h : c .before .before .before .loop .i < length (c .before .before .before .loop .next .of) = omega arith in
+    let h : loop .i < length (loop .next .of) = omega arith in
     (omega arith, up-to-next _ _ _ _ _ _ h (inv .1) (c .exchange .ensures)))
-    (λ c. record { each = λ j h. c .before .loop .inv .1 .passed j (omega arith) }))
+    (λ c. let (_, up-to) = c .before .loop .inv in record { each = λ j h. up-to .passed j (omega arith) }))

@@ -16,18 +16,13 @@ abbrev μ-loop : tie.MeasureT-loop
 
 pub no-links-spec : {M : Type 1} → statement M
 no-links-spec =
-    tie.close
-    (tie.spec
-    Inv-loop
-    μ-loop
+    tie.close (tie.spec Inv-loop μ-loop
     (λ c. (omega arith, refl, λ j h. absurd (omega arith)))
-    (λ c. search needs)
-    (λ c. search needs)
-    (λ c. search needs)
-    (λ c. search needs)
-    (λ c. let inv = c .before .loop .inv in
-    let h : c .before .loop .i < length (c .before .loop .classes .of) = omega arith in
-    let l = c .before .loop .classes .of in
-    let i = c .before .loop .i in
+    (λ c. search needs) (λ c. search needs) (λ c. search needs) (λ c. search needs)
+    (λ c. let loop = c .before .loop in
+    let inv = c .before .loop .inv in
+    let h : loop .i < length (loop .classes .of) = omega arith in
+    let l = loop .classes .of in
+    let i = loop .i in
     (omega arith, length-set l i i ∙ inv .1, own-next l i h (inv .2)))
-    (λ c. alone _ (λ j h. c .before .loop .inv .2 j (omega arith))))
+    (λ c. let (_, _, j-bound) = c .before .loop .inv in alone _ (λ j h. j-bound j (omega arith))))

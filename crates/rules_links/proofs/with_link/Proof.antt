@@ -1,4 +1,3 @@
--- `rules_links::with_link` meets its contract.
 use Rattle.rules_links.proofs.Joining.{no-left-name, no-right-name, with-link-codes}
 use borrow.Author.Needs.{needs}
 use Rattle.rules_links.proofs.with_link.Statement.{statement}
@@ -11,11 +10,8 @@ returns-3 c =
 
 pub with-link-spec : {M : Type 1} → statement M
 with-link-spec =
-    tie.close
-    (tie.spec
+    tie.close (tie.spec
     (λ c. no-left-name _ _ (c .before .args .b) (c .if1 .taken))
     (λ c. no-right-name _ _ _ (c .before .if1 .left) (c .if2 .taken))
-    (λ c. search needs)
-    (λ c. search needs)
-    (λ c κs. search needs)
+    (λ c. search needs) (λ c. search needs) (λ c κs. search needs)
     returns-3)

@@ -1,4 +1,3 @@
--- `rules_operators::operator_judged` meets its contract.
 use borrow.Author.Needs.{needs}
 use Rattle.rules_operators.proofs.operator_judged.Statement.{statement}
 use Rattle.rules_operators.proofs.operator_judged.Tie as tie

@@ -1,4 +1,3 @@
--- `rules_scopes::field_at` meets its contract.
 use native.Mathlib.Omega.{arith}
 use Rattle.rules_scopes.proofs.Settling.{field-there, field-missing}
 use borrow.Author.Needs.{needs}
@@ -7,19 +6,9 @@ use Rattle.rules_scopes.proofs.field_at.Tie as tie
 
 pub field-at-spec : {M : Type 1} → statement M
 field-at-spec =
-    tie.close
-    (tie.spec
-    (λ c κs. search needs)
-    (λ c. search needs)
-    (λ c. search needs)
-    (λ c κs. search needs)
-    (λ c. search needs)
-    (λ c. search needs)
-    (λ c κs. search needs)
-    (λ c. search needs)
-    (λ c. search needs)
-    (λ c κs. search needs)
-    (λ c. search needs)
+    tie.close (tie.spec
+    (λ c κs. search needs) (λ c. search needs) (λ c. search needs) (λ c κs. search needs) (λ c. search needs) (λ c. search needs)
+    (λ c κs. search needs) (λ c. search needs) (λ c. search needs) (λ c κs. search needs) (λ c. search needs)
     (λ c. let s = c .before .before .before .before .before .before in
     field-there _ (s .pre) _ _ (omega arith) (c .before .before .byte-at2 .ensures .0) (c .before .byte-at3 .ensures .0) (c .byte-at4 .ensures .0))
     (λ c. let s = c .before .before .before in

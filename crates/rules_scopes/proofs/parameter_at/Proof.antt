@@ -1,4 +1,3 @@
--- `rules_scopes::parameter_at` meets its contract.
 use Rattle.definitions.specs.ContractFile.{dataTypeOf, dataTypeCode}
 use mathlib.Core.Path.{ap, _∙_}
 use native.Mathlib.Omega.{arith}
@@ -9,16 +8,9 @@ use Rattle.rules_scopes.proofs.parameter_at.Tie as tie
 
 pub parameter-at-spec : {M : Type 1} → statement M
 parameter-at-spec =
-    tie.close
-    (tie.spec
-    (λ c. search needs)
-    (λ c. search needs)
-    (λ c κs. search needs)
-    (λ c. search needs)
-    (λ c. search needs)
-    (λ c κs. search needs)
-    (λ c. search needs)
-    (λ c κs. search needs)
+    tie.close (tie.spec
+    (λ c. search needs) (λ c. search needs) (λ c κs. search needs) (λ c. search needs) (λ c. search needs) (λ c κs. search needs)
+    (λ c. search needs) (λ c κs. search needs)
     (λ c. let s = c .before .before .before .before .before .before .before in
     parameter-there (s .args .file .now) (s .args .p) (s .args .k) _ (omega arith) (s .pre .0)
     (c .data-type .ensures ∙ ap (λ n. dataTypeCode (dataTypeOf n)) (c .before .before .byte-at .ensures .0)) (c .before .byte-at2 .ensures .0))

@@ -28,20 +28,10 @@ abbrev μ-judge-statement : Measures 1 judge-statement-kinds.ps ℕ
 μ-judge-statement κs a = a .1 .1 .1 .1 .0
 
 abbrev judge-statement-at : ℕ → In 1 judge-statement-kinds.ps
-judge-statement-at t =
-    and
-    1
-    judge-statement-kinds.ps
-    (is 1 judge-statement-kinds.ps μ-judge-statement t)
-    judge-statement.Pre
+judge-statement-at t = and 1 judge-statement-kinds.ps (is 1 judge-statement-kinds.ps μ-judge-statement t) judge-statement.Pre
 
 abbrev judge-statement-below : ℕ → In 1 judge-statement-kinds.ps
-judge-statement-below t =
-    and
-    1
-    judge-statement-kinds.ps
-    (falls 1 judge-statement-kinds.ps _<_ μ-judge-statement t)
-    judge-statement.Pre
+judge-statement-below t = and 1 judge-statement-kinds.ps (falls 1 judge-statement-kinds.ps _<_ μ-judge-statement t) judge-statement.Pre
 
 abbrev judge-statement-claims : ℕ → judge-statement-lts.Claims
 judge-statement-claims t = (
@@ -69,11 +59,8 @@ here t c = let s = c .before .before in named _ _ _ _ _ (s .pre .1 .1) (s .pre .
 
 pub +judge-statement-spec : {M : Type 1} → statement M
 +judge-statement-spec = close μ-judge-statement λ t. judge-statement-lts.spec (judge-statement-claims t)
-    (judge-statement-at t)
-    judge-statement.Post
-    (λ c κs. search needs)
-    (λ c. search needs)
-    (λ c κs. search needs)
+    (judge-statement-at t) judge-statement.Post
+    (λ c κs. search needs) (λ c. search needs) (λ c κs. search needs)
     (λ c κs. let s = c .before .before .before .before .before in
     let inside = s .pre .1 .0 in
     let h = one-below _ (s .pre .1 .1 .settled) _ _ (here t (c .before .before .before)) (c .match .keys1) in
@@ -82,8 +69,7 @@ pub +judge-statement-spec : {M : Type 1} → statement M
     let inside = s .pre .1 .0 in
     let h = two-below _ (s .pre .1 .1 .settled) _ _ (here t (c .before .before .before .before .before)) (c .before .before .match .keys1) in
     (omega arith, (omega arith, s .pre .1 .1)))
-    (λ c κs. search needs)
-    (λ c κs. search needs)
+    (λ c κs. search needs) (λ c κs. search needs)
     (λ c κs. let s = c .before .before .before .before .before in
     let inside = s .pre .1 .0 in
     let h = put-below _ (s .pre .1 .1 .settled) _ _ (here t (c .before .before .before)) (c .match .keys2) in
@@ -116,14 +102,14 @@ pub +judge-statement-spec : {M : Type 1} → statement M
     let inside = s .pre .1 .0 in
     let h = else-below _ (s .pre .1 .1 .settled) _ _ (here t (c .before .before .before .before .before)) (c .before .before .match .keys5) in
     (omega arith, (omega arith, s .pre .1 .1)))
-    (λ c κs. search needs)
-    (λ c κs. search needs)
-    (λ c κs. search needs)
-    (λ c. let s = c .before .before .before .before .before .before .before .before .before .before .before in
+    (λ c κs. search needs) (λ c κs. search needs) (λ c κs. search needs)
+    (λ c. let match-keys1 = c .before .before .before .before .before .before .match .keys1 in
+    let judge-statement-2 = c .before .before .before .before .before .judge-statement .ensures in
+    let s = c .before .before .before .before .before .before .before .before .before .before .before in
     sequence-is _ _ _ _ _ _ _ _ _ (sequence-tree _ (s .pre .1 .1 .settled) _ _
     (here t (c .before .before .before .before .before .before .before .before .before))
-    (c .before .before .before .before .before .before .match .keys1)) (c .outcome2 .ensures)
-    (c .before .before .before .before .before .judge-statement .ensures) (c .before .before .before .judge-statement2 .ensures) (c .before .least .ensures))
+    match-keys1) (c .outcome2 .ensures)
+    judge-statement-2 (c .before .before .before .judge-statement2 .ensures) (c .before .least .ensures))
     (λ c. let s = c .before .before .before .before .before .before .before in
     assign-field-is _ _ _ _ _ _ _ (assign-field-tree _ (s .pre .1 .1 .settled) _ _ (here t (c .before .before .before .before .before))
     (c .before .before .match .keys2)) (c .outcome3 .ensures)
@@ -136,15 +122,20 @@ pub +judge-statement-spec : {M : Type 1} → statement M
     require-is _ _ _ _ _ _ _ (require-tree _ (s .pre .1 .1 .settled) _ _ (here t (c .before .before .before .before .before .before))
     (c .before .before .before .match .keys4)) (c .outcome5 .ensures)
     (c .before .before .condition-is .ensures) (c .before .learn .ensures))
-    (λ c. let s = c .before .before .before .before .before .before .before .before .before .before .before .before in
+    (λ c. let outcome = c .before .before .before .before .before .before .before .before .outcome .ensures in
+    let match-keys5 = c .before .before .before .before .before .before .before .match .keys5 in
+    let condition-is2 = c .before .before .before .before .before .before .condition-is2 .ensures in
+    let judge-statement3 = c .before .before .before .before .before .judge-statement3 .ensures in
+    let judge-statement4 = c .before .before .before .before .judge-statement4 in
+    let s = c .before .before .before .before .before .before .before .before .before .before .before .before in
     conditional-is _ _ _ _ _ _ _ _ _ _ _ _ (conditional-tree _ (s .pre .1 .1 .settled) _ _
     (here t (c .before .before .before .before .before .before .before .before .before .before))
-    (c .before .before .before .before .before .before .before .match .keys5)) (c .outcome6 .ensures)
-    (ap (λ u. u .classes) (c .before .before .before .before .before .before .before .before .outcome .ensures))
-    (c .before .before .before .before .before .before .condition-is2 .ensures)
-    (c .before .before .before .before .before .judge-statement3 .ensures)
-    (c .before .before .before .before .judge-statement4 .ensures)
-    (c .before .least3 .ensures ∙ ap (λ m. min m (c .before .before .before .before .judge-statement4 .result .fault))
+    match-keys5) (c .outcome6 .ensures)
+    (ap (λ u. u .classes) outcome)
+    condition-is2
+    judge-statement3
+    (judge-statement4 .ensures)
+    (c .before .least3 .ensures ∙ ap (λ m. min m (judge-statement4 .result .fault))
     (c .before .before .least2 .ensures)))
     (λ c. let s = c .before .before .before .before .before in
     let other = c .match .rest in

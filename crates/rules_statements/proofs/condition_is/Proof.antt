@@ -1,4 +1,3 @@
--- `rules_statements::condition_is` meets its contract.
 use Rattle.rules_assignments.proofs.Putting.{condition-fault-is}
 use mathlib.Core.Path.{sym, _∙_}
 use borrow.Author.Needs.{needs}

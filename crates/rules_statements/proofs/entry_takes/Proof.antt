@@ -1,4 +1,3 @@
--- `rules_statements::entry_takes` meets its contract.
 use Rattle.rules_assignments.proofs.Putting.{entry-put-fault-is}
 use mathlib.Core.Path.{sym, _∙_}
 use borrow.Author.Needs.{needs}

@@ -1,4 +1,3 @@
--- `rules_statements::field_takes` meets its contract.
 use Rattle.rules_assignments.proofs.Putting.{field-fault-is}
 use mathlib.Core.Path.{sym, _∙_}
 use borrow.Author.Needs.{needs}

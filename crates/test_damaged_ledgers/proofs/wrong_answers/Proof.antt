@@ -14,17 +14,9 @@ abbrev μ-loop : tie.MeasureT-loop
 
 pub wrong-answers-spec : {M : Type 1} → statement M
 wrong-answers-spec =
-    tie.close
-    (tie.spec
-    Inv-loop
-    μ-loop
-    (λ c κs. search needs)
-    (λ c. search needs)
+    tie.close (tie.spec Inv-loop μ-loop
+    (λ c κs. search needs) (λ c. search needs)
     (λ c. ⊎-elim (λ w. omega arith) (λ w. omega arith) (c .if1 .came))
-    (λ c κs. search needs)
-    (λ c κs. search needs)
-    (λ c. search needs)
-    (λ c. search needs)
-    (λ c. search needs)
+    (λ c κs. search needs) (λ c κs. search needs) (λ c. search needs) (λ c. search needs) (λ c. search needs)
     (λ c. ⊎-elim (λ w. omega arith) (λ w. omega arith) (c .if2 .came))
     (λ c. search needs))

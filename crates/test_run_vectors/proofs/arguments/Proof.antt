@@ -15,17 +15,9 @@ abbrev μ-loop : tie.MeasureT-loop
 
 pub arguments-spec : {M : Type 1} → statement M
 arguments-spec =
-    tie.close
-    (tie.spec
-    Inv-loop
-    μ-loop
+    tie.close (tie.spec Inv-loop μ-loop
     (λ c. (omega arith, sym (length-replicate {0} {A = ℕ} 255 0)))
+    (λ c. search needs) (λ c. search needs) (λ c κs. search needs) (λ c. search needs) (λ c. search needs) (λ c. search needs)
     (λ c. search needs)
-    (λ c. search needs)
-    (λ c κs. search needs)
-    (λ c. search needs)
-    (λ c. search needs)
-    (λ c. search needs)
-    (λ c. search needs)
-    (λ c. (omega arith, simp length-set (c .before .before .loop .inv .1)))
+    (λ c. let (_, length-is) = c .before .before .loop .inv in (omega arith, simp length-set length-is))
     (λ c. search needs))

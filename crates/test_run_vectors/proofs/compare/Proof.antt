@@ -15,14 +15,7 @@ abbrev μ-loop : tie.MeasureT-loop
 
 pub compare-spec : {M : Type 1} → statement M
 compare-spec =
-    tie.close
-    (tie.spec
-    Inv-loop
-    μ-loop
-    (λ c. search needs)
-    (λ c κs. search needs)
-    (λ c. search needs)
-    (λ c. search needs)
-    (λ c. omega arith)
+    tie.close (tie.spec Inv-loop μ-loop
+    (λ c. search needs) (λ c κs. search needs) (λ c. search needs) (λ c. search needs) (λ c. omega arith)
     (λ c. ⊎-elim (λ w. omega arith) (λ w. omega arith) (c .if1 .came))
     (λ c. search needs))

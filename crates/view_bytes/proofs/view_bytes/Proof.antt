@@ -27,22 +27,27 @@ room c =
 
 pub view-bytes-spec : {M : Type 1} → statement M
 view-bytes-spec =
-    tie.close
-    (tie.spec
-    (λ c κs. search needs)
-    (λ c κs. search needs)
+    tie.close (tie.spec
+    (λ c κs. search needs) (λ c κs. search needs)
     (λ c κs. omega (arith, room (c .before .before .before .before .before .before .before)))
     (λ c κs. omega (arith, room (c .before .before .before .before .before .before .before .before .before .before .before), c .before .before .before .put-head .kept .0))
+    (λ c. search needs) (λ c. search needs)
+    (λ c κs. let at-most = c .before .before .before .before .before .before .before .before .before .before .at-most .ensures in
+    let put-head-kept = c .before .before .before .before .before .before .before .put-head .kept .0 in
+    omega (arith, room (c .before .before .before .before .before .before .before .before .before .before .before .before .before .before .before), c .before .before .before .put-eight .kept .1 .1 .1 .0, put-head-kept, at-most))
+    (λ c. search needs) (λ c. search needs) (λ c. search needs) (λ c. search needs)
+    (λ c κs. let at-most = c .before .before .before .before .before .before .before .before .before .before .before .before .before .before .at-most .ensures in
+    let at-most2 = c .before .before .before .before .before .before .before .before .before .before .before .before .before .at-most2 .ensures in
+    let put-head-kept = c .before .before .before .before .before .before .before .before .before .before .before .put-head .kept .0 in
+    let put-eight-kept = c .before .before .before .before .before .before .before .put-eight .kept .1 .1 .1 .0 in
+    omega
+    (arith, room (c .before .before .before .before .before .before .before .before .before .before .before .before .before .before .before .before .before .before .before), c .before .before .before .put-items .kept .1 .1 .1 .0, put-eight-kept, put-head-kept, at-most, at-most2))
     (λ c. search needs)
-    (λ c. search needs)
-    (λ c κs. omega (arith, room (c .before .before .before .before .before .before .before .before .before .before .before .before .before .before .before), c .before .before .before .put-eight .kept .1 .1 .1 .0, c .before .before .before .before .before .before .before .put-head .kept .0, c .before .before .before .before .before .before .before .before .before .before .at-most .ensures))
-    (λ c. search needs)
-    (λ c. search needs)
-    (λ c. search needs)
-    (λ c. search needs)
-    (λ c κs. omega
-    (arith, room (c .before .before .before .before .before .before .before .before .before .before .before .before .before .before .before .before .before .before .before), c .before .before .before .put-items .kept .1 .1 .1 .0, c .before .before .before .before .before .before .before .put-eight .kept .1 .1 .1 .0, c .before .before .before .before .before .before .before .before .before .before .before .put-head .kept .0, c .before .before .before .before .before .before .before .before .before .before .before .before .before .before .at-most .ensures, c .before .before .before .before .before .before .before .before .before .before .before .before .before .at-most2 .ensures))
-    (λ c. search needs)
-    (λ c. let s = c .before .before .before .before .before .before .before .before .before .before .before .before .before .before .before .before .before .before .before .before .before .before in
-    view-stored (s .args .l) (eight s) (variables s) (places s) (s .args .party) _ _ _ _ _ _ _ (c .before .before .before .before .before .before .before .before .before .before .before .before .before .before .before .before .before .at-most .ensures) (c .before .before .before .before .before .before .before .before .before .before .before .before .before .before .before .before .at-most2 .ensures)
-    (s .pre) (c .before .before .before .before .before .before .before .before .before .before .before .before .before .before .put-head .ensures) (c .before .before .before .before .before .before .before .before .before .before .put-eight .ensures) (c .before .before .before .before .before .before .put-items .ensures) (c .before .before .put-items2 .ensures)))
+    (λ c. let at-most = c .before .before .before .before .before .before .before .before .before .before .before .before .before .before .before .before .before .at-most .ensures in
+    let at-most2 = c .before .before .before .before .before .before .before .before .before .before .before .before .before .before .before .before .at-most2 .ensures in
+    let put-head = c .before .before .before .before .before .before .before .before .before .before .before .before .before .before .put-head .ensures in
+    let put-eight = c .before .before .before .before .before .before .before .before .before .before .put-eight .ensures in
+    let put-items = c .before .before .before .before .before .before .put-items .ensures in
+    let s = c .before .before .before .before .before .before .before .before .before .before .before .before .before .before .before .before .before .before .before .before .before .before in
+    view-stored (s .args .l) (eight s) (variables s) (places s) (s .args .party) _ _ _ _ _ _ _ at-most at-most2
+    (s .pre) put-head put-eight put-items (c .before .before .put-items2 .ensures)))

@@ -1,5 +1,4 @@
--- `walk_commands::branch_of` meets its contract.
-use Rattle.walk_commands.proofs.Steps.{branch-third, branch-second}
+use Rattle.walk_steps.proofs.Steps.{branch-third, branch-second}
 use borrow.Author.Needs.{needs}
 use Rattle.walk_commands.proofs.branch_of.Statement.{statement}
 use Rattle.walk_commands.proofs.branch_of.Tie as tie

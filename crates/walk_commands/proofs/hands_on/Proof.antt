@@ -1,13 +1,15 @@
--- `walk_commands::hands_on` meets its contract.
 use mathlib.Core.Path.{ap, sym, _∙_}
 use native.Mathlib.Omega.{arith}
 use Rattle.definitions.specs.ContractFile.{NodeRecord}
 use Rattle.write_trees.proofs.Read.{read-here}
-use Rattle.walk_commands.specs.Walk.{handsOn}
-use Rattle.walk_commands.proofs.Steps.{hands-sequence, hands-conditional, hands-nothing}
+use Rattle.walk_steps.specs.Walk.{handsOn}
+use Rattle.walk_steps.proofs.Steps.{hands-sequence, hands-conditional, hands-nothing}
 use borrow.Author.Needs.{needs}
 use Rattle.walk_commands.proofs.hands_on.Statement.{statement}
 use Rattle.walk_commands.proofs.hands_on.Tie as tie
 
 pub hands-on-spec : {M : Type 1} → statement M
-hands-on-spec = tie.close (tie.spec (λ c. search needs) (λ c κs. omega (arith, c .before .pre .1 .few, c .before .pre .0)) (λ c. hands-sequence _ (c .match .keys1) ∙ ap (λ (r : NodeRecord). handsOn (r .kind)) (sym (read-here _ _ (c .before .before .before .pre .0) _ (c .before .read-node .ensures)))) (λ c. hands-conditional _ (c .match .keys2) ∙ ap (λ (r : NodeRecord). handsOn (r .kind)) (sym (read-here _ _ (c .before .before .before .pre .0) _ (c .before .read-node .ensures)))) (λ c. hands-nothing _ (c .match .rest .0 .1) (c .match .rest .1) ∙ ap (λ (r : NodeRecord). handsOn (r .kind)) (sym (read-here _ _ (c .before .before .before .pre .0) _ (c .before .read-node .ensures)))))
+hands-on-spec = tie.close (tie.spec (λ c. search needs) (λ c κs. let (n-bound, readable) = c .before .pre in omega (arith, readable .few, n-bound)) (λ c. let (n-bound, _) = c .before .before .before .pre in
+    hands-sequence _ (c .match .keys1) ∙ ap (λ (r : NodeRecord). handsOn (r .kind)) (sym (read-here _ _ n-bound _ (c .before .read-node .ensures)))) (λ c. let (n-bound, _) = c .before .before .before .pre in
+    hands-conditional _ (c .match .keys2) ∙ ap (λ (r : NodeRecord). handsOn (r .kind)) (sym (read-here _ _ n-bound _ (c .before .read-node .ensures)))) (λ c. let (n-bound, _) = c .before .before .before .pre in
+    hands-nothing _ (c .match .rest .0 .1) (c .match .rest .1) ∙ ap (λ (r : NodeRecord). handsOn (r .kind)) (sym (read-here _ _ n-bound _ (c .before .read-node .ensures)))))

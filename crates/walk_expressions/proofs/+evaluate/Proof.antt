@@ -29,43 +29,52 @@ abbrev evaluate-at : ℕ → In 6 evaluate-kinds.ps
 evaluate-at t = and 6 evaluate-kinds.ps (is 6 evaluate-kinds.ps μ-evaluate t) evaluate.Pre
 
 abbrev evaluate-below : ℕ → In 6 evaluate-kinds.ps
-evaluate-below t =
-    and 6 evaluate-kinds.ps (falls 6 evaluate-kinds.ps _<_ μ-evaluate t) evaluate.Pre
+evaluate-below t = and 6 evaluate-kinds.ps (falls 6 evaluate-kinds.ps _<_ μ-evaluate t) evaluate.Pre
 
 abbrev evaluate-claims : ℕ → evaluate-lts.Claims
 evaluate-claims t = (read-node-reads.Asked, read-node-reads.Learnt, constant-of-reads.Asked, constant-of-reads.Learnt, given-number-reads.Asked, given-number-reads.Learnt, given-place-reads.Asked, given-place-reads.Learnt, evaluate-below t, evaluate.Post, number-of-reads.Asked, number-of-reads.Learnt, given-item-reads.Asked, given-item-reads.Learnt, combined-reads.Asked, combined-reads.Learnt, opposite-reads.Asked, opposite-reads.Learnt, number-at-reads.Asked, number-at-reads.Learnt)
 
 pub +evaluate-spec : {M : Type 1} → statement M
 +evaluate-spec = close μ-evaluate λ t. evaluate-lts.spec (evaluate-claims t)
-    (evaluate-at t)
-    evaluate.Post
+    (evaluate-at t) evaluate.Post
     (λ c. search needs)
-    (λ c κs. omega (arith, c .before .before .before .before .before .before .pre .1 .1 .0 .few))
-    (λ c κs. (c .before .read-node .ensures .smallFirst, c .before .read-node .ensures .smallSecond))
+    (λ c κs. let (_, (_, (readable, _))) = c .before .before .before .before .before .before .pre in omega (arith, readable .few))
+    (λ c κs. let read-node = c .before .read-node .ensures in (read-node .smallFirst, read-node .smallSecond))
     (λ c κs. search needs)
-    (λ c κs. c .before .before .before .before .before .before .before .before .pre .1 .1 .1)
-    (λ c κs. let less = (one-falls _ (c .before .before .before .before .before .before .before .before .pre .1 .1 .0 .falling) _ _ (read-here _ _ (c .before .before .before .before .before .before .before .before .pre .1 .0) _ (c .before .read-node .ensures)) (form-entry _ (c .match .keys3))) in
-    (omega arith, (omega arith, c .before .before .before .before .before .before .before .before .pre .1 .1)))
+    (λ c κs. let (_, (_, (_, field-count-bound))) = c .before .before .before .before .before .before .before .before .pre in field-count-bound)
+    (λ c κs. let (_, (n-bound, (readable, field-count-bound))) = c .before .before .before .before .before .before .before .before .pre in
+    let less = one-falls _ (readable .falling) _ _ (read-here _ _ n-bound _ (c .before .read-node .ensures)) (form-entry _ (c .match .keys3)) in
+    (omega arith, (omega arith, (readable, field-count-bound))))
     (λ c κs. search needs)
-    (λ c κs. c .before .before .before .before .before .before .before .before .before .before .pre .1 .1 .1)
+    (λ c κs. let (_, (_, (_, field-count-bound))) = c .before .before .before .before .before .before .before .before .before .before .pre in
+    field-count-bound)
     (λ c κs. search needs)
-    (λ c κs. let less = (two-fall _ (c .before .before .before .before .before .before .before .before .pre .1 .1 .0 .falling) _ _ (read-here _ _ (c .before .before .before .before .before .before .before .before .pre .1 .0) _ (c .before .read-node .ensures)) (form-operator _ (c .match .keys5))) in
-    (omega arith, (omega arith, c .before .before .before .before .before .before .before .before .pre .1 .1)))
-    (λ c κs. let less = (two-fall _ (c .before .before .before .before .before .before .before .before .before .pre .1 .1 .0 .falling) _ _ (read-here _ _ (c .before .before .before .before .before .before .before .before .before .pre .1 .0) _ (c .before .before .read-node .ensures)) (form-operator _ (c .before .match .keys5))) in
-    (omega arith, (omega arith, c .before .before .before .before .before .before .before .before .before .pre .1 .1)))
+    (λ c κs. let (_, (n-bound, (readable, field-count-bound))) = c .before .before .before .before .before .before .before .before .pre in
+    let less = two-fall _ (readable .falling) _ _ (read-here _ _ n-bound _ (c .before .read-node .ensures)) (form-operator _ (c .match .keys5)) in
+    (omega arith, (omega arith, (readable, field-count-bound))))
+    (λ c κs. let (_, (n-bound, (readable, field-count-bound))) = c .before .before .before .before .before .before .before .before .before .pre in
+    let less = two-fall _ (readable .falling) _ _ (read-here _ _ n-bound _ (c .before .before .read-node .ensures)) (form-operator _ (c .before .match .keys5)) in
+    (omega arith, (omega arith, (readable, field-count-bound))))
     (λ c κs. search needs)
-    (λ c κs. let less = (one-falls _ (c .before .before .before .before .before .before .before .before .pre .1 .1 .0 .falling) _ _ (read-here _ _ (c .before .before .before .before .before .before .before .before .pre .1 .0) _ (c .before .read-node .ensures)) (form-negation _ (c .match .keys6))) in
-    (omega arith, (omega arith, c .before .before .before .before .before .before .before .before .pre .1 .1)))
-    (λ c κs. search needs)
-    (λ c κs. search needs)
-    (λ c κs. search needs)
-    (λ c κs. search needs)
-    (λ c. constant-gives _ _ _ _ _ _ _ _ _ _ (body-constant _ (c .before .before .before .before .before .before .before .before .before .before .pre .1 .1 .0 .falling) _ _ (read-here _ _ (c .before .before .before .before .before .before .before .before .before .before .pre .1 .0) _ (c .before .before .before .read-node .ensures)) (c .before .before .match .keys1)) (c .before .constant-of .ensures) (c .given-number .ensures))
-    (λ c. field-gives _ _ _ _ _ _ _ _ (body-field _ (c .before .before .before .before .before .before .before .before .before .pre .1 .1 .0 .falling) _ _ (read-here _ _ (c .before .before .before .before .before .before .before .before .before .pre .1 .0) _ (c .before .before .read-node .ensures)) (c .before .match .keys2)) (c .given-place .ensures))
-    (λ c. entry-gives _ _ _ _ _ _ _ _ _ _ _ (body-entry _ (c .before .before .before .before .before .before .before .before .before .before .before .pre .1 .1 .0 .falling) _ _ (read-here _ _ (c .before .before .before .before .before .before .before .before .before .before .before .pre .1 .0) _ (c .before .before .before .before .read-node .ensures)) (c .before .before .before .match .keys3)) (c .before .before .evaluate .ensures) (c .before .number-of .ensures) (c .given-place2 .ensures))
-    (λ c. parameter-gives _ _ _ _ _ _ _ _ (body-parameter _ (c .before .before .before .before .before .before .before .before .before .pre .1 .1 .0 .falling) _ _ (read-here _ _ (c .before .before .before .before .before .before .before .before .before .pre .1 .0) _ (c .before .before .read-node .ensures)) (c .before .match .keys4)) (c .given-item .ensures))
-    (λ c. operator-gives _ _ _ _ _ _ _ (c .before .before .before .before .read-node .result .arg) _ _ _ _ (body-operator _ (c .before .before .before .before .before .before .before .before .before .before .before .pre .1 .1 .0 .falling) _ _ (read-here _ _ (c .before .before .before .before .before .before .before .before .before .before .before .pre .1 .0) _ (c .before .before .before .before .read-node .ensures)) (c .before .before .before .match .keys5)) (c .before .before .evaluate2 .ensures) (c .before .evaluate3 .ensures) (c .combined .ensures))
-    (λ c. negation-gives _ _ _ _ _ _ _ _ _ (body-negation _ (c .before .before .before .before .before .before .before .before .before .before .pre .1 .1 .0 .falling) _ _ (read-here _ _ (c .before .before .before .before .before .before .before .before .before .before .pre .1 .0) _ (c .before .before .before .read-node .ensures)) (c .before .before .match .keys6)) (c .before .evaluate4 .ensures) (c .opposite .ensures))
-    (λ c. variable-gives _ _ _ _ _ _ _ _ (body-variable _ (c .before .before .before .before .before .before .before .before .before .pre .1 .1 .0 .falling) _ _ (read-here _ _ (c .before .before .before .before .before .before .before .before .before .pre .1 .0) _ (c .before .before .read-node .ensures)) (c .before .match .keys7)) (c .given-item2 .ensures))
-    (λ c. let u = c .before .before .match .rest in
-    me-gives _ _ _ _ _ _ _ _ (body-rest _ (c .before .before .before .before .before .before .before .before .before .before .pre .1 .1 .0 .falling) _ _ (read-here _ _ (c .before .before .before .before .before .before .before .before .before .before .pre .1 .0) _ (c .before .before .before .read-node .ensures)) (record { constant = u .0 .0 .0 .0 .0 .0 .1; field = u .0 .0 .0 .0 .0 .1; entry = u .0 .0 .0 .0 .1; parameter = u .0 .0 .0 .1; operator = u .0 .0 .1; negation = u .0 .1; variable = u .1 })) (c .before .number-at .ensures) (c .given-number2 .ensures))
+    (λ c κs. let (_, (n-bound, (readable, field-count-bound))) = c .before .before .before .before .before .before .before .before .pre in
+    let less = one-falls _ (readable .falling) _ _ (read-here _ _ n-bound _ (c .before .read-node .ensures)) (form-negation _ (c .match .keys6)) in
+    (omega arith, (omega arith, (readable, field-count-bound))))
+    (λ c κs. search needs) (λ c κs. search needs) (λ c κs. search needs) (λ c κs. search needs)
+    (λ c. let (_, (n-bound, (readable, _))) = c .before .before .before .before .before .before .before .before .before .before .pre in
+    constant-gives _ _ _ _ _ _ _ _ _ _ (body-constant _ (readable .falling) _ _ (read-here _ _ n-bound _ (c .before .before .before .read-node .ensures)) (c .before .before .match .keys1)) (c .before .constant-of .ensures) (c .given-number .ensures))
+    (λ c. let (_, (n-bound, (readable, _))) = c .before .before .before .before .before .before .before .before .before .pre in
+    field-gives _ _ _ _ _ _ _ _ (body-field _ (readable .falling) _ _ (read-here _ _ n-bound _ (c .before .before .read-node .ensures)) (c .before .match .keys2)) (c .given-place .ensures))
+    (λ c. let (_, (n-bound, (readable, _))) = c .before .before .before .before .before .before .before .before .before .before .before .pre in
+    entry-gives _ _ _ _ _ _ _ _ _ _ _ (body-entry _ (readable .falling) _ _ (read-here _ _ n-bound _ (c .before .before .before .before .read-node .ensures)) (c .before .before .before .match .keys3)) (c .before .before .evaluate .ensures) (c .before .number-of .ensures) (c .given-place2 .ensures))
+    (λ c. let (_, (n-bound, (readable, _))) = c .before .before .before .before .before .before .before .before .before .pre in
+    parameter-gives _ _ _ _ _ _ _ _ (body-parameter _ (readable .falling) _ _ (read-here _ _ n-bound _ (c .before .before .read-node .ensures)) (c .before .match .keys4)) (c .given-item .ensures))
+    (λ c. let (_, (n-bound, (readable, _))) = c .before .before .before .before .before .before .before .before .before .before .before .pre in
+    let read-node = c .before .before .before .before .read-node in
+    operator-gives _ _ _ _ _ _ _ (read-node .result .arg) _ _ _ _ (body-operator _ (readable .falling) _ _ (read-here _ _ n-bound _ (read-node .ensures)) (c .before .before .before .match .keys5)) (c .before .before .evaluate2 .ensures) (c .before .evaluate3 .ensures) (c .combined .ensures))
+    (λ c. let (_, (n-bound, (readable, _))) = c .before .before .before .before .before .before .before .before .before .before .pre in
+    negation-gives _ _ _ _ _ _ _ _ _ (body-negation _ (readable .falling) _ _ (read-here _ _ n-bound _ (c .before .before .before .read-node .ensures)) (c .before .before .match .keys6)) (c .before .evaluate4 .ensures) (c .opposite .ensures))
+    (λ c. let (_, (n-bound, (readable, _))) = c .before .before .before .before .before .before .before .before .before .pre in
+    variable-gives _ _ _ _ _ _ _ _ (body-variable _ (readable .falling) _ _ (read-here _ _ n-bound _ (c .before .before .read-node .ensures)) (c .before .match .keys7)) (c .given-item2 .ensures))
+    (λ c. let (_, (n-bound, (readable, _))) = c .before .before .before .before .before .before .before .before .before .before .pre in
+    let u = c .before .before .match .rest in
+    me-gives _ _ _ _ _ _ _ _ (body-rest _ (readable .falling) _ _ (read-here _ _ n-bound _ (c .before .before .before .read-node .ensures)) (record { constant = u .0 .0 .0 .0 .0 .0 .1; field = u .0 .0 .0 .0 .0 .1; entry = u .0 .0 .0 .0 .1; parameter = u .0 .0 .0 .1; operator = u .0 .0 .1; negation = u .0 .1; variable = u .1 })) (c .before .number-at .ensures) (c .given-number2 .ensures))

@@ -1,4 +1,3 @@
--- `walk_expressions::given_place` meets its contract.
 use mathlib.Core.Path.{refl}
 use borrow.Author.Needs.{needs}
 use Rattle.walk_expressions.proofs.given_place.Statement.{statement}

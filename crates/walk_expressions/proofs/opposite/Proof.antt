@@ -1,4 +1,3 @@
--- `walk_expressions::opposite` meets its contract.
 use mathlib.Core.Path.{refl}
 use Rattle.walk_expressions.proofs.Laws.{opposite-number}
 use borrow.Author.Needs.{needs}

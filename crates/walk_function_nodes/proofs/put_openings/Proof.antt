@@ -18,16 +18,10 @@ abbrev μ-loop : tie.MeasureT-loop
 
 pub put-openings-spec : {M : Type 1} → statement M
 put-openings-spec =
-    tie.close
-    (tie.spec
-    Inv-loop
-    μ-loop
+    tie.close (tie.spec Inv-loop μ-loop
     (λ c. (omega arith, (refl, openings-none (c .before .args .numbers .now))))
+    (λ c. search needs) (λ c. search needs) (λ c κs. search needs) (λ c. search needs) (λ c. search needs)
+    (λ c. let (_, (_, numbers-is)) = c .before .before .before .before .before .loop .inv in
+    (omega arith, (search needs, openings-next _ _ _ _ (omega arith) numbers-is (c .before .before .put-four .ensures))))
     (λ c. search needs)
-    (λ c. search needs)
-    (λ c κs. search needs)
-    (λ c. search needs)
-    (λ c. search needs)
-    (λ c. (omega arith, (search needs, openings-next _ _ _ _ (omega arith) (c .before .before .before .before .before .loop .inv .1 .1) (c .before .before .put-four .ensures))))
-    (λ c. search needs)
-    (λ c. openings-done _ _ _ _ (c .before .loop .inv .0) (omega arith) (c .before .loop .inv .1 .1)))
+    (λ c. let (i-bound, (_, numbers-is)) = c .before .loop .inv in openings-done _ _ _ _ i-bound (omega arith) numbers-is))

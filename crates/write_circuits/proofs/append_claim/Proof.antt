@@ -6,10 +6,9 @@ use Rattle.write_circuits.proofs.append_claim.Tie as tie
 
 pub append-claim-spec : {M : Type 1} → statement M
 append-claim-spec =
-    tie.close
-    (tie.spec
-    (λ c κs. search needs)
-    (λ c κs. search needs)
-    (λ c κs. search needs)
-    (λ c. search needs)
-    (λ c. three-appended _ _ _ _ _ (c .before .before .before .before .before .before .before .before .before .before .before .before .before .pre) _ _ _ _ _ _ (c .before .before .before .before .before .before .before .before .before .before .append-two-bytes .ensures) (c .before .before .before .before .before .before .append-two-bytes2 .ensures) (c .before .before .append-two-bytes3 .ensures)))
+    tie.close (tie.spec
+    (λ c κs. search needs) (λ c κs. search needs) (λ c κs. search needs) (λ c. search needs)
+    (λ c. let pre = c .before .before .before .before .before .before .before .before .before .before .before .before .before .pre in
+    let append-two-bytes = c .before .before .before .before .before .before .before .before .before .before .append-two-bytes .ensures in
+    let append-two-bytes2 = c .before .before .before .before .before .before .append-two-bytes2 .ensures in
+    three-appended _ _ _ _ _ pre _ _ _ _ _ _ append-two-bytes append-two-bytes2 (c .before .before .append-two-bytes3 .ensures)))

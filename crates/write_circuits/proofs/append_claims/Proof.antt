@@ -16,23 +16,40 @@ abbrev μ-loop : tie.MeasureT-loop
 
 pub append-claims-spec : {M : Type 1} → statement M
 append-claims-spec =
-    tie.close
-    (tie.spec
-    Inv-loop
-    μ-loop
+    tie.close (tie.spec Inv-loop μ-loop
     (λ c. (appending-start _ _ _, omega arith, refl))
-    (λ c. omega (arith, c .before .before .before .before .pre .0, c .before .loop .inv .1, c .before .before .before .before .good .0))
-    (λ c. omega (arith, c .before .before .before .before .before .pre .0, c .before .before .loop .inv .1, c .before .before .before .before .before .good .0))
-    (λ c. omega (arith, c .before .before .before .before .before .pre .0, c .before .before .loop .inv .1, c .before .before .before .before .before .good .0))
-    (λ c. omega (arith, c .before .before .before .before .before .pre .0, c .before .before .loop .inv .1, c .before .before .before .before .before .good .0))
-    (λ c. omega (arith, c .before .before .before .before .before .before .pre .0, c .before .before .before .loop .inv .1, c .before .before .before .before .before .before .good .0))
-    (λ c. omega (arith, c .before .before .before .before .before .before .pre .0, c .before .before .before .loop .inv .1, c .before .before .before .before .before .before .good .0))
-    (λ c. omega (arith, c .before .before .before .before .before .before .pre .0, c .before .before .before .loop .inv .1, c .before .before .before .before .before .before .good .0))
-    (λ c. omega (arith, c .before .before .before .before .before .before .before .pre .0, c .before .before .before .before .loop .inv .1, c .before .before .before .before .before .before .before .good .0))
-    (λ c κs. six-room (c .before .before .before .before .before .before .before .before .args .numbers .now) (c .before .before .before .before .before .before .before .before .args .count) _ (c .before .before .before .before .before .before .before .before .args .from) (c .before .before .before .before .before .before .before .before .pre .1) _ _ (c .before .before .before .before .before .loop .i) (c .before .before .before .before .before .loop .left) (c .before .before .before .before .before .loop .inv .0) (c .before .before .before .before .loop-test .taken))
-    (λ c. omega (arith, c .before .before .before .before .before .before .before .before .before .before .before .pre .0, c .before .before .before .before .before .before .before .before .loop .inv .1, c .before .before .before .before .before .before .before .before .before .before .before .good .0))
-    (λ c. omega arith)
-    (λ c. omega arith)
-    (λ c. (six-appended (c .before .before .before .before .before .before .before .before .before .before .before .args .numbers .now) (c .before .before .before .before .before .before .before .before .before .before .before .args .count) _ (c .before .before .before .before .before .before .before .before .before .before .before .args .from) (c .before .before .before .before .before .before .before .before .before .before .before .pre .1) _ _ (c .before .before .before .before .before .before .before .before .loop .i) (c .before .before .before .before .before .before .before .before .loop .left) (c .before .before .before .before .before .before .before .before .loop .inv .0) (c .before .before .before .before .before .before .before .loop-test .taken) _ _ (c .before .before .append-claim .ensures), omega (arith, c .before .before .before .before .before .before .before .before .loop .inv .1), c .before .before .append-claim .kept .1 .1 .1 .0 ∙ c .before .before .before .before .before .before .before .before .loop .inv .2))
-    (λ c. c .before .loop .inv .2)
-    (λ c. sixes-done (c .before .before .before .before .args .numbers .now) (c .before .before .before .before .args .count) _ (c .before .before .before .before .args .from) (c .before .before .before .before .pre .1) _ _ (c .before .loop .i) (c .before .loop .left) (c .before .loop .inv .0) (omega arith)))
+    (λ c. let (count-bound, _) = c .before .before .before .before .pre in let (_, i-is, _) = c .before .loop .inv in
+    omega (arith, count-bound, i-is, c .before .before .before .before .good .0))
+    (λ c. let (count-bound, _) = c .before .before .before .before .before .pre in let (_, i-is, _) = c .before .before .loop .inv in
+    omega (arith, count-bound, i-is, c .before .before .before .before .before .good .0))
+    (λ c. let (count-bound, _) = c .before .before .before .before .before .pre in let (_, i-is, _) = c .before .before .loop .inv in
+    omega (arith, count-bound, i-is, c .before .before .before .before .before .good .0))
+    (λ c. let (count-bound, _) = c .before .before .before .before .before .pre in let (_, i-is, _) = c .before .before .loop .inv in
+    omega (arith, count-bound, i-is, c .before .before .before .before .before .good .0))
+    (λ c. let (count-bound, _) = c .before .before .before .before .before .before .pre in let (_, i-is, _) = c .before .before .before .loop .inv in
+    omega (arith, count-bound, i-is, c .before .before .before .before .before .before .good .0))
+    (λ c. let (count-bound, _) = c .before .before .before .before .before .before .pre in let (_, i-is, _) = c .before .before .before .loop .inv in
+    omega (arith, count-bound, i-is, c .before .before .before .before .before .before .good .0))
+    (λ c. let (count-bound, _) = c .before .before .before .before .before .before .pre in let (_, i-is, _) = c .before .before .before .loop .inv in
+    omega (arith, count-bound, i-is, c .before .before .before .before .before .before .good .0))
+    (λ c. let (count-bound, _) = c .before .before .before .before .before .before .before .pre in
+    let (_, i-is, _) = c .before .before .before .before .loop .inv in
+    omega (arith, count-bound, i-is, c .before .before .before .before .before .before .before .good .0))
+    (λ c κs. let start = c .before .before .before .before .before .before .before .before in let args = start .args in let (_, out-room) = start .pre in
+    let loop = c .before .before .before .before .before .loop in
+    let (sixes-left, _, _) = c .before .before .before .before .before .loop .inv in
+    six-room (args .numbers .now) (args .count) _ (args .from) out-room _ _ (loop .i) (loop .left) sixes-left (c .before .before .before .before .loop-test .taken))
+    (λ c. let good = c .before .before .before .before .before .before .before .before .before .before .before .good .0 in
+    let (count-bound, _) = c .before .before .before .before .before .before .before .before .before .before .before .pre in
+    let (_, i-is, _) = c .before .before .before .before .before .before .before .before .loop .inv in omega (arith, count-bound, i-is, good))
+    (λ c. omega arith) (λ c. omega arith)
+    (λ c. let start = c .before .before .before .before .before .before .before .before .before .before .before in let args = start .args in
+    let (_, out-room) = start .pre in let loop = c .before .before .before .before .before .before .before .before .loop in
+    let (sixes-left, i-is, out-length) = c .before .before .before .before .before .before .before .before .loop .inv in
+    let loop-test-taken = c .before .before .before .before .before .before .before .loop-test .taken in
+    let append-claim = c .before .before .append-claim in
+    (six-appended (args .numbers .now) (args .count) _ (args .from) out-room _ _ (loop .i) (loop .left) sixes-left loop-test-taken _ _ (append-claim .ensures), omega (arith, i-is), append-claim .kept .1 .1 .1 .0 ∙ out-length))
+    (λ c. let (_, _, out-length) = c .before .loop .inv in out-length)
+    (λ c. let start = c .before .before .before .before in let args = start .args in let (_, out-room) = start .pre in let loop = c .before .loop in
+    let (sixes-left, _, _) = c .before .loop .inv in
+    sixes-done (args .numbers .now) (args .count) _ (args .from) out-room _ _ (loop .i) (loop .left) sixes-left (omega arith)))

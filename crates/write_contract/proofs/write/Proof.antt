@@ -1,5 +1,5 @@
 -- A refused file keeps the output as it is; an accepted one is written.
-use Rattle.write_contract.proofs.Answers.{refused}
+use Rattle.write_output.proofs.Answers.{refused}
 use borrow.Author.Needs.{needs}
 use Rattle.write_contract.proofs.write.Statement.{statement}
 use Rattle.write_contract.proofs.write.Tie as tie

@@ -1,4 +1,3 @@
--- `write_expressions::put_read` meets its contract.
 use borrow.Author.Needs.{needs}
 use Rattle.write_expressions.proofs.put_read.Statement.{statement}
 use Rattle.write_expressions.proofs.put_read.Tie as tie

@@ -6,14 +6,12 @@ use Rattle.write_fields.proofs.append_field.Tie as tie
 
 pub append-field-spec : {M : Type 1} → statement M
 append-field-spec =
-    tie.close
-    (tie.spec
-    (λ c. search needs)
-    (λ c κs. search needs)
-    (λ c κs. search needs)
-    (λ c. search needs)
-    (λ c κs. search needs)
-    (λ c. search needs)
-    (λ c κs. search needs)
-    (λ c. search needs)
-    (λ c. field-appended _ _ _ (c .before .before .before .before .before .before .before .before .before .before .before .before .before .before .pre .0) (c .before .before .before .before .before .before .before .before .before .before .before .before .before .before .args .out .now) _ _ _ _ _ _ _ _ (c .before .before .before .before .before .before .before .before .before .before .before .before .before .before .pre .1 .1 .1 .1) (c .before .before .before .before .before .before .before .before .written-type .ensures .0) (c .before .before .before .before .before .before .before .before .before .before .before .append-byte .ensures) (c .before .before .before .before .before .before .append-byte2 .ensures) (c .before .before .append-byte3 .ensures)))
+    tie.close (tie.spec
+    (λ c. search needs) (λ c κs. search needs) (λ c κs. search needs) (λ c. search needs) (λ c κs. search needs) (λ c. search needs)
+    (λ c κs. search needs) (λ c. search needs)
+    (λ c. let start = c .before .before .before .before .before .before .before .before .before .before .before .before .before .before in
+    let args-out = start .args .out .now in let (field-in-tables-is, (_, (_, (_, out-room)))) = start .pre in
+    let append-byte = c .before .before .before .before .before .before .before .before .before .before .before .append-byte .ensures in
+    let written-type = c .before .before .before .before .before .before .before .before .written-type .ensures .0 in
+    let append-byte2 = c .before .before .before .before .before .before .append-byte2 .ensures in
+    field-appended _ _ _ field-in-tables-is args-out _ _ _ _ _ _ _ _ out-room written-type append-byte append-byte2 (c .before .before .append-byte3 .ensures)))

@@ -10,11 +10,13 @@ use Rattle.write_fields.proofs.append_field_section.Tie as tie
 
 pub append-field-section-spec : {M : Type 1} → statement M
 append-field-section-spec =
-    tie.close
-    (tie.spec
-    (λ c κs. search needs)
+    tie.close (tie.spec
+    (λ c κs. search needs) (λ c. search needs) (λ c κs. search needs)
+    (λ c κs. let start = c .before .before .before .before .before .before .before .before in let args-file = start .args .file .now in
+    let (fields-listed, _) = start .pre in let byte-at = c .before .before .before .before .before .byte-at .ensures .0 in
+    (subst (FieldsListed args-file) (sym byte-at) fields-listed, let e = byte-at in let l = appended-length _ _ _ _ _ (c .before .before .before .append-byte .ensures) (omega arith) in omega arith))
     (λ c. search needs)
-    (λ c κs. search needs)
-    (λ c κs. (subst (FieldsListed (c .before .before .before .before .before .before .before .before .args .file .now)) (sym (c .before .before .before .before .before .byte-at .ensures .0)) (c .before .before .before .before .before .before .before .before .pre .0), let e = c .before .before .before .before .before .byte-at .ensures .0 in let l = appended-length _ _ _ _ _ (c .before .before .before .append-byte .ensures) (omega arith) in omega arith))
-    (λ c. search needs)
-    (λ c. section-appended (c .before .before .before .before .before .before .before .before .before .before .before .args .file .now) (c .before .before .before .before .before .before .before .before .before .before .before .args .out .now) _ _ (c .before .before .before .before .before .before .before .before .before .before .before .args .at) _ _ _ (c .before .before .before .before .before .before .before .before .byte-at .ensures .0) (c .before .before .before .before .before .before .before .before .before .before .before .pre .1) (c .before .before .before .before .before .before .append-byte .ensures) (c .before .before .append-fields .ensures)))
+    (λ c. let start = c .before .before .before .before .before .before .before .before .before .before .before in let args = start .args in
+    let (_, out-room) = start .pre in let byte-at = c .before .before .before .before .before .before .before .before .byte-at .ensures .0 in
+    let append-byte = c .before .before .before .before .before .before .append-byte .ensures in
+    section-appended (args .file .now) (args .out .now) _ _ (args .at) _ _ _ byte-at out-room append-byte (c .before .before .append-fields .ensures)))

@@ -19,20 +19,21 @@ abbrev μ-loop : tie.MeasureT-loop
 
 pub append-fields-spec : {M : Type 1} → statement M
 append-fields-spec =
-    tie.close
-    (tie.spec
-    Inv-loop
-    μ-loop
+    tie.close (tie.spec Inv-loop μ-loop
     (λ c. (appending-start _ _ _, omega arith, omega arith, refl))
-    (λ c κs. search needs)
+    (λ c κs. search needs) (λ c. search needs) (λ c κs. search needs) (λ c. search needs) (λ c κs. search needs)
+    (λ c κs. let start = c .before .before .before .before .before .before .before .before in let args = start .args in
+    let (fields-listed, out-room) = start .pre in let loop = c .before .before .before .before .before .loop in
+    let (appending, _, place-is, _) = c .before .before .before .before .before .loop .inv in
+    (field-listed (args .file .now) (args .count) (loop .left) (loop .place) _ _ _ fields-listed (omega arith) (omega arith) place-is (c .before .before .before .byte-at .ensures .0) (c .before .before .byte-at2 .ensures .0) (c .before .byte-at3 .ensures .0), (omega arith, (omega arith, (omega arith, fields-room (args .file .now) (args .out .now) (args .from) (args .count) out-room (loop .out) (loop .at) (loop .left) (loop .place) (omega arith) appending)))))
+    (λ c. search needs) (λ c. search needs) (λ c. search needs)
+    (λ c. let start = c .before .before .before .before .before .before .before .before .before .before .before in let args = start .args in
+    let (_, out-room) = start .pre in let loop = c .before .before .before .before .before .before .before .before .loop in
+    let (appending, _, _, _) = c .before .before .before .before .before .before .before .before .loop .inv in
+    let byte-at = c .before .before .before .before .before .before .byte-at .ensures .0 in
+    let byte-at2 = c .before .before .before .before .before .byte-at2 .ensures .0 in
+    (fields-appended (args .file .now) (args .out .now) (args .from) (args .count) out-room _ _ _ (loop .left) (loop .place) _ _ _ _ (omega arith) byte-at byte-at2 (c .before .before .before .before .byte-at3 .ensures .0) appending (c .before .before .append-field .ensures), omega arith, omega arith, search needs))
     (λ c. search needs)
-    (λ c κs. search needs)
-    (λ c. search needs)
-    (λ c κs. search needs)
-    (λ c κs. (field-listed (c .before .before .before .before .before .before .before .before .args .file .now) (c .before .before .before .before .before .before .before .before .args .count) (c .before .before .before .before .before .loop .left) (c .before .before .before .before .before .loop .place) _ _ _ (c .before .before .before .before .before .before .before .before .pre .0) (omega arith) (omega arith) (c .before .before .before .before .before .loop .inv .2) (c .before .before .before .byte-at .ensures .0) (c .before .before .byte-at2 .ensures .0) (c .before .byte-at3 .ensures .0), (omega arith, (omega arith, (omega arith, fields-room (c .before .before .before .before .before .before .before .before .args .file .now) (c .before .before .before .before .before .before .before .before .args .out .now) (c .before .before .before .before .before .before .before .before .args .from) (c .before .before .before .before .before .before .before .before .args .count) (c .before .before .before .before .before .before .before .before .pre .1) (c .before .before .before .before .before .loop .out) (c .before .before .before .before .before .loop .at) (c .before .before .before .before .before .loop .left) (c .before .before .before .before .before .loop .place) (omega arith) (c .before .before .before .before .before .loop .inv .0))))))
-    (λ c. search needs)
-    (λ c. search needs)
-    (λ c. search needs)
-    (λ c. (fields-appended (c .before .before .before .before .before .before .before .before .before .before .before .args .file .now) (c .before .before .before .before .before .before .before .before .before .before .before .args .out .now) (c .before .before .before .before .before .before .before .before .before .before .before .args .from) (c .before .before .before .before .before .before .before .before .before .before .before .args .count) (c .before .before .before .before .before .before .before .before .before .before .before .pre .1) _ _ _ (c .before .before .before .before .before .before .before .before .loop .left) (c .before .before .before .before .before .before .before .before .loop .place) _ _ _ _ (omega arith) (c .before .before .before .before .before .before .byte-at .ensures .0) (c .before .before .before .before .before .byte-at2 .ensures .0) (c .before .before .before .before .byte-at3 .ensures .0) (c .before .before .before .before .before .before .before .before .loop .inv .0) (c .before .before .append-field .ensures), omega arith, omega arith, search needs))
-    (λ c. search needs)
-    (λ c. fields-done (c .before .before .before .before .args .file .now) (c .before .before .before .before .args .out .now) (c .before .before .before .before .args .from) (c .before .before .before .before .args .count) (c .before .before .before .before .pre .1) _ _ (c .before .loop .left) (c .before .loop .place) (omega arith) (c .before .loop .inv .0)))
+    (λ c. let start = c .before .before .before .before in let args = start .args in let (_, out-room) = start .pre in let loop = c .before .loop in
+    let (appending, _, _, _) = c .before .loop .inv in
+    fields-done (args .file .now) (args .out .now) (args .from) (args .count) out-room _ _ (loop .left) (loop .place) (omega arith) appending))

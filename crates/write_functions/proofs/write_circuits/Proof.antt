@@ -8,16 +8,26 @@ use Rattle.write_functions.proofs.write_circuits.Tie as tie
 
 pub write-circuits-spec : {M : Type 1} → statement M
 write-circuits-spec =
-    tie.close
-    (tie.spec
+    tie.close (tie.spec
     (λ c κs. omega (arith, (c .before .before .before .before .pre) .room .context .nearFunction))
     (λ c. omega (arith, (c .before .before .before .before .before .pre) .room .context .nearFunction))
-    (λ c κs. omega (arith, (c .before .before .before .before .before .pre) .room .context .nearFunction, (c .before .before .before .before .before .pre) .room .context .fewParameters, c .byte-at .ensures .0))
-    (λ c κs. log-ready _ _ (c .before .before .before .before .before .before .before .args .nodes-at) _ (c .before .before .before .before .before .before .before .args .numbers .now) (c .before .before .before .before .before .before .before .args .out .now) (c .before .before .before .before .before .before .before .args .base) (c .before .before .before .before .before .before .before .pre) _ (private-is _ _ _ _ (c .before .before .byte-at .ensures .0) (c .before .count-private .ensures)))
+    (λ c κs. let pre = c .before .before .before .before .before .pre in
+    omega (arith, pre .room .context .nearFunction, pre .room .context .fewParameters, c .byte-at .ensures .0))
+    (λ c κs. let start = c .before .before .before .before .before .before .before in let args = start .args in let pre = start .pre in
+    log-ready _ _ (args .nodes-at) _ (args .numbers .now) (args .out .now) (args .base) pre _ (private-is _ _ _ _ (c .before .before .byte-at .ensures .0) (c .before .count-private .ensures)))
     (λ c. omega (arith, (c .before .before .before .before .before .before .before .before .before .before .before .before .before .before .pre) .room .nodes))
-    (λ c κs. (ready-context _ _ (c .before .before .before .before .before .before .before .before .before .before .before .before .before .before .args .nodes-at) _ (c .before .before .before .before .before .before .before .before .before .before .before .before .before .before .args .numbers .now) (c .before .before .before .before .before .before .before .before .before .before .before .before .before .before .args .out .now) (c .before .before .before .before .before .before .before .before .before .before .before .before .before .before .args .base) (c .before .before .before .before .before .before .before .before .before .before .before .before .before .before .pre) _ (private-is _ _ _ _ (c .before .before .before .before .before .before .before .before .before .byte-at .ensures .0) (c .before .before .before .before .before .before .before .before .count-private .ensures)), circuits-asked _ _ (c .before .before .before .before .before .before .before .before .before .before .before .before .before .before .args .nodes-at) _ (c .before .before .before .before .before .before .before .before .before .before .before .before .before .before .args .numbers .now) (c .before .before .before .before .before .before .before .before .before .before .before .before .before .before .args .out .now) (c .before .before .before .before .before .before .before .before .before .before .before .before .before .before .args .base) (c .before .before .before .before .before .before .before .before .before .before .before .before .before .before .pre) _ (private-is _ _ _ _ (c .before .before .before .before .before .before .before .before .before .byte-at .ensures .0) (c .before .before .before .before .before .before .before .before .count-private .ensures)) _ _ (c .before .before .before .before .before .before .function-log .ensures)))
+    (λ c κs. let start = c .before .before .before .before .before .before .before .before .before .before .before .before .before .before in
+    let args = start .args in let pre = start .pre in
+    let byte-at = c .before .before .before .before .before .before .before .before .before .byte-at .ensures .0 in
+    let count-private = c .before .before .before .before .before .before .before .before .count-private .ensures in
+    let function-log = c .before .before .before .before .before .before .function-log .ensures in
+    (ready-context _ _ (args .nodes-at) _ (args .numbers .now) (args .out .now) (args .base) pre _ (private-is _ _ _ _ byte-at count-private), circuits-asked _ _ (args .nodes-at) _ (args .numbers .now) (args .out .now) (args .base) pre _ (private-is _ _ _ _ byte-at count-private) _ _ function-log))
     (λ c. omega (arith, c .before .before .before .before .before .before .before .before .before .before .before .before .function-log .ensures .variable))
-    (λ c. search needs)
-    (λ c. search needs)
-    (λ c. search needs)
-    (λ c. circuits-written _ _ (c .before .before .before .before .before .before .before .before .before .before .before .before .before .before .before .before .before .before .before .before .args .nodes-at) _ (c .before .before .before .before .before .before .before .before .before .before .before .before .before .before .before .before .before .before .before .before .args .numbers .now) (c .before .before .before .before .before .before .before .before .before .before .before .before .before .before .before .before .before .before .before .before .args .out .now) (c .before .before .before .before .before .before .before .before .before .before .before .before .before .before .before .before .before .before .before .before .args .base) (c .before .before .before .before .before .before .before .before .before .before .before .before .before .before .before .before .before .before .before .before .pre) _ (private-is _ _ _ _ (c .before .before .before .before .before .before .before .before .before .before .before .before .before .before .before .byte-at .ensures .0) (c .before .before .before .before .before .before .before .before .before .before .before .before .before .before .count-private .ensures)) _ _ (c .before .before .before .before .before .before .before .before .before .before .before .before .function-log .ensures) _ _ _ (c .before .before .before .before .before .put-circuits .ensures) (c .before .before .before .before .before .put-circuits .kept .1 .1 .1 .1 .1 .1 .0)))
+    (λ c. search needs) (λ c. search needs) (λ c. search needs)
+    (λ c. let start = c .before .before .before .before .before .before .before .before .before .before .before .before .before .before .before .before .before .before .before .before in
+    let args = start .args in let pre = start .pre in
+    let byte-at = c .before .before .before .before .before .before .before .before .before .before .before .before .before .before .before .byte-at .ensures .0 in
+    let count-private = c .before .before .before .before .before .before .before .before .before .before .before .before .before .before .count-private .ensures in
+    let function-log = c .before .before .before .before .before .before .before .before .before .before .before .before .function-log .ensures in
+    let put-circuits = c .before .before .before .before .before .put-circuits in
+    circuits-written _ _ (args .nodes-at) _ (args .numbers .now) (args .out .now) (args .base) pre _ (private-is _ _ _ _ byte-at count-private) _ _ function-log _ _ _ (put-circuits .ensures) (put-circuits .kept .1 .1 .1 .1 .1 .1 .0)))

@@ -7,20 +7,48 @@ use Rattle.write_functions.proofs.write_function.Tie as tie
 
 pub write-function-spec : {M : Type 1} → statement M
 write-function-spec =
-    tie.close
-    (tie.spec
-    (λ c κs. circuits-ready _ _ (c .before .before .before .before .before .before .before .before .before .before .before .args .nodes-at) _ _ _ _ _ _ _ _ _ (c .before .before .before .before .before .before .before .before .before .before .before .pre))
-    (λ c. let fit = constraints-fit _ _ (c .before .before .before .before .before .before .before .before .before .before .before .before .before .before .before .before .before .before .before .args .nodes-at) _ _ _ _ _ _ _ _ _ (c .before .before .before .before .before .before .before .before .before .before .before .before .before .before .before .before .before .before .before .pre) _ _ _ _ (c .before .before .before .before .before .before .before .write-circuits .ensures) in omega arith)
-    (λ c. let few = nodes-few _ _ (c .before .before .before .before .before .before .before .before .before .before .before .before .before .before .before .before .before .before .before .before .args .nodes-at) _ _ _ _ _ _ _ _ _ (c .before .before .before .before .before .before .before .before .before .before .before .before .before .before .before .before .before .before .before .before .pre) _ _ _ _ (c .before .before .before .before .before .before .before .before .write-circuits .ensures) in omega arith)
-    (λ c. let few = nodes-few _ _ (c .before .before .before .before .before .before .before .before .before .before .before .before .before .before .before .before .before .before .before .before .before .before .before .args .nodes-at) _ _ _ _ _ _ _ _ _ (c .before .before .before .before .before .before .before .before .before .before .before .before .before .before .before .before .before .before .before .before .before .before .before .pre) _ _ _ _ (c .before .before .before .before .before .before .before .before .before .before .before .write-circuits .ensures) in omega arith)
-    (λ c κs. body-ready _ _ (c .before .before .before .before .before .before .before .before .before .before .before .before .before .before .before .before .before .before .before .before .before .before .before .args .nodes-at) _ _ _ _ _ _ _ _ _ (c .before .before .before .before .before .before .before .before .before .before .before .before .before .before .before .before .before .before .before .before .before .before .before .pre) _ _ _ _ (c .before .before .before .before .before .before .before .before .before .before .before .write-circuits .ensures) _ refl)
-    (λ c. let few = total-few _ _ (c .before .before .before .before .before .before .before .before .before .before .before .before .before .before .before .before .before .before .before .before .before .before .before .before .before .before .before .before .before .before .before .args .nodes-at) _ _ _ _ _ _ _ _ _ (c .before .before .before .before .before .before .before .before .before .before .before .before .before .before .before .before .before .before .before .before .before .before .before .before .before .before .before .before .before .before .before .pre) _ _ _ _ (c .before .before .before .before .before .before .before .before .before .before .before .before .before .before .before .before .before .before .before .write-circuits .ensures) _ _ (c .before .before .before .before .before .before .before .write-function-body .ensures) in omega arith)
-    (λ c κs. heading-ready _ _ (c .before .before .before .before .before .before .before .before .before .before .before .before .before .before .before .before .before .before .before .before .before .before .before .before .before .before .before .before .before .before .before .before .before .before .before .args .nodes-at) _ _ _ _ _ _ _ _ _ (c .before .before .before .before .before .before .before .before .before .before .before .before .before .before .before .before .before .before .before .before .before .before .before .before .before .before .before .before .before .before .before .before .before .before .before .pre) _ _ _ _ (c .before .before .before .before .before .before .before .before .before .before .before .before .before .before .before .before .before .before .before .before .before .before .before .write-circuits .ensures) _ _ (c .before .before .before .before .before .before .before .before .before .before .before .write-function-body .ensures))
-    (λ c. c .before .before .before .before .before .before .before .before .before .before .before .before .before .before .before .before .before .before .before .before .before .before .before .before .before .before .before .before .write-circuits .kept .1 .1 .1 .0)
+    tie.close (tie.spec
+    (λ c κs. let start = c .before .before .before .before .before .before .before .before .before .before .before in
+    let args-nodes-at = start .args .nodes-at in let pre = start .pre in circuits-ready _ _ args-nodes-at _ _ _ _ _ _ _ _ _ pre)
+    (λ c. let start = c .before .before .before .before .before .before .before .before .before .before .before .before .before .before .before .before .before .before .before in
+    let args-nodes-at = start .args .nodes-at in let pre = start .pre in
+    let write-circuits = c .before .before .before .before .before .before .before .write-circuits .ensures in
+    let fit = constraints-fit _ _ args-nodes-at _ _ _ _ _ _ _ _ _ pre _ _ _ _ write-circuits in omega arith)
+    (λ c. let start = c .before .before .before .before .before .before .before .before .before .before .before .before .before .before .before .before .before .before .before .before in
+    let args-nodes-at = start .args .nodes-at in let pre = start .pre in
+    let write-circuits = c .before .before .before .before .before .before .before .before .write-circuits .ensures in
+    let few = nodes-few _ _ args-nodes-at _ _ _ _ _ _ _ _ _ pre _ _ _ _ write-circuits in omega arith)
+    (λ c. let start = c .before .before .before .before .before .before .before .before .before .before .before .before .before .before .before .before .before .before .before .before .before .before .before in
+    let args-nodes-at = start .args .nodes-at in let pre = start .pre in
+    let write-circuits = c .before .before .before .before .before .before .before .before .before .before .before .write-circuits .ensures in
+    let few = nodes-few _ _ args-nodes-at _ _ _ _ _ _ _ _ _ pre _ _ _ _ write-circuits in omega arith)
+    (λ c κs. let start = c .before .before .before .before .before .before .before .before .before .before .before .before .before .before .before .before .before .before .before .before .before .before .before in
+    let args-nodes-at = start .args .nodes-at in let pre = start .pre in
+    let write-circuits = c .before .before .before .before .before .before .before .before .before .before .before .write-circuits .ensures in
+    body-ready _ _ args-nodes-at _ _ _ _ _ _ _ _ _ pre _ _ _ _ write-circuits _ refl)
+    (λ c. let start = c .before .before .before .before .before .before .before .before .before .before .before .before .before .before .before .before .before .before .before .before .before .before .before .before .before .before .before .before .before .before .before in
+    let args-nodes-at = start .args .nodes-at in let pre = start .pre in
+    let write-circuits = c .before .before .before .before .before .before .before .before .before .before .before .before .before .before .before .before .before .before .before .write-circuits .ensures in
+    let write-function-body = c .before .before .before .before .before .before .before .write-function-body .ensures in
+    let few = total-few _ _ args-nodes-at _ _ _ _ _ _ _ _ _ pre _ _ _ _ write-circuits _ _ write-function-body in omega arith)
+    (λ c κs. let start = c .before .before .before .before .before .before .before .before .before .before .before .before .before .before .before .before .before .before .before .before .before .before .before .before .before .before .before .before .before .before .before .before .before .before .before in
+    let args-nodes-at = start .args .nodes-at in let pre = start .pre in
+    let write-circuits = c .before .before .before .before .before .before .before .before .before .before .before .before .before .before .before .before .before .before .before .before .before .before .before .write-circuits .ensures in
+    let write-function-body = c .before .before .before .before .before .before .before .before .before .before .before .write-function-body .ensures in
+    heading-ready _ _ args-nodes-at _ _ _ _ _ _ _ _ _ pre _ _ _ _ write-circuits _ _ write-function-body)
+    (λ c. let write-circuits-kept = c .before .before .before .before .before .before .before .before .before .before .before .before .before .before .before .before .before .before .before .before .before .before .before .before .before .before .before .before .write-circuits .kept .1 .1 .1 .0 in
+    write-circuits-kept)
     (λ c. c .before .before .before .before .before .before .before .before .before .before .before .before .before .before .before .before .write-function-body .kept .1 .1 .1 .1 .1 .0)
     (λ c. c .before .before .before .before .before .before .before .before .before .before .before .before .before .before .before .before .write-function-body .kept .1 .1 .1 .1 .1 .1 .0)
-    (λ c. c .before .before .before .before .before .before .before .before .before .before .before .before .before .before .before .before .before .before .before .before .before .before .before .before .before .before .before .before .write-circuits .kept .1 .1 .1 .1 .0)
+    (λ c. let write-circuits-kept = c .before .before .before .before .before .before .before .before .before .before .before .before .before .before .before .before .before .before .before .before .before .before .before .before .before .before .before .before .write-circuits .kept .1 .1 .1 .1 .0 in
+    write-circuits-kept)
     (λ c. c .before .before .before .before .write-heading .kept .1 .1 .1 .1 .0)
     (λ c. c .before .before .before .before .write-heading .kept .1 .1 .1 .1 .1 .0)
-    (λ c. c .before .before .before .before .before .before .before .before .before .before .before .before .before .before .before .before .write-function-body .kept .1 .1 .1 .1 .1 .1 .1 .0 ∙ c .before .before .before .before .before .before .before .before .before .before .before .before .before .before .before .before .before .before .before .before .before .before .before .before .before .before .before .before .write-circuits .kept .1 .1 .1 .1 .1 .0)
-    (λ c. function-written _ _ (c .before .before .before .before .before .before .before .before .before .before .before .before .before .before .before .before .before .before .before .before .before .before .before .before .before .before .before .before .before .before .before .before .before .before .before .before .before .before .before .before .args .nodes-at) _ _ _ _ _ _ _ _ _ (c .before .before .before .before .before .before .before .before .before .before .before .before .before .before .before .before .before .before .before .before .before .before .before .before .before .before .before .before .before .before .before .before .before .before .before .before .before .before .before .before .pre) _ _ _ _ (c .before .before .before .before .before .before .before .before .before .before .before .before .before .before .before .before .before .before .before .before .before .before .before .before .before .before .before .before .write-circuits .ensures) _ _ (c .before .before .before .before .before .before .before .before .before .before .before .before .before .before .before .before .write-function-body .ensures) _ _ (c .before .before .before .before .write-heading .ensures)))
+    (λ c. let write-circuits-kept = c .before .before .before .before .before .before .before .before .before .before .before .before .before .before .before .before .before .before .before .before .before .before .before .before .before .before .before .before .write-circuits .kept .1 .1 .1 .1 .1 .0 in
+    let write-function-body-kept = c .before .before .before .before .before .before .before .before .before .before .before .before .before .before .before .before .write-function-body .kept .1 .1 .1 .1 .1 .1 .1 .0 in
+    write-function-body-kept ∙ write-circuits-kept)
+    (λ c. let start = c .before .before .before .before .before .before .before .before .before .before .before .before .before .before .before .before .before .before .before .before .before .before .before .before .before .before .before .before .before .before .before .before .before .before .before .before .before .before .before .before in
+    let args-nodes-at = start .args .nodes-at in let pre = start .pre in
+    let write-circuits = c .before .before .before .before .before .before .before .before .before .before .before .before .before .before .before .before .before .before .before .before .before .before .before .before .before .before .before .before .write-circuits .ensures in
+    let write-function-body = c .before .before .before .before .before .before .before .before .before .before .before .before .before .before .before .before .write-function-body .ensures in
+    function-written _ _ args-nodes-at _ _ _ _ _ _ _ _ _ pre _ _ _ _ write-circuits _ _ write-function-body _ _ (c .before .before .before .before .write-heading .ensures)))

@@ -9,15 +9,20 @@ use Rattle.write_functions.proofs.write_heading.Tie as tie
 
 pub write-heading-spec : {M : Type 1} → statement M
 write-heading-spec =
-    tie.close
-    (tie.spec
+    tie.close (tie.spec
     (λ c κs. claims-asked _ _ _ _ _ _ _ _ _ _ (c .before .before .before .before .before .before .pre))
     (λ c. sym (length-take-le _ _ ((c .before .before .before .before .before .before .before .before .before .before .pre) .told .logged)))
-    (λ c. let inside = claimed-inside _ _ _ _ _ _ _ _ _ _ (c .before .before .before .before .before .before .before .before .before .before .pre) _ _ (c .before .before .before .append-claims .ensures) in omega (arith, c .before .before .before .append-claims .kept .1 .1 .0))
-    (λ c. let inside = claimed-inside _ _ _ _ _ _ _ _ _ _ (c .before .before .before .before .before .before .before .before .before .before .before .pre) _ _ (c .before .before .before .before .append-claims .ensures) in sym (length-take-le _ _ (omega (arith, c .before .before .before .before .append-claims .kept .1 .1 .0))))
-    (λ c. omega (arith, (c .before .before .before .before .before .before .before .before .before .before .before .pre) .room .nodes, (c .before .before .before .before .before .before .before .before .before .before .before .pre) .whole))
+    (λ c. let pre = c .before .before .before .before .before .before .before .before .before .before .pre in
+    let append-claims = c .before .before .before .append-claims in
+    let inside = claimed-inside _ _ _ _ _ _ _ _ _ _ pre _ _ (append-claims .ensures) in omega (arith, append-claims .kept .1 .1 .0))
+    (λ c. let pre = c .before .before .before .before .before .before .before .before .before .before .before .pre in
+    let append-claims = c .before .before .before .before .append-claims in
+    let inside = claimed-inside _ _ _ _ _ _ _ _ _ _ pre _ _ (append-claims .ensures) in sym (length-take-le _ _ (omega (arith, append-claims .kept .1 .1 .0))))
+    (λ c. let pre = c .before .before .before .before .before .before .before .before .before .before .before .pre in
+    omega (arith, pre .room .nodes, pre .whole))
     (λ c. let some = some-nodes _ _ _ _ _ _ _ _ _ _ (c .before .before .before .before .before .before .before .before .before .before .before .pre) in omega arith)
     (λ c κs. heading-asked _ _ _ _ _ _ _ _ _ _ (c .before .before .before .before .before .before .before .before .before .before .before .before .pre) _ _ (c .before .before .before .before .before .append-claims .ensures))
-    (λ c. search needs)
-    (λ c. search needs)
-    (λ c. heading-written _ _ _ _ _ _ _ _ _ _ (c .before .before .before .before .before .before .before .before .before .before .before .before .before .before .before .pre) _ _ (c .before .before .before .before .before .before .before .before .append-claims .ensures) _ _ (c .before .before .append-heading .ensures)))
+    (λ c. search needs) (λ c. search needs)
+    (λ c. let pre = c .before .before .before .before .before .before .before .before .before .before .before .before .before .before .before .pre in
+    let append-claims = c .before .before .before .before .before .before .before .before .append-claims .ensures in
+    heading-written _ _ _ _ _ _ _ _ _ _ pre _ _ append-claims _ _ (c .before .before .append-heading .ensures)))

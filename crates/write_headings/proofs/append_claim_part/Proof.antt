@@ -11,12 +11,20 @@ use Rattle.write_headings.proofs.append_claim_part.Tie as tie
 
 pub append-claim-part-spec : {M : Type 1} → statement M
 append-claim-part-spec =
-    tie.close
-    (tie.spec
-    (λ c κs. search needs)
+    tie.close (tie.spec
+    (λ c κs. search needs) (λ c. search needs) (λ c κs. search needs)
+    (λ c κs. let start = c .before .before .before .before .before .before .before .before .before in let args = start .args in
+    let (_, out-room) = start .pre in let count-tag = c .before .before .before .before .before .count-tag .ensures in
+    second-room (args .out .now) (args .at) (twoBytes (args .private + countTag 1 (args .log .now))) (openingClaims 0 (args .private)) (args .claims .now) out-room _ _ (counted (args .out .now) _ (args .log .now) _ _ (args .private) _ count-tag (c .before .before .before .append-two-bytes .ensures)))
+    (λ c κs. let start = c .before .before .before .before .before .before .before .before .before .before .before .before .before in
+    let args = start .args in let (_, out-room) = start .pre in
+    let count-tag = c .before .before .before .before .before .before .before .before .before .count-tag .ensures in
+    let append-two-bytes = c .before .before .before .before .before .before .before .append-two-bytes .ensures in
+    third-room (args .out .now) (args .at) (twoBytes (args .private + countTag 1 (args .log .now))) (openingClaims 0 (args .private)) (args .claims .now) out-room _ _ _ _ (counted (args .out .now) _ (args .log .now) _ _ (args .private) _ count-tag append-two-bytes) (c .before .before .before .append-opening-claims .ensures))
     (λ c. search needs)
-    (λ c κs. search needs)
-    (λ c κs. second-room (c .before .before .before .before .before .before .before .before .before .args .out .now) (c .before .before .before .before .before .before .before .before .before .args .at) (twoBytes (c .before .before .before .before .before .before .before .before .before .args .private + countTag 1 (c .before .before .before .before .before .before .before .before .before .args .log .now))) (openingClaims 0 (c .before .before .before .before .before .before .before .before .before .args .private)) (c .before .before .before .before .before .before .before .before .before .args .claims .now) (c .before .before .before .before .before .before .before .before .before .pre .1) _ _ (counted (c .before .before .before .before .before .before .before .before .before .args .out .now) _ (c .before .before .before .before .before .before .before .before .before .args .log .now) _ _ (c .before .before .before .before .before .before .before .before .before .args .private) _ (c .before .before .before .before .before .count-tag .ensures) (c .before .before .before .append-two-bytes .ensures)))
-    (λ c κs. third-room (c .before .before .before .before .before .before .before .before .before .before .before .before .before .args .out .now) (c .before .before .before .before .before .before .before .before .before .before .before .before .before .args .at) (twoBytes (c .before .before .before .before .before .before .before .before .before .before .before .before .before .args .private + countTag 1 (c .before .before .before .before .before .before .before .before .before .before .before .before .before .args .log .now))) (openingClaims 0 (c .before .before .before .before .before .before .before .before .before .before .before .before .before .args .private)) (c .before .before .before .before .before .before .before .before .before .before .before .before .before .args .claims .now) (c .before .before .before .before .before .before .before .before .before .before .before .before .before .pre .1) _ _ _ _ (counted (c .before .before .before .before .before .before .before .before .before .before .before .before .before .args .out .now) _ (c .before .before .before .before .before .before .before .before .before .before .before .before .before .args .log .now) _ _ (c .before .before .before .before .before .before .before .before .before .before .before .before .before .args .private) _ (c .before .before .before .before .before .before .before .before .before .count-tag .ensures) (c .before .before .before .before .before .before .before .append-two-bytes .ensures)) (c .before .before .before .append-opening-claims .ensures))
-    (λ c. search needs)
-    (λ c. three-appended (c .before .before .before .before .before .before .before .before .before .before .before .before .before .before .before .before .args .out .now) (c .before .before .before .before .before .before .before .before .before .before .before .before .before .before .before .before .args .at) (twoBytes (c .before .before .before .before .before .before .before .before .before .before .before .before .before .before .before .before .args .private + countTag 1 (c .before .before .before .before .before .before .before .before .before .before .before .before .before .before .before .before .args .log .now))) (openingClaims 0 (c .before .before .before .before .before .before .before .before .before .before .before .before .before .before .before .before .args .private)) (c .before .before .before .before .before .before .before .before .before .before .before .before .before .before .before .before .args .claims .now) (c .before .before .before .before .before .before .before .before .before .before .before .before .before .before .before .before .pre .1) _ _ _ _ _ _ (counted (c .before .before .before .before .before .before .before .before .before .before .before .before .before .before .before .before .args .out .now) _ (c .before .before .before .before .before .before .before .before .before .before .before .before .before .before .before .before .args .log .now) _ _ (c .before .before .before .before .before .before .before .before .before .before .before .before .before .before .before .before .args .private) _ (c .before .before .before .before .before .before .before .before .before .before .before .before .count-tag .ensures) (c .before .before .before .before .before .before .before .before .before .before .append-two-bytes .ensures)) (c .before .before .before .before .before .before .append-opening-claims .ensures) (c .before .before .append .ensures)))
+    (λ c. let start = c .before .before .before .before .before .before .before .before .before .before .before .before .before .before .before .before in
+    let args = start .args in let (_, out-room) = start .pre in
+    let count-tag = c .before .before .before .before .before .before .before .before .before .before .before .before .count-tag .ensures in
+    let append-two-bytes = c .before .before .before .before .before .before .before .before .before .before .append-two-bytes .ensures in
+    let append-opening-claims = c .before .before .before .before .before .before .append-opening-claims .ensures in
+    three-appended (args .out .now) (args .at) (twoBytes (args .private + countTag 1 (args .log .now))) (openingClaims 0 (args .private)) (args .claims .now) out-room _ _ _ _ _ _ (counted (args .out .now) _ (args .log .now) _ _ (args .private) _ count-tag append-two-bytes) append-opening-claims (c .before .before .append .ensures)))

@@ -9,13 +9,38 @@ use Rattle.write_headings.proofs.append_heading.Tie as tie
 
 pub append-heading-spec : {M : Type 1} → statement M
 append-heading-spec =
-    tie.close
-    (tie.spec
+    tie.close (tie.spec
     (λ c κs. search needs)
-    (λ c κs. (c .before .before .before .before .before .before .pre .near, one-of-five (c .before .before .before .before .before .before .args .out .now) (c .before .before .before .before .before .before .args .from) (parameterPart (c .before .before .before .before .before .before .args .file .now) (c .before .before .before .before .before .before .args .function-at)) (variablePart (c .before .private-of .result) (c .before .before .before .before .before .before .args .made) (c .before .before .before .before .before .before .args .log .now)) (keyPart (c .before .before .before .before .before .before .args .log .now)) (claimPart (c .before .private-of .result) (c .before .before .before .before .before .before .args .log .now) (c .before .before .before .before .before .before .args .claims .now)) (twoBytes (c .before .before .before .before .before .before .args .root)) (parts-fit (c .before .private-of .result) (c .before .before .before .before .before .before .args .file .now) (c .before .before .before .before .before .before .args .function-at) (c .before .before .before .before .before .before .args .made) (c .before .before .before .before .before .before .args .log .now) (c .before .before .before .before .before .before .args .claims .now) (c .before .before .before .before .before .before .args .root) (c .before .before .before .before .before .before .args .from) _ (c .before .private-of .ensures) (c .before .before .before .before .before .before .pre))))
-    (λ c κs. (variables-fit (c .before .before .before .before .before .private-of .result) (c .before .before .before .before .before .before .before .before .before .before .args .file .now) (c .before .before .before .before .before .before .before .before .before .before .args .function-at) (c .before .before .before .before .before .before .before .before .before .before .args .made) (c .before .before .before .before .before .before .before .before .before .before .args .log .now) (c .before .before .before .before .before .before .before .before .before .before .args .claims .now) (c .before .before .before .before .before .before .before .before .before .before .args .root) (c .before .before .before .before .before .before .before .before .before .before .args .from) _ (c .before .before .before .before .before .private-of .ensures) (c .before .before .before .before .before .before .before .before .before .before .pre), two-of-five (c .before .before .before .before .before .before .before .before .before .before .args .out .now) (c .before .before .before .before .before .before .before .before .before .before .args .from) (parameterPart (c .before .before .before .before .before .before .before .before .before .before .args .file .now) (c .before .before .before .before .before .before .before .before .before .before .args .function-at)) (variablePart (c .before .before .before .before .before .private-of .result) (c .before .before .before .before .before .before .before .before .before .before .args .made) (c .before .before .before .before .before .before .before .before .before .before .args .log .now)) (keyPart (c .before .before .before .before .before .before .before .before .before .before .args .log .now)) (claimPart (c .before .before .before .before .before .private-of .result) (c .before .before .before .before .before .before .before .before .before .before .args .log .now) (c .before .before .before .before .before .before .before .before .before .before .args .claims .now)) (twoBytes (c .before .before .before .before .before .before .before .before .before .before .args .root)) (parts-fit (c .before .before .before .before .before .private-of .result) (c .before .before .before .before .before .before .before .before .before .before .args .file .now) (c .before .before .before .before .before .before .before .before .before .before .args .function-at) (c .before .before .before .before .before .before .before .before .before .before .args .made) (c .before .before .before .before .before .before .before .before .before .before .args .log .now) (c .before .before .before .before .before .before .before .before .before .before .args .claims .now) (c .before .before .before .before .before .before .before .before .before .before .args .root) (c .before .before .before .before .before .before .before .before .before .before .args .from) _ (c .before .before .before .before .before .private-of .ensures) (c .before .before .before .before .before .before .before .before .before .before .pre)) _ _ (c .before .before .before .append-parameter-part .ensures)))
-    (λ c κs. three-of-five (c .before .before .before .before .before .before .before .before .before .before .before .before .before .before .args .out .now) (c .before .before .before .before .before .before .before .before .before .before .before .before .before .before .args .from) (parameterPart (c .before .before .before .before .before .before .before .before .before .before .before .before .before .before .args .file .now) (c .before .before .before .before .before .before .before .before .before .before .before .before .before .before .args .function-at)) (variablePart (c .before .before .before .before .before .before .before .before .before .private-of .result) (c .before .before .before .before .before .before .before .before .before .before .before .before .before .before .args .made) (c .before .before .before .before .before .before .before .before .before .before .before .before .before .before .args .log .now)) (keyPart (c .before .before .before .before .before .before .before .before .before .before .before .before .before .before .args .log .now)) (claimPart (c .before .before .before .before .before .before .before .before .before .private-of .result) (c .before .before .before .before .before .before .before .before .before .before .before .before .before .before .args .log .now) (c .before .before .before .before .before .before .before .before .before .before .before .before .before .before .args .claims .now)) (twoBytes (c .before .before .before .before .before .before .before .before .before .before .before .before .before .before .args .root)) (parts-fit (c .before .before .before .before .before .before .before .before .before .private-of .result) (c .before .before .before .before .before .before .before .before .before .before .before .before .before .before .args .file .now) (c .before .before .before .before .before .before .before .before .before .before .before .before .before .before .args .function-at) (c .before .before .before .before .before .before .before .before .before .before .before .before .before .before .args .made) (c .before .before .before .before .before .before .before .before .before .before .before .before .before .before .args .log .now) (c .before .before .before .before .before .before .before .before .before .before .before .before .before .before .args .claims .now) (c .before .before .before .before .before .before .before .before .before .before .before .before .before .before .args .root) (c .before .before .before .before .before .before .before .before .before .before .before .before .before .before .args .from) _ (c .before .before .before .before .before .before .before .before .before .private-of .ensures) (c .before .before .before .before .before .before .before .before .before .before .before .before .before .before .pre)) _ _ (c .before .before .before .before .before .before .before .append-parameter-part .ensures) _ _ (c .before .before .before .append-variable-part .ensures))
-    (λ c κs. (constraints-fit (c .before .before .before .before .before .before .before .before .before .before .before .before .before .private-of .result) (c .before .before .before .before .before .before .before .before .before .before .before .before .before .before .before .before .before .before .args .file .now) (c .before .before .before .before .before .before .before .before .before .before .before .before .before .before .before .before .before .before .args .function-at) (c .before .before .before .before .before .before .before .before .before .before .before .before .before .before .before .before .before .before .args .made) (c .before .before .before .before .before .before .before .before .before .before .before .before .before .before .before .before .before .before .args .log .now) (c .before .before .before .before .before .before .before .before .before .before .before .before .before .before .before .before .before .before .args .claims .now) (c .before .before .before .before .before .before .before .before .before .before .before .before .before .before .before .before .before .before .args .root) (c .before .before .before .before .before .before .before .before .before .before .before .before .before .before .before .before .before .before .args .from) _ (c .before .before .before .before .before .before .before .before .before .before .before .before .before .private-of .ensures) (c .before .before .before .before .before .before .before .before .before .before .before .before .before .before .before .before .before .before .pre), four-of-five (c .before .before .before .before .before .before .before .before .before .before .before .before .before .before .before .before .before .before .args .out .now) (c .before .before .before .before .before .before .before .before .before .before .before .before .before .before .before .before .before .before .args .from) (parameterPart (c .before .before .before .before .before .before .before .before .before .before .before .before .before .before .before .before .before .before .args .file .now) (c .before .before .before .before .before .before .before .before .before .before .before .before .before .before .before .before .before .before .args .function-at)) (variablePart (c .before .before .before .before .before .before .before .before .before .before .before .before .before .private-of .result) (c .before .before .before .before .before .before .before .before .before .before .before .before .before .before .before .before .before .before .args .made) (c .before .before .before .before .before .before .before .before .before .before .before .before .before .before .before .before .before .before .args .log .now)) (keyPart (c .before .before .before .before .before .before .before .before .before .before .before .before .before .before .before .before .before .before .args .log .now)) (claimPart (c .before .before .before .before .before .before .before .before .before .before .before .before .before .private-of .result) (c .before .before .before .before .before .before .before .before .before .before .before .before .before .before .before .before .before .before .args .log .now) (c .before .before .before .before .before .before .before .before .before .before .before .before .before .before .before .before .before .before .args .claims .now)) (twoBytes (c .before .before .before .before .before .before .before .before .before .before .before .before .before .before .before .before .before .before .args .root)) (parts-fit (c .before .before .before .before .before .before .before .before .before .before .before .before .before .private-of .result) (c .before .before .before .before .before .before .before .before .before .before .before .before .before .before .before .before .before .before .args .file .now) (c .before .before .before .before .before .before .before .before .before .before .before .before .before .before .before .before .before .before .args .function-at) (c .before .before .before .before .before .before .before .before .before .before .before .before .before .before .before .before .before .before .args .made) (c .before .before .before .before .before .before .before .before .before .before .before .before .before .before .before .before .before .before .args .log .now) (c .before .before .before .before .before .before .before .before .before .before .before .before .before .before .before .before .before .before .args .claims .now) (c .before .before .before .before .before .before .before .before .before .before .before .before .before .before .before .before .before .before .args .root) (c .before .before .before .before .before .before .before .before .before .before .before .before .before .before .before .before .before .before .args .from) _ (c .before .before .before .before .before .before .before .before .before .before .before .before .before .private-of .ensures) (c .before .before .before .before .before .before .before .before .before .before .before .before .before .before .before .before .before .before .pre)) _ _ (c .before .before .before .before .before .before .before .before .before .before .before .append-parameter-part .ensures) _ _ (c .before .before .before .before .before .before .before .append-variable-part .ensures) _ _ (c .before .before .before .append-key-part .ensures)))
-    (λ c κs. five-of-five (c .before .before .before .before .before .before .before .before .before .before .before .before .before .before .before .before .before .before .before .before .before .before .args .out .now) (c .before .before .before .before .before .before .before .before .before .before .before .before .before .before .before .before .before .before .before .before .before .before .args .from) (parameterPart (c .before .before .before .before .before .before .before .before .before .before .before .before .before .before .before .before .before .before .before .before .before .before .args .file .now) (c .before .before .before .before .before .before .before .before .before .before .before .before .before .before .before .before .before .before .before .before .before .before .args .function-at)) (variablePart (c .before .before .before .before .before .before .before .before .before .before .before .before .before .before .before .before .before .private-of .result) (c .before .before .before .before .before .before .before .before .before .before .before .before .before .before .before .before .before .before .before .before .before .before .args .made) (c .before .before .before .before .before .before .before .before .before .before .before .before .before .before .before .before .before .before .before .before .before .before .args .log .now)) (keyPart (c .before .before .before .before .before .before .before .before .before .before .before .before .before .before .before .before .before .before .before .before .before .before .args .log .now)) (claimPart (c .before .before .before .before .before .before .before .before .before .before .before .before .before .before .before .before .before .private-of .result) (c .before .before .before .before .before .before .before .before .before .before .before .before .before .before .before .before .before .before .before .before .before .before .args .log .now) (c .before .before .before .before .before .before .before .before .before .before .before .before .before .before .before .before .before .before .before .before .before .before .args .claims .now)) (twoBytes (c .before .before .before .before .before .before .before .before .before .before .before .before .before .before .before .before .before .before .before .before .before .before .args .root)) (parts-fit (c .before .before .before .before .before .before .before .before .before .before .before .before .before .before .before .before .before .private-of .result) (c .before .before .before .before .before .before .before .before .before .before .before .before .before .before .before .before .before .before .before .before .before .before .args .file .now) (c .before .before .before .before .before .before .before .before .before .before .before .before .before .before .before .before .before .before .before .before .before .before .args .function-at) (c .before .before .before .before .before .before .before .before .before .before .before .before .before .before .before .before .before .before .before .before .before .before .args .made) (c .before .before .before .before .before .before .before .before .before .before .before .before .before .before .before .before .before .before .before .before .before .before .args .log .now) (c .before .before .before .before .before .before .before .before .before .before .before .before .before .before .before .before .before .before .before .before .before .before .args .claims .now) (c .before .before .before .before .before .before .before .before .before .before .before .before .before .before .before .before .before .before .before .before .before .before .args .root) (c .before .before .before .before .before .before .before .before .before .before .before .before .before .before .before .before .before .before .before .before .before .before .args .from) _ (c .before .before .before .before .before .before .before .before .before .before .before .before .before .before .before .before .before .private-of .ensures) (c .before .before .before .before .before .before .before .before .before .before .before .before .before .before .before .before .before .before .before .before .before .before .pre)) _ _ (c .before .before .before .before .before .before .before .before .before .before .before .before .before .before .before .append-parameter-part .ensures) _ _ (c .before .before .before .before .before .before .before .before .before .before .before .append-variable-part .ensures) _ _ (c .before .before .before .before .before .before .before .append-key-part .ensures) _ _ (c .before .before .before .append-claim-part .ensures))
+    (λ c κs. let start = c .before .before .before .before .before .before in let args = start .args in let pre = start .pre in
+    let private-of = c .before .private-of in
+    (pre .near, one-of-five (args .out .now) (args .from) (parameterPart (args .file .now) (args .function-at)) (variablePart (private-of .result) (args .made) (args .log .now)) (keyPart (args .log .now)) (claimPart (private-of .result) (args .log .now) (args .claims .now)) (twoBytes (args .root)) (parts-fit (private-of .result) (args .file .now) (args .function-at) (args .made) (args .log .now) (args .claims .now) (args .root) (args .from) _ (private-of .ensures) pre)))
+    (λ c κs. let start = c .before .before .before .before .before .before .before .before .before .before in let args = start .args in
+    let pre = start .pre in let private-of = c .before .before .before .before .before .private-of in
+    (variables-fit (private-of .result) (args .file .now) (args .function-at) (args .made) (args .log .now) (args .claims .now) (args .root) (args .from) _ (private-of .ensures) pre, two-of-five (args .out .now) (args .from) (parameterPart (args .file .now) (args .function-at)) (variablePart (private-of .result) (args .made) (args .log .now)) (keyPart (args .log .now)) (claimPart (private-of .result) (args .log .now) (args .claims .now)) (twoBytes (args .root)) (parts-fit (private-of .result) (args .file .now) (args .function-at) (args .made) (args .log .now) (args .claims .now) (args .root) (args .from) _ (private-of .ensures) pre) _ _ (c .before .before .before .append-parameter-part .ensures)))
+    (λ c κs. let start = c .before .before .before .before .before .before .before .before .before .before .before .before .before .before in
+    let args = start .args in let pre = start .pre in
+    let private-of = c .before .before .before .before .before .before .before .before .before .private-of in
+    let append-parameter-part = c .before .before .before .before .before .before .before .append-parameter-part .ensures in
+    three-of-five (args .out .now) (args .from) (parameterPart (args .file .now) (args .function-at)) (variablePart (private-of .result) (args .made) (args .log .now)) (keyPart (args .log .now)) (claimPart (private-of .result) (args .log .now) (args .claims .now)) (twoBytes (args .root)) (parts-fit (private-of .result) (args .file .now) (args .function-at) (args .made) (args .log .now) (args .claims .now) (args .root) (args .from) _ (private-of .ensures) pre) _ _ append-parameter-part _ _ (c .before .before .before .append-variable-part .ensures))
+    (λ c κs. let start = c .before .before .before .before .before .before .before .before .before .before .before .before .before .before .before .before .before .before in
+    let args = start .args in let pre = start .pre in
+    let private-of = c .before .before .before .before .before .before .before .before .before .before .before .before .before .private-of in
+    let append-parameter-part = c .before .before .before .before .before .before .before .before .before .before .before .append-parameter-part .ensures in
+    let append-variable-part = c .before .before .before .before .before .before .before .append-variable-part .ensures in
+    (constraints-fit (private-of .result) (args .file .now) (args .function-at) (args .made) (args .log .now) (args .claims .now) (args .root) (args .from) _ (private-of .ensures) pre, four-of-five (args .out .now) (args .from) (parameterPart (args .file .now) (args .function-at)) (variablePart (private-of .result) (args .made) (args .log .now)) (keyPart (args .log .now)) (claimPart (private-of .result) (args .log .now) (args .claims .now)) (twoBytes (args .root)) (parts-fit (private-of .result) (args .file .now) (args .function-at) (args .made) (args .log .now) (args .claims .now) (args .root) (args .from) _ (private-of .ensures) pre) _ _ append-parameter-part _ _ append-variable-part _ _ (c .before .before .before .append-key-part .ensures)))
+    (λ c κs. let start = c .before .before .before .before .before .before .before .before .before .before .before .before .before .before .before .before .before .before .before .before .before .before in
+    let args = start .args in let pre = start .pre in
+    let private-of = c .before .before .before .before .before .before .before .before .before .before .before .before .before .before .before .before .before .private-of in
+    let append-parameter-part = c .before .before .before .before .before .before .before .before .before .before .before .before .before .before .before .append-parameter-part .ensures in
+    let append-variable-part = c .before .before .before .before .before .before .before .before .before .before .before .append-variable-part .ensures in
+    let append-key-part = c .before .before .before .before .before .before .before .append-key-part .ensures in
+    five-of-five (args .out .now) (args .from) (parameterPart (args .file .now) (args .function-at)) (variablePart (private-of .result) (args .made) (args .log .now)) (keyPart (args .log .now)) (claimPart (private-of .result) (args .log .now) (args .claims .now)) (twoBytes (args .root)) (parts-fit (private-of .result) (args .file .now) (args .function-at) (args .made) (args .log .now) (args .claims .now) (args .root) (args .from) _ (private-of .ensures) pre) _ _ append-parameter-part _ _ append-variable-part _ _ append-key-part _ _ (c .before .before .before .append-claim-part .ensures))
     (λ c. search needs)
-    (λ c. heading-appended (c .before .before .before .before .before .before .before .before .before .before .before .before .before .before .before .before .before .before .before .before .private-of .result) (c .before .before .before .before .before .before .before .before .before .before .before .before .before .before .before .before .before .before .before .before .before .before .before .before .before .args .file .now) (c .before .before .before .before .before .before .before .before .before .before .before .before .before .before .before .before .before .before .before .before .before .before .before .before .before .args .function-at) (c .before .before .before .before .before .before .before .before .before .before .before .before .before .before .before .before .before .before .before .before .before .before .before .before .before .args .made) (c .before .before .before .before .before .before .before .before .before .before .before .before .before .before .before .before .before .before .before .before .before .before .before .before .before .args .log .now) (c .before .before .before .before .before .before .before .before .before .before .before .before .before .before .before .before .before .before .before .before .before .before .before .before .before .args .claims .now) (c .before .before .before .before .before .before .before .before .before .before .before .before .before .before .before .before .before .before .before .before .before .before .before .before .before .args .root) (c .before .before .before .before .before .before .before .before .before .before .before .before .before .before .before .before .before .before .before .before .before .before .before .before .before .args .from) _ (c .before .before .before .before .before .before .before .before .before .before .before .before .before .before .before .before .before .before .before .before .private-of .ensures) (c .before .before .before .before .before .before .before .before .before .before .before .before .before .before .before .before .before .before .before .before .before .before .before .before .before .pre) _ _ _ (five-appended (c .before .before .before .before .before .before .before .before .before .before .before .before .before .before .before .before .before .before .before .before .before .before .before .before .before .args .out .now) (c .before .before .before .before .before .before .before .before .before .before .before .before .before .before .before .before .before .before .before .before .before .before .before .before .before .args .from) (parameterPart (c .before .before .before .before .before .before .before .before .before .before .before .before .before .before .before .before .before .before .before .before .before .before .before .before .before .args .file .now) (c .before .before .before .before .before .before .before .before .before .before .before .before .before .before .before .before .before .before .before .before .before .before .before .before .before .args .function-at)) (variablePart (c .before .before .before .before .before .before .before .before .before .before .before .before .before .before .before .before .before .before .before .before .private-of .result) (c .before .before .before .before .before .before .before .before .before .before .before .before .before .before .before .before .before .before .before .before .before .before .before .before .before .args .made) (c .before .before .before .before .before .before .before .before .before .before .before .before .before .before .before .before .before .before .before .before .before .before .before .before .before .args .log .now)) (keyPart (c .before .before .before .before .before .before .before .before .before .before .before .before .before .before .before .before .before .before .before .before .before .before .before .before .before .args .log .now)) (claimPart (c .before .before .before .before .before .before .before .before .before .before .before .before .before .before .before .before .before .before .before .before .private-of .result) (c .before .before .before .before .before .before .before .before .before .before .before .before .before .before .before .before .before .before .before .before .before .before .before .before .before .args .log .now) (c .before .before .before .before .before .before .before .before .before .before .before .before .before .before .before .before .before .before .before .before .before .before .before .before .before .args .claims .now)) (twoBytes (c .before .before .before .before .before .before .before .before .before .before .before .before .before .before .before .before .before .before .before .before .before .before .before .before .before .args .root)) (parts-fit (c .before .before .before .before .before .before .before .before .before .before .before .before .before .before .before .before .before .before .before .before .private-of .result) (c .before .before .before .before .before .before .before .before .before .before .before .before .before .before .before .before .before .before .before .before .before .before .before .before .before .args .file .now) (c .before .before .before .before .before .before .before .before .before .before .before .before .before .before .before .before .before .before .before .before .before .before .before .before .before .args .function-at) (c .before .before .before .before .before .before .before .before .before .before .before .before .before .before .before .before .before .before .before .before .before .before .before .before .before .args .made) (c .before .before .before .before .before .before .before .before .before .before .before .before .before .before .before .before .before .before .before .before .before .before .before .before .before .args .log .now) (c .before .before .before .before .before .before .before .before .before .before .before .before .before .before .before .before .before .before .before .before .before .before .before .before .before .args .claims .now) (c .before .before .before .before .before .before .before .before .before .before .before .before .before .before .before .before .before .before .before .before .before .before .before .before .before .args .root) (c .before .before .before .before .before .before .before .before .before .before .before .before .before .before .before .before .before .before .before .before .before .before .before .before .before .args .from) _ (c .before .before .before .before .before .before .before .before .before .before .before .before .before .before .before .before .before .before .before .before .private-of .ensures) (c .before .before .before .before .before .before .before .before .before .before .before .before .before .before .before .before .before .before .before .before .before .before .before .before .before .pre)) _ _ (c .before .before .before .before .before .before .before .before .before .before .before .before .before .before .before .before .before .before .append-parameter-part .ensures) _ _ (c .before .before .before .before .before .before .before .before .before .before .before .before .before .before .append-variable-part .ensures) _ _ (c .before .before .before .before .before .before .before .before .before .before .append-key-part .ensures) _ _ (c .before .before .before .before .before .before .append-claim-part .ensures) _ _ (c .before .before .append-two-bytes .ensures))))
+    (λ c. let start = c .before .before .before .before .before .before .before .before .before .before .before .before .before .before .before .before .before .before .before .before .before .before .before .before .before in
+    let args = start .args in let pre = start .pre in
+    let private-of = c .before .before .before .before .before .before .before .before .before .before .before .before .before .before .before .before .before .before .before .before .private-of in
+    let append-parameter-part = c .before .before .before .before .before .before .before .before .before .before .before .before .before .before .before .before .before .before .append-parameter-part .ensures in
+    let append-variable-part = c .before .before .before .before .before .before .before .before .before .before .before .before .before .before .append-variable-part .ensures in
+    let append-key-part = c .before .before .before .before .before .before .before .before .before .before .append-key-part .ensures in
+    let append-claim-part = c .before .before .before .before .before .before .append-claim-part .ensures in
+    heading-appended (private-of .result) (args .file .now) (args .function-at) (args .made) (args .log .now) (args .claims .now) (args .root) (args .from) _ (private-of .ensures) pre _ _ _ (five-appended (args .out .now) (args .from) (parameterPart (args .file .now) (args .function-at)) (variablePart (private-of .result) (args .made) (args .log .now)) (keyPart (args .log .now)) (claimPart (private-of .result) (args .log .now) (args .claims .now)) (twoBytes (args .root)) (parts-fit (private-of .result) (args .file .now) (args .function-at) (args .made) (args .log .now) (args .claims .now) (args .root) (args .from) _ (private-of .ensures) pre) _ _ append-parameter-part _ _ append-variable-part _ _ append-key-part _ _ append-claim-part _ _ (c .before .before .append-two-bytes .ensures))))

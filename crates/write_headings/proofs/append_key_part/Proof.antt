@@ -7,12 +7,8 @@ use Rattle.write_headings.proofs.append_key_part.Tie as tie
 
 pub append-key-part-spec : {M : Type 1} → statement M
 append-key-part-spec =
-    tie.close
-    (tie.spec
-    (λ c. search needs)
-    (λ c κs. search needs)
-    (λ c. search needs)
-    (λ c. search needs)
-    (λ c κs. search needs)
-    (λ c. search needs)
-    (λ c. keys-counted (c .before .before .before .before .before .before .before .before .before .before .args .out .now) (c .before .before .before .before .before .before .before .before .before .before .args .at) (c .before .before .before .before .before .before .before .before .before .before .args .log .now) (c .before .before .before .before .before .before .before .before .before .before .pre) _ _ _ _ _ (c .before .before .before .before .before .before .append-keys .ensures) refl (c .before .before .append-two-bytes .ensures)))
+    tie.close (tie.spec
+    (λ c. search needs) (λ c κs. search needs) (λ c. search needs) (λ c. search needs) (λ c κs. search needs) (λ c. search needs)
+    (λ c. let start = c .before .before .before .before .before .before .before .before .before .before in let args = start .args in
+    let pre = start .pre in let append-keys = c .before .before .before .before .before .before .append-keys .ensures in
+    keys-counted (args .out .now) (args .at) (args .log .now) pre _ _ _ _ _ append-keys refl (c .before .before .append-two-bytes .ensures)))

@@ -7,12 +7,13 @@ use Rattle.write_headings.proofs.append_parameter_part.Tie as tie
 
 pub append-parameter-part-spec : {M : Type 1} → statement M
 append-parameter-part-spec =
-    tie.close
-    (tie.spec
-    (λ c κs. search needs)
+    tie.close (tie.spec
+    (λ c κs. search needs) (λ c. search needs) (λ c κs. search needs) (λ c. search needs)
+    (λ c κs. let start = c .before .before .before .before .before .before .before .before in let args = start .args in let (_, out-room) = start .pre in
+    let byte-at = c .before .before .before .before .before .byte-at .ensures .0 in
+    (omega arith, parameters-room (args .file .now) (args .function-at) (args .out .now) (args .at) _ byte-at out-room _ _ (c .before .before .before .append-byte .ensures)))
     (λ c. search needs)
-    (λ c κs. search needs)
-    (λ c. search needs)
-    (λ c κs. (omega arith, parameters-room (c .before .before .before .before .before .before .before .before .args .file .now) (c .before .before .before .before .before .before .before .before .args .function-at) (c .before .before .before .before .before .before .before .before .args .out .now) (c .before .before .before .before .before .before .before .before .args .at) _ (c .before .before .before .before .before .byte-at .ensures .0) (c .before .before .before .before .before .before .before .before .pre .1) _ _ (c .before .before .before .append-byte .ensures)))
-    (λ c. search needs)
-    (λ c. parameters-appended (c .before .before .before .before .before .before .before .before .before .before .before .args .file .now) (c .before .before .before .before .before .before .before .before .before .before .before .args .function-at) (c .before .before .before .before .before .before .before .before .before .before .before .args .out .now) (c .before .before .before .before .before .before .before .before .before .before .before .args .at) _ (c .before .before .before .before .before .before .before .before .byte-at .ensures .0) (c .before .before .before .before .before .before .before .before .before .before .before .pre .1) _ _ _ _ (c .before .before .before .before .before .before .append-byte .ensures) (c .before .before .append-parameters .ensures)))
+    (λ c. let start = c .before .before .before .before .before .before .before .before .before .before .before in let args = start .args in
+    let (_, out-room) = start .pre in let byte-at = c .before .before .before .before .before .before .before .before .byte-at .ensures .0 in
+    let append-byte = c .before .before .before .before .before .before .append-byte .ensures in
+    parameters-appended (args .file .now) (args .function-at) (args .out .now) (args .at) _ byte-at out-room _ _ _ _ append-byte (c .before .before .append-parameters .ensures)))

@@ -11,11 +11,17 @@ use Rattle.write_headings.proofs.append_variable_part.Tie as tie
 
 pub append-variable-part-spec : {M : Type 1} → statement M
 append-variable-part-spec =
-    tie.close
-    (tie.spec
+    tie.close (tie.spec
+    (λ c. search needs) (λ c κs. search needs)
+    (λ c κs. let start = c .before .before .before .before .before .before .before in let args = start .args in let (_, out-room) = start .pre in
+    second-room (args .out .now) (args .at) (twoBytes (args .private + args .made)) (openingVariables (args .private)) (perEntry variableOf (args .log .now)) out-room _ _ (c .before .before .before .append-two-bytes .ensures))
+    (λ c κs. let start = c .before .before .before .before .before .before .before .before .before .before .before in let args = start .args in
+    let (_, out-room) = start .pre in
+    let append-two-bytes = c .before .before .before .before .before .before .before .append-two-bytes .ensures in
+    third-room (args .out .now) (args .at) (twoBytes (args .private + args .made)) (openingVariables (args .private)) (perEntry variableOf (args .log .now)) out-room _ _ _ _ append-two-bytes (c .before .before .before .append-opening-variables .ensures))
     (λ c. search needs)
-    (λ c κs. search needs)
-    (λ c κs. second-room (c .before .before .before .before .before .before .before .args .out .now) (c .before .before .before .before .before .before .before .args .at) (twoBytes (c .before .before .before .before .before .before .before .args .private + c .before .before .before .before .before .before .before .args .made)) (openingVariables (c .before .before .before .before .before .before .before .args .private)) (perEntry variableOf (c .before .before .before .before .before .before .before .args .log .now)) (c .before .before .before .before .before .before .before .pre .1) _ _ (c .before .before .before .append-two-bytes .ensures))
-    (λ c κs. third-room (c .before .before .before .before .before .before .before .before .before .before .before .args .out .now) (c .before .before .before .before .before .before .before .before .before .before .before .args .at) (twoBytes (c .before .before .before .before .before .before .before .before .before .before .before .args .private + c .before .before .before .before .before .before .before .before .before .before .before .args .made)) (openingVariables (c .before .before .before .before .before .before .before .before .before .before .before .args .private)) (perEntry variableOf (c .before .before .before .before .before .before .before .before .before .before .before .args .log .now)) (c .before .before .before .before .before .before .before .before .before .before .before .pre .1) _ _ _ _ (c .before .before .before .before .before .before .before .append-two-bytes .ensures) (c .before .before .before .append-opening-variables .ensures))
-    (λ c. search needs)
-    (λ c. three-appended (c .before .before .before .before .before .before .before .before .before .before .before .before .before .before .args .out .now) (c .before .before .before .before .before .before .before .before .before .before .before .before .before .before .args .at) (twoBytes (c .before .before .before .before .before .before .before .before .before .before .before .before .before .before .args .private + c .before .before .before .before .before .before .before .before .before .before .before .before .before .before .args .made)) (openingVariables (c .before .before .before .before .before .before .before .before .before .before .before .before .before .before .args .private)) (perEntry variableOf (c .before .before .before .before .before .before .before .before .before .before .before .before .before .before .args .log .now)) (c .before .before .before .before .before .before .before .before .before .before .before .before .before .before .pre .1) _ _ _ _ _ _ (c .before .before .before .before .before .before .before .before .before .before .append-two-bytes .ensures) (c .before .before .before .before .before .before .append-opening-variables .ensures) (c .before .before .append-variables .ensures)))
+    (λ c. let start = c .before .before .before .before .before .before .before .before .before .before .before .before .before .before in
+    let args = start .args in let (_, out-room) = start .pre in
+    let append-two-bytes = c .before .before .before .before .before .before .before .before .before .before .append-two-bytes .ensures in
+    let append-opening-variables = c .before .before .before .before .before .before .append-opening-variables .ensures in
+    three-appended (args .out .now) (args .at) (twoBytes (args .private + args .made)) (openingVariables (args .private)) (perEntry variableOf (args .log .now)) out-room _ _ _ _ _ _ append-two-bytes append-opening-variables (c .before .before .append-variables .ensures)))

@@ -6,4 +6,5 @@ use Rattle.write_headings.proofs.private_of.Tie as tie
 
 pub private-of-spec : {M : Type 1} → statement M
 private-of-spec =
-    tie.close (tie.spec (λ c κs. search needs) (λ c. search needs) (λ c κs. search needs) (λ c. private-is (c .before .before .before .args .file .now) (c .before .before .before .args .function-at) _ _ (c .before .byte-at .ensures .0) (c .count-private .ensures)))
+    tie.close (tie.spec (λ c κs. search needs) (λ c. search needs) (λ c κs. search needs) (λ c. let args = c .before .before .before .args in
+    private-is (args .file .now) (args .function-at) _ _ (c .before .byte-at .ensures .0) (c .count-private .ensures)))

@@ -1,4 +1,3 @@
--- `write_nodes::put_node` meets its contract.
 use native.Mathlib.Omega.{arith}
 use Rattle.memory_append.proofs.Laws.{appended-then}
 use borrow.Author.Needs.{needs}
@@ -7,16 +6,14 @@ use Rattle.write_nodes.proofs.put_node.Tie as tie
 
 pub put-node-spec : {M : Type 1} → statement M
 put-node-spec =
-    tie.close
-    (tie.spec
-    (λ c κs. search needs)
-    (λ c κs. search needs)
-    (λ c κs. search needs)
-    (λ c κs. search needs)
-    (λ c κs. search needs)
-    (λ c. search needs)
-    (λ c. let two = appended-then _ _ _ _ _ _ _ _ (c .before .before .before .before .before .before .before .before .before .before .before .before .before .before .before .before .before .before .append-byte .ensures) (omega arith) (c .before .before .before .before .before .before .before .before .before .before .before .before .before .before .append-byte2 .ensures) in
-    let four = appended-then _ _ _ _ _ _ _ _ two (omega arith) (c .before .before .before .before .before .before .before .before .before .before .append-two-bytes .ensures) in
-    let six = appended-then _ _ _ _ _ _ _ _ four (omega arith) (c .before .before .before .before .before .before .append-two-bytes2 .ensures) in
+    tie.close (tie.spec
+    (λ c κs. search needs) (λ c κs. search needs) (λ c κs. search needs) (λ c κs. search needs) (λ c κs. search needs) (λ c. search needs)
+    (λ c. let append-byte = c .before .before .before .before .before .before .before .before .before .before .before .before .before .before .before .before .before .before .append-byte .ensures in
+    let append-byte2 = c .before .before .before .before .before .before .before .before .before .before .before .before .before .before .append-byte2 .ensures in
+    let append-two-bytes = c .before .before .before .before .before .before .before .before .before .before .append-two-bytes .ensures in
+    let append-two-bytes2 = c .before .before .before .before .before .before .append-two-bytes2 .ensures in
+    let two = appended-then _ _ _ _ _ _ _ _ append-byte (omega arith) append-byte2 in
+    let four = appended-then _ _ _ _ _ _ _ _ two (omega arith) append-two-bytes in
+    let six = appended-then _ _ _ _ _ _ _ _ four (omega arith) append-two-bytes2 in
     let eight = appended-then _ _ _ _ _ _ _ _ six (omega arith) (c .before .before .append-two-bytes3 .ensures) in
     eight .contents))

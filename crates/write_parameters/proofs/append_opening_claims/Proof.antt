@@ -19,14 +19,15 @@ abbrev μ-loop : tie.MeasureT-loop
 
 pub append-opening-claims-spec : {M : Type 1} → statement M
 append-opening-claims-spec =
-    tie.close
-    (tie.spec
-    Inv-loop
-    μ-loop
-    (λ c. (claims-start (c .before .args .out .now) (c .before .args .from) (c .before .args .count) (c .before .pre), omega arith, refl))
-    (λ c κs. claim-room (c .before .before .before .before .args .out .now) (c .before .before .before .before .args .from) (c .before .before .before .before .args .count) (c .before .before .before .before .pre) _ _ (c .before .before .loop .variable) (omega arith) (c .before .before .loop .inv .0))
+    tie.close (tie.spec Inv-loop μ-loop
+    (λ c. let args = c .before .args in (claims-start (args .out .now) (args .from) (args .count) (c .before .pre), omega arith, refl))
+    (λ c κs. let args = c .before .before .before .before .args in let (appending, _, _) = c .before .before .loop .inv in
+    claim-room (args .out .now) (args .from) (args .count) (c .before .before .before .before .pre) _ _ (c .before .before .loop .variable) (omega arith) appending)
+    (λ c. search needs) (λ c. search needs)
+    (λ c. let start = c .before .before .before .before .before .before .before in let args = start .args in let pre = start .pre in
+    let loop-variable = c .before .before .before .before .before .loop .variable in
+    let (appending, _, _) = c .before .before .before .before .before .loop .inv in
+    (claim-appended (args .out .now) (args .from) (args .count) pre _ _ loop-variable (omega arith) appending _ _ (c .before .before .append-opening-claim .ensures), omega arith, search needs))
     (λ c. search needs)
-    (λ c. search needs)
-    (λ c. (claim-appended (c .before .before .before .before .before .before .before .args .out .now) (c .before .before .before .before .before .before .before .args .from) (c .before .before .before .before .before .before .before .args .count) (c .before .before .before .before .before .before .before .pre) _ _ (c .before .before .before .before .before .loop .variable) (omega arith) (c .before .before .before .before .before .loop .inv .0) _ _ (c .before .before .append-opening-claim .ensures), omega arith, search needs))
-    (λ c. search needs)
-    (λ c. claims-done (c .before .before .before .args .out .now) (c .before .before .before .args .from) (c .before .before .before .args .count) (c .before .before .before .pre) _ _ (c .before .loop .variable) (omega arith) (c .before .loop .inv .0)))
+    (λ c. let args = c .before .before .before .args in let (appending, _, _) = c .before .loop .inv in
+    claims-done (args .out .now) (args .from) (args .count) (c .before .before .before .pre) _ _ (c .before .loop .variable) (omega arith) appending))

@@ -18,15 +18,20 @@ abbrev μ-loop : tie.MeasureT-loop
 
 pub append-opening-variables-spec : {M : Type 1} → statement M
 append-opening-variables-spec =
-    tie.close
-    (tie.spec
-    Inv-loop
-    μ-loop
+    tie.close (tie.spec Inv-loop μ-loop
     (λ c. (appending-start _ _ _, refl))
-    (λ c κs. let room = pair-room (c .before .before .before .before .args .out .now) (c .before .before .before .before .args .from) (c .before .before .before .before .args .count) (c .before .before .before .before .pre) _ _ (c .before .before .loop .left) (omega arith) (c .before .before .loop .inv .0) in omega arith)
-    (λ c κs. let room = pair-room (c .before .before .before .before .before .before .before .before .args .out .now) (c .before .before .before .before .before .before .before .before .args .from) (c .before .before .before .before .before .before .before .before .args .count) (c .before .before .before .before .before .before .before .before .pre) _ _ (c .before .before .before .before .before .before .loop .left) (omega arith) (c .before .before .before .before .before .before .loop .inv .0) in omega arith)
+    (λ c κs. let args = c .before .before .before .before .args in let (appending, _) = c .before .before .loop .inv in
+    let room = pair-room (args .out .now) (args .from) (args .count) (c .before .before .before .before .pre) _ _ (c .before .before .loop .left) (omega arith) appending in omega arith)
+    (λ c κs. let start = c .before .before .before .before .before .before .before .before in let args = start .args in let pre = start .pre in
+    let loop-left = c .before .before .before .before .before .before .loop .left in
+    let (appending, _) = c .before .before .before .before .before .before .loop .inv in
+    let room = pair-room (args .out .now) (args .from) (args .count) pre _ _ loop-left (omega arith) appending in omega arith)
+    (λ c. search needs) (λ c. search needs)
+    (λ c. let start = c .before .before .before .before .before .before .before .before .before .before .before in let args = start .args in
+    let pre = start .pre in let loop-left = c .before .before .before .before .before .before .before .before .before .loop .left in
+    let (appending, _) = c .before .before .before .before .before .before .before .before .before .loop .inv in
+    let append-byte = c .before .before .before .before .before .before .append-byte .ensures in
+    (pair-appended (args .out .now) (args .from) (args .count) pre _ _ loop-left (omega arith) appending _ _ _ _ append-byte (c .before .before .append-byte2 .ensures), search needs))
     (λ c. search needs)
-    (λ c. search needs)
-    (λ c. (pair-appended (c .before .before .before .before .before .before .before .before .before .before .before .args .out .now) (c .before .before .before .before .before .before .before .before .before .before .before .args .from) (c .before .before .before .before .before .before .before .before .before .before .before .args .count) (c .before .before .before .before .before .before .before .before .before .before .before .pre) _ _ (c .before .before .before .before .before .before .before .before .before .loop .left) (omega arith) (c .before .before .before .before .before .before .before .before .before .loop .inv .0) _ _ _ _ (c .before .before .before .before .before .before .append-byte .ensures) (c .before .before .append-byte2 .ensures), search needs))
-    (λ c. search needs)
-    (λ c. pairs-done (c .before .before .before .args .out .now) (c .before .before .before .args .from) (c .before .before .before .args .count) (c .before .before .before .pre) _ _ (c .before .loop .left) (omega arith) (c .before .loop .inv .0)))
+    (λ c. let args = c .before .before .before .args in let (appending, _) = c .before .loop .inv in
+    pairs-done (args .out .now) (args .from) (args .count) (c .before .before .before .pre) _ _ (c .before .loop .left) (omega arith) appending))

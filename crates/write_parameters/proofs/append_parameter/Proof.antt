@@ -7,14 +7,26 @@ use Rattle.write_parameters.proofs.append_parameter.Tie as tie
 
 pub append-parameter-spec : {M : Type 1} → statement M
 append-parameter-spec =
-    tie.close
-    (tie.spec
+    tie.close (tie.spec
     (λ c κs. search needs)
-    (λ c κs. let room = public-room (c .before .before .before .before .args .kind) (c .before .before .before .before .args .owner) _ _ (c .before .before .if1 .taken) (c .before .before .before .before .pre) in omega arith)
-    (λ c κs. let room = public-room (c .before .before .before .before .before .before .before .before .args .kind) (c .before .before .before .before .before .before .before .before .args .owner) _ _ (c .before .before .before .before .before .before .if1 .taken) (c .before .before .before .before .before .before .before .before .pre) in omega arith)
-    (λ c κs. let room = private-room (c .before .before .before .args .kind) (c .before .before .before .args .owner) _ _ (c .before .if1 .left) (c .before .before .before .pre) in omega arith)
-    (λ c κs. let room = private-room (c .before .before .before .before .before .before .before .args .kind) (c .before .before .before .before .before .before .before .args .owner) _ _ (c .before .before .before .before .before .if1 .left) (c .before .before .before .before .before .before .before .pre) in omega arith)
+    (λ c κs. let args = c .before .before .before .before .args in
+    let room = public-room (args .kind) (args .owner) _ _ (c .before .before .if1 .taken) (c .before .before .before .before .pre) in omega arith)
+    (λ c κs. let start = c .before .before .before .before .before .before .before .before in let args = start .args in let pre = start .pre in
+    let if1-taken = c .before .before .before .before .before .before .if1 .taken in
+    let room = public-room (args .kind) (args .owner) _ _ if1-taken pre in omega arith)
+    (λ c κs. let args = c .before .before .before .args in
+    let room = private-room (args .kind) (args .owner) _ _ (c .before .if1 .left) (c .before .before .before .pre) in omega arith)
+    (λ c κs. let start = c .before .before .before .before .before .before .before in let args = start .args in let pre = start .pre in
+    let if1-left = c .before .before .before .before .before .if1 .left in
+    let room = private-room (args .kind) (args .owner) _ _ if1-left pre in omega arith)
     (λ c. search needs)
-    (λ c. public-appended (c .before .before .before .before .before .before .before .before .before .before .before .args .kind) (c .before .before .before .before .before .before .before .before .before .before .before .args .owner) _ _ _ _ _ _ (c .before .before .before .before .before .before .before .before .before .before .before .pre) _ (c .before .before .before .before .before .before .before .before .before .if1 .taken) (c .before .before .before .before .before .before .before .before .type-code .ensures) (c .before .before .before .before .before .before .append-byte .ensures) (c .before .before .append-byte2 .ensures))
+    (λ c. let start = c .before .before .before .before .before .before .before .before .before .before .before in let args = start .args in
+    let pre = start .pre in let if1-taken = c .before .before .before .before .before .before .before .before .before .if1 .taken in
+    let type-code = c .before .before .before .before .before .before .before .before .type-code .ensures in
+    let append-byte = c .before .before .before .before .before .before .append-byte .ensures in
+    public-appended (args .kind) (args .owner) _ _ _ _ _ _ pre _ if1-taken type-code append-byte (c .before .before .append-byte2 .ensures))
     (λ c. search needs)
-    (λ c. private-appended (c .before .before .before .before .before .before .before .before .before .before .args .kind) (c .before .before .before .before .before .before .before .before .before .before .args .owner) _ _ _ _ _ _ (c .before .before .before .before .before .before .before .before .before .before .pre) (c .before .before .before .before .before .before .before .before .if1 .left) (c .before .before .before .before .before .before .append-byte3 .ensures) (c .before .before .append-byte4 .ensures)))
+    (λ c. let start = c .before .before .before .before .before .before .before .before .before .before in let args = start .args in
+    let pre = start .pre in let if1-left = c .before .before .before .before .before .before .before .before .if1 .left in
+    let append-byte3 = c .before .before .before .before .before .before .append-byte3 .ensures in
+    private-appended (args .kind) (args .owner) _ _ _ _ _ _ pre if1-left append-byte3 (c .before .before .append-byte4 .ensures)))

@@ -20,18 +20,19 @@ abbrev μ-loop : tie.MeasureT-loop
 
 pub append-parameters-spec : {M : Type 1} → statement M
 append-parameters-spec =
-    tie.close
-    (tie.spec
-    Inv-loop
-    μ-loop
+    tie.close (tie.spec Inv-loop μ-loop
     (λ c. (appending-start _ _ _, omega arith, refl))
-    (λ c κs. search needs)
+    (λ c κs. search needs) (λ c. search needs) (λ c κs. search needs)
+    (λ c κs. let begin = c .before .before .before .before .before .before .before in let args = begin .args in let (_, out-room) = begin .pre in
+    let loop = c .before .before .before .before .loop in let (appending, _, _) = c .before .before .before .before .loop .inv in
+    parameter-room (args .file .now) (args .out .now) (args .from) (args .count) (args .start) out-room _ _ (loop .left) (loop .place) _ _ (omega arith) (c .before .before .byte-at .ensures .0) (c .before .byte-at2 .ensures .0) appending)
+    (λ c. search needs) (λ c. search needs) (λ c. search needs)
+    (λ c. let begin = c .before .before .before .before .before .before .before .before .before .before in let args = begin .args in
+    let (_, out-room) = begin .pre in let loop = c .before .before .before .before .before .before .before .loop in
+    let (appending, _, _) = c .before .before .before .before .before .before .before .loop .inv in
+    let byte-at = c .before .before .before .before .before .byte-at .ensures .0 in
+    (parameter-appended (args .file .now) (args .out .now) (args .from) (args .count) (args .start) out-room _ _ (loop .left) (loop .place) _ _ (omega arith) byte-at (c .before .before .before .before .byte-at2 .ensures .0) appending _ _ (c .before .before .append-parameter .ensures), omega arith, search needs))
     (λ c. search needs)
-    (λ c κs. search needs)
-    (λ c κs. parameter-room (c .before .before .before .before .before .before .before .args .file .now) (c .before .before .before .before .before .before .before .args .out .now) (c .before .before .before .before .before .before .before .args .from) (c .before .before .before .before .before .before .before .args .count) (c .before .before .before .before .before .before .before .args .start) (c .before .before .before .before .before .before .before .pre .1) _ _ (c .before .before .before .before .loop .left) (c .before .before .before .before .loop .place) _ _ (omega arith) (c .before .before .byte-at .ensures .0) (c .before .byte-at2 .ensures .0) (c .before .before .before .before .loop .inv .0))
-    (λ c. search needs)
-    (λ c. search needs)
-    (λ c. search needs)
-    (λ c. (parameter-appended (c .before .before .before .before .before .before .before .before .before .before .args .file .now) (c .before .before .before .before .before .before .before .before .before .before .args .out .now) (c .before .before .before .before .before .before .before .before .before .before .args .from) (c .before .before .before .before .before .before .before .before .before .before .args .count) (c .before .before .before .before .before .before .before .before .before .before .args .start) (c .before .before .before .before .before .before .before .before .before .before .pre .1) _ _ (c .before .before .before .before .before .before .before .loop .left) (c .before .before .before .before .before .before .before .loop .place) _ _ (omega arith) (c .before .before .before .before .before .byte-at .ensures .0) (c .before .before .before .before .byte-at2 .ensures .0) (c .before .before .before .before .before .before .before .loop .inv .0) _ _ (c .before .before .append-parameter .ensures), omega arith, search needs))
-    (λ c. search needs)
-    (λ c. parameters-done (c .before .before .before .before .args .file .now) (c .before .before .before .before .args .out .now) (c .before .before .before .before .args .from) (c .before .before .before .before .args .count) (c .before .before .before .before .args .start) (c .before .before .before .before .pre .1) _ _ (c .before .loop .left) (c .before .loop .place) (omega arith) (c .before .loop .inv .0)))
+    (λ c. let begin = c .before .before .before .before in let args = begin .args in let (_, out-room) = begin .pre in let loop = c .before .loop in
+    let (appending, _, _) = c .before .loop .inv in
+    parameters-done (args .file .now) (args .out .now) (args .from) (args .count) (args .start) out-room _ _ (loop .left) (loop .place) (omega arith) appending))

@@ -17,17 +17,12 @@ abbrev μ-loop : tie.MeasureT-loop
 
 pub count-private-spec : {M : Type 1} → statement M
 count-private-spec =
-    tie.close
-    (tie.spec
-    Inv-loop
-    μ-loop
+    tie.close (tie.spec Inv-loop μ-loop
     (λ c. (omega arith, omega arith, omega arith))
+    (λ c. search needs) (λ c κs. search needs) (λ c κs. search needs) (λ c. search needs) (λ c. search needs) (λ c. search needs)
     (λ c. search needs)
-    (λ c κs. search needs)
-    (λ c κs. search needs)
-    (λ c. search needs)
-    (λ c. search needs)
-    (λ c. search needs)
-    (λ c. search needs)
-    (λ c. (private-next (c .before .before .before .before .before .args .file .now) _ (c .before .before .before .loop .left) (c .before .before .before .loop .place) _ _ _ (omega arith) (c .one-if-private .ensures .0) (c .before .byte-at .ensures .0) (c .before .before .before .loop .inv .0), omega arith, omega arith))
-    (λ c. private-done (c .before .before .before .args .file .now) _ (c .before .loop .left) (c .before .loop .place) _ (omega arith) (c .before .loop .inv .0)))
+    (λ c. let args-file = c .before .before .before .before .before .args .file .now in let loop = c .before .before .before .loop in
+    let (private-is, _, _) = c .before .before .before .loop .inv in
+    (private-next args-file _ (loop .left) (loop .place) _ _ _ (omega arith) (c .one-if-private .ensures .0) (c .before .byte-at .ensures .0) private-is, omega arith, omega arith))
+    (λ c. let loop = c .before .loop in let (private-is, _, _) = c .before .loop .inv in
+    private-done (c .before .before .before .args .file .now) _ (loop .left) (loop .place) _ (omega arith) private-is))

@@ -10,36 +10,43 @@ use Rattle.write_parts.proofs.write_parts.Tie as tie
 
 pub write-parts-spec : {M : Type 1} → statement M
 write-parts-spec =
-    tie.close
-    (tie.spec
+    tie.close (tie.spec
     (λ c κs. search needs)
-    (λ c κs. let l = accepted-fields (c .before .before .before .before .before .args .file .now) (c .before .before .before .before .before .pre .accepted) in (l, omega (arith, l .few, c .before .before .before .before .before .pre .headingSpace)))
+    (λ c κs. let start = c .before .before .before .before .before in let args-file = start .args .file .now in let pre = start .pre in
+    let l = accepted-fields args-file (pre .accepted) in (l, omega (arith, l .few, pre .headingSpace)))
     (λ c. search needs)
-    (λ c κs. let l = accepted-fields (c .before .before .before .before .before .before .before .before .before .before .args .file .now) (c .before .before .before .before .before .before .before .before .before .before .pre .accepted) in let p = c .before .before .before .before .append-field-section .ensures .place in let n = section-length (c .before .before .before .before .before .before .before .before .before .before .args .file .now) in let long = appended-length _ _ _ _ _ (c .before .before .before .before .append-field-section .ensures) (omega (arith, l .few, c .before .before .before .before .before .before .before .before .before .before .pre .headingSpace)) in omega (arith, l .few, c .before .before .before .before .before .before .before .before .before .before .pre .headingSpace))
-    (λ c. search needs)
-    (λ c. search needs)
-    (λ c. search needs)
-    (λ c. search needs)
-    (λ c. search needs)
-    (λ c. search needs)
-    (λ c κs. let l = accepted-fields (c .before .before .before .before .before .before .before .before .before .before .before .before .before .before .before .before .before .before .before .before .before .args .file .now) (c .before .before .before .before .before .before .before .before .before .before .before .before .before .before .before .before .before .before .before .before .before .pre .accepted) in
-    let layout = c .before .before .before .before .before .before .before .before .before .before .before .before .before .before .before .before .before .read-layout .ensures in
-    let a = c .before .before .before .before .before .before .before .before .before .before .before .before .before .before .before .append-field-section .ensures in
-    let b = c .before .before .before .before .before .before .before .before .before .before .append-byte .ensures in
-    let n = section-length (c .before .before .before .before .before .before .before .before .before .before .before .before .before .before .before .before .before .before .before .before .before .args .file .now) in
+    (λ c κs. let start = c .before .before .before .before .before .before .before .before .before .before in let args-file = start .args .file .now in
+    let pre = start .pre in let append-field-section = c .before .before .before .before .append-field-section .ensures in
+    let l = accepted-fields args-file (pre .accepted) in let p = append-field-section .place in let n = section-length args-file in let long = appended-length _ _ _ _ _ append-field-section (omega (arith, l .few, pre .headingSpace)) in omega (arith, l .few, pre .headingSpace))
+    (λ c. search needs) (λ c. search needs) (λ c. search needs) (λ c. search needs) (λ c. search needs) (λ c. search needs)
+    (λ c κs. let start = c .before .before .before .before .before .before .before .before .before .before .before .before .before .before .before .before .before .before .before .before .before in
+    let args-file = start .args .file .now in let pre = start .pre in
+    let read-layout = c .before .before .before .before .before .before .before .before .before .before .before .before .before .before .before .before .before .read-layout .ensures in
+    let append-field-section = c .before .before .before .before .before .before .before .before .before .before .before .before .before .before .before .append-field-section .ensures in
+    let append-byte = c .before .before .before .before .before .before .before .before .before .before .append-byte .ensures in
+    let l = accepted-fields args-file (pre .accepted) in
+    let layout = read-layout in
+    let a = append-field-section in
+    let b = append-byte in
+    let n = section-length args-file in
     let p = a .place in
     let q = b .place in
-    let long = appended-length _ _ _ _ _ a (omega (arith, l .few, c .before .before .before .before .before .before .before .before .before .before .before .before .before .before .before .before .before .before .before .before .before .pre .headingSpace)) in
-    let later = appended-length _ _ _ _ _ b (omega (arith, l .few, c .before .before .before .before .before .before .before .before .before .before .before .before .before .before .before .before .before .before .before .before .before .pre .headingSpace)) in (
+    let long = appended-length _ _ _ _ _ a (omega (arith, l .few, pre .headingSpace)) in
+    let later = appended-length _ _ _ _ _ b (omega (arith, l .few, pre .headingSpace)) in (
       record {
-        ready = record { accepted = c .before .before .before .before .before .before .before .before .before .before .before .before .before .before .before .before .before .before .before .before .before .pre .accepted; headingSpace = omega (arith, c .before .before .before .before .before .before .before .before .before .before .before .before .before .before .before .before .before .before .before .before .before .pre .headingSpace); nodeSpace = c .before .before .before .before .before .before .before .before .before .before .before .before .before .before .before .before .before .before .before .before .before .pre .nodeSpace };
-        begins = first-start (c .before .before .before .before .before .before .before .before .before .before .before .before .before .before .before .before .before .before .before .before .before .args .file .now) _ (layout .functionsStart);
+        ready = record { accepted = pre .accepted; headingSpace = omega (arith, pre .headingSpace); nodeSpace = pre .nodeSpace };
+        begins = first-start args-file _ (layout .functionsStart);
         counted = layout .functions;
         nodesPlace = layout .nodesStart;
         behindFields = omega arith;
       },
       record { logSpace = search needs; scratchSpace = search needs; rootSpace = search needs; numberSpace = search needs; claimSpace = search needs },
     ))
-    (λ c. search needs)
-    (λ c. search needs)
-    (λ c. parts-put (c .before .before .before .before .before .before .before .before .before .before .before .before .before .before .before .before .before .before .before .before .before .before .before .before .before .before .before .before .before .before .before .args .file .now) _ _ _ _ _ _ _ _ _ _ _ (c .before .before .before .before .before .before .before .before .before .before .before .before .before .before .before .before .before .before .before .before .before .before .before .before .before .before .before .before .before .before .before .pre .headingSpace) (accepted-fields (c .before .before .before .before .before .before .before .before .before .before .before .before .before .before .before .before .before .before .before .before .before .before .before .before .before .before .before .before .before .before .before .args .file .now) (c .before .before .before .before .before .before .before .before .before .before .before .before .before .before .before .before .before .before .before .before .before .before .before .before .before .before .before .before .before .before .before .pre .accepted) .few) (c .before .before .before .before .before .before .before .before .before .before .before .before .before .before .before .before .before .before .before .before .before .before .before .before .before .before .before .read-layout .ensures .functions) (c .before .before .before .before .before .before .before .before .before .before .before .before .before .before .before .before .before .before .before .before .before .before .before .before .before .append-field-section .ensures) (c .before .before .before .before .before .before .before .before .before .before .before .before .before .before .before .before .before .before .before .before .append-byte .ensures) (c .before .before .before .before .before .before .before .before .before .write-functions .ensures)))
+    (λ c. search needs) (λ c. search needs)
+    (λ c. let start = c .before .before .before .before .before .before .before .before .before .before .before .before .before .before .before .before .before .before .before .before .before .before .before .before .before .before .before .before .before .before .before in
+    let args-file = start .args .file .now in let pre = start .pre in
+    let read-layout-functions = c .before .before .before .before .before .before .before .before .before .before .before .before .before .before .before .before .before .before .before .before .before .before .before .before .before .before .before .read-layout .ensures .functions in
+    let append-field-section = c .before .before .before .before .before .before .before .before .before .before .before .before .before .before .before .before .before .before .before .before .before .before .before .before .before .append-field-section .ensures in
+    let append-byte = c .before .before .before .before .before .before .before .before .before .before .before .before .before .before .before .before .before .before .before .before .append-byte .ensures in
+    let write-functions = c .before .before .before .before .before .before .before .before .before .write-functions .ensures in
+    parts-put args-file _ _ _ _ _ _ _ _ _ _ _ (pre .headingSpace) (accepted-fields args-file (pre .accepted) .few) read-layout-functions append-field-section append-byte write-functions))

@@ -1,4 +1,3 @@
--- `write_simple_statements::is_private_place` meets its contract.
 use Rattle.write_simple_statements.proofs.Places.{private-place}
 use borrow.Author.Needs.{needs}
 use Rattle.write_simple_statements.proofs.is_private_place.Statement.{statement}

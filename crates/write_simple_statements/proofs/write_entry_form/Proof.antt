@@ -1,4 +1,3 @@
--- `write_simple_statements::write_entry_form` meets its contract.
 use mathlib.Core.Path.{sym, _∙_}
 use native.Mathlib.Omega.{arith}
 use Rattle.theory_laws.proofs.Records.{kind-as}
@@ -10,28 +9,63 @@ use Rattle.write_simple_statements.proofs.write_entry_form.Tie as tie
 
 pub write-entry-form-spec : {M : Type 1} → statement M
 write-entry-form-spec =
-    tie.close
-    (tie.spec
-    (λ c κs. (c .before .before .pre .1 .1 .0 .nearNodes, omega (arith, c .before .before .pre .1 .1 .0 .fewNodes)))
+    tie.close (tie.spec
+    (λ c κs. let (_, (_, (context, _))) = c .before .before .pre in (context .nearNodes, omega (arith, context .fewNodes)))
     (λ c. omega (arith, c .before .node-at .ensures .smallArg))
-    (λ c κs. (c .before .node-at .ensures .smallArg, record { at = c .before .before .before .before .pre .1 .1 .0 .fieldListed }))
-    (λ c κs. let less = key-and-value-below _ _ _ (c .before .before .before .before .before .pre .1 .1 .0) _ (c .before .before .before .before .before .pre .1 .0) _ (c .before .before .node-at .ensures .same) (kind-as _ _ 19 (sym (c .before .before .node-at .ensures .same)) (c .before .before .before .before .before .pre .0)) in
-    let h = entry-count _ _ _ (c .before .before .before .before .before .pre .1 .1 .0) _ (c .before .before .before .before .before .pre .1 .0) _ (c .before .before .node-at .ensures .same) _ (c .is-private-place .ensures) (kind-as _ _ 19 (sym (c .before .before .node-at .ensures .same)) (c .before .before .before .before .before .pre .0)) in
-    (omega arith, (c .before .before .before .before .before .pre .1 .1 .0, omega (arith, (c .before .before .before .before .before .pre .1 .1 .1 .0)))))
-    (λ c. let h = entry-count _ _ _ (c .before .before .before .before .before .before .pre .1 .1 .0) _ (c .before .before .before .before .before .before .pre .1 .0) _ (c .before .before .before .node-at .ensures .same) _ (c .before .is-private-place .ensures) (kind-as _ _ 19 (sym (c .before .before .before .node-at .ensures .same)) (c .before .before .before .before .before .before .pre .0)) in
-    omega (arith, (c .before .before .before .before .before .before .pre .1 .1 .1 .0), c .body-count .ensures))
-    (λ c κs. let less = key-and-value-below _ _ _ (c .before .before .before .before .before .before .before .pre .1 .1 .0) _ (c .before .before .before .before .before .before .before .pre .1 .0) _ (c .before .before .before .before .node-at .ensures .same) (kind-as _ _ 19 (sym (c .before .before .before .before .node-at .ensures .same)) (c .before .before .before .before .before .before .before .pre .0)) in
-    let h = entry-count _ _ _ (c .before .before .before .before .before .before .before .pre .1 .1 .0) _ (c .before .before .before .before .before .before .before .pre .1 .0) _ (c .before .before .before .before .node-at .ensures .same) _ (c .before .before .is-private-place .ensures) (kind-as _ _ 19 (sym (c .before .before .before .before .node-at .ensures .same)) (c .before .before .before .before .before .before .before .pre .0)) in
-    (omega arith, (c .before .before .before .before .before .before .before .pre .1 .1 .0, (omega (arith, (c .before .before .before .before .before .before .before .pre .1 .1 .1 .0)), room-left _ _ _ _ _ _ _ (room-as _ _ _ _ _ (entry-form _ _ _ (c .before .before .before .before .before .before .before .pre .1 .1 .0) _ (c .before .before .before .before .before .before .before .pre .1 .0) _ (c .before .before .before .before .node-at .ensures .same) _ (c .before .before .is-private-place .ensures) _ (kind-as _ _ 19 (sym (c .before .before .before .before .node-at .ensures .same)) (c .before .before .before .before .before .before .before .pre .0)) _ (c .before .body-count .ensures)) (c .before .before .before .before .before .before .before .pre .1 .1 .1 .1))))))
-    (λ c. let right = room-right _ _ _ _ _ _ _ (room-as _ _ _ _ _ (entry-form _ _ _ (c .before .before .before .before .before .before .before .before .before .before .pre .1 .1 .0) _ (c .before .before .before .before .before .before .before .before .before .before .pre .1 .0) _ (c .before .before .before .before .before .before .before .node-at .ensures .same) _ (c .before .before .before .before .before .is-private-place .ensures) _ (kind-as _ _ 19 (sym (c .before .before .before .before .before .before .before .node-at .ensures .same)) (c .before .before .before .before .before .before .before .before .before .before .pre .0)) _ (c .before .before .before .before .body-count .ensures)) (c .before .before .before .before .before .before .before .before .before .before .pre .1 .1 .1 .1)) _ _ (c .before .before .write-body-form .ensures) in
+    (λ c κs. let (_, (_, (context, _))) = c .before .before .before .before .pre in
+    (c .before .node-at .ensures .smallArg, record { at = context .fieldListed }))
+    (λ c κs. let (kind-at-is, (n-bound, (context, (i-bound, _)))) = c .before .before .before .before .before .pre in
+    let node-at-same = c .before .before .node-at .ensures .same in
+    let less = key-and-value-below _ _ _ context _ n-bound _ node-at-same (kind-as _ _ 19 (sym node-at-same) kind-at-is) in
+    let h = entry-count _ _ _ context _ n-bound _ node-at-same _ (c .is-private-place .ensures) (kind-as _ _ 19 (sym node-at-same) kind-at-is) in
+    (omega arith, (context, omega (arith, i-bound))))
+    (λ c. let (kind-at-is, (n-bound, (context, (i-bound, _)))) = c .before .before .before .before .before .before .pre in
+    let node-at-same = c .before .before .before .node-at .ensures .same in
+    let h = entry-count _ _ _ context _ n-bound _ node-at-same _ (c .before .is-private-place .ensures) (kind-as _ _ 19 (sym node-at-same) kind-at-is) in
+    omega (arith, i-bound, c .body-count .ensures))
+    (λ c κs. let (kind-at-is, (n-bound, (context, (i-bound, room)))) = c .before .before .before .before .before .before .before .pre in
+    let node-at-same = c .before .before .before .before .node-at .ensures .same in
+    let is-private-place = c .before .before .is-private-place .ensures in
+    let less = key-and-value-below _ _ _ context _ n-bound _ node-at-same (kind-as _ _ 19 (sym node-at-same) kind-at-is) in
+    let h = entry-count _ _ _ context _ n-bound _ node-at-same _ is-private-place (kind-as _ _ 19 (sym node-at-same) kind-at-is) in
+    (omega arith, (context, (omega (arith, i-bound), room-left _ _ _ _ _ _ _ (room-as _ _ _ _ _ (entry-form _ _ _ context _ n-bound _ node-at-same _ is-private-place _ (kind-as _ _ 19 (sym node-at-same) kind-at-is) _ (c .before .body-count .ensures)) room)))))
+    (λ c. let (kind-at-is, (n-bound, (context, (_, room)))) = c .before .before .before .before .before .before .before .before .before .before .pre in
+    let node-at-same = c .before .before .before .before .before .before .before .node-at .ensures .same in
+    let is-private-place = c .before .before .before .before .before .is-private-place .ensures in
+    let right = room-right _ _ _ _ _ _ _ (room-as _ _ _ _ _ (entry-form _ _ _ context _ n-bound _ node-at-same _ is-private-place _ (kind-as _ _ 19 (sym node-at-same) kind-at-is) _ (c .before .before .before .before .body-count .ensures)) room) _ _ (c .before .before .write-body-form .ensures) in
     omega (arith, right .numbers))
-    (λ c. let right = room-right _ _ _ _ _ _ _ (room-as _ _ _ _ _ (entry-form _ _ _ (c .before .before .before .before .before .before .before .before .before .before .pre .1 .1 .0) _ (c .before .before .before .before .before .before .before .before .before .before .pre .1 .0) _ (c .before .before .before .before .before .before .before .node-at .ensures .same) _ (c .before .before .before .before .before .is-private-place .ensures) _ (kind-as _ _ 19 (sym (c .before .before .before .before .before .before .before .node-at .ensures .same)) (c .before .before .before .before .before .before .before .before .before .before .pre .0)) _ (c .before .before .before .before .body-count .ensures)) (c .before .before .before .before .before .before .before .before .before .before .pre .1 .1 .1 .1)) _ _ (c .before .before .write-body-form .ensures) in
-    omega (arith, right .bytes, c .before .before .before .before .before .before .before .before .before .before .good))
-    (λ c. let right = room-right _ _ _ _ _ _ _ (room-as _ _ _ _ _ (entry-form _ _ _ (c .before .before .before .before .before .before .before .before .before .before .pre .1 .1 .0) _ (c .before .before .before .before .before .before .before .before .before .before .pre .1 .0) _ (c .before .before .before .before .before .before .before .node-at .ensures .same) _ (c .before .before .before .before .before .is-private-place .ensures) _ (kind-as _ _ 19 (sym (c .before .before .before .before .before .before .before .node-at .ensures .same)) (c .before .before .before .before .before .before .before .before .before .before .pre .0)) _ (c .before .before .before .before .body-count .ensures)) (c .before .before .before .before .before .before .before .before .before .before .pre .1 .1 .1 .1)) _ _ (c .before .before .write-body-form .ensures) in
+    (λ c. let good = c .before .before .before .before .before .before .before .before .before .before .good in
+    let (kind-at-is, (n-bound, (context, (_, room)))) = c .before .before .before .before .before .before .before .before .before .before .pre in
+    let node-at-same = c .before .before .before .before .before .before .before .node-at .ensures .same in
+    let is-private-place = c .before .before .before .before .before .is-private-place .ensures in
+    let right = room-right _ _ _ _ _ _ _ (room-as _ _ _ _ _ (entry-form _ _ _ context _ n-bound _ node-at-same _ is-private-place _ (kind-as _ _ 19 (sym node-at-same) kind-at-is) _ (c .before .before .before .before .body-count .ensures)) room) _ _ (c .before .before .write-body-form .ensures) in
+    omega (arith, right .bytes, good))
+    (λ c. let (kind-at-is, (n-bound, (context, (_, room)))) = c .before .before .before .before .before .before .before .before .before .before .pre in
+    let node-at-same = c .before .before .before .before .before .before .before .node-at .ensures .same in
+    let is-private-place = c .before .before .before .before .before .is-private-place .ensures in
+    let right = room-right _ _ _ _ _ _ _ (room-as _ _ _ _ _ (entry-form _ _ _ context _ n-bound _ node-at-same _ is-private-place _ (kind-as _ _ 19 (sym node-at-same) kind-at-is) _ (c .before .before .before .before .body-count .ensures)) room) _ _ (c .before .before .write-body-form .ensures) in
     omega (arith, right .numbers))
-    (λ c κs. let less = key-and-value-below _ _ _ (c .before .before .before .before .before .before .before .before .before .before .before .pre .1 .1 .0) _ (c .before .before .before .before .before .before .before .before .before .before .before .pre .1 .0) _ (c .before .before .before .before .before .before .before .before .node-at .ensures .same) (kind-as _ _ 19 (sym (c .before .before .before .before .before .before .before .before .node-at .ensures .same)) (c .before .before .before .before .before .before .before .before .before .before .before .pre .0)) in
-    let h = entry-count _ _ _ (c .before .before .before .before .before .before .before .before .before .before .before .pre .1 .1 .0) _ (c .before .before .before .before .before .before .before .before .before .before .before .pre .1 .0) _ (c .before .before .before .before .before .before .before .before .node-at .ensures .same) _ (c .before .before .before .before .before .before .is-private-place .ensures) (kind-as _ _ 19 (sym (c .before .before .before .before .before .before .before .before .node-at .ensures .same)) (c .before .before .before .before .before .before .before .before .before .before .before .pre .0)) in
-    (omega arith, (c .before .before .before .before .before .before .before .before .before .before .before .pre .1 .1 .0, (omega (arith, (c .before .before .before .before .before .before .before .before .before .before .before .pre .1 .1 .1 .0), c .before .before .before .before .before .body-count .ensures), room-right _ _ _ _ _ _ _ (room-as _ _ _ _ _ (entry-form _ _ _ (c .before .before .before .before .before .before .before .before .before .before .before .pre .1 .1 .0) _ (c .before .before .before .before .before .before .before .before .before .before .before .pre .1 .0) _ (c .before .before .before .before .before .before .before .before .node-at .ensures .same) _ (c .before .before .before .before .before .before .is-private-place .ensures) _ (kind-as _ _ 19 (sym (c .before .before .before .before .before .before .before .before .node-at .ensures .same)) (c .before .before .before .before .before .before .before .before .before .before .before .pre .0)) _ (c .before .before .before .before .before .body-count .ensures)) (c .before .before .before .before .before .before .before .before .before .before .before .pre .1 .1 .1 .1)) _ _ (c .before .before .before .write-body-form .ensures)))))
-    (λ c κs. room-above-two _ _ _ _ _ _ _ (room-as _ _ _ _ _ (entry-form _ _ _ (c .before .before .before .before .before .before .before .before .before .before .before .before .before .before .before .pre .1 .1 .0) _ (c .before .before .before .before .before .before .before .before .before .before .before .before .before .before .before .pre .1 .0) _ (c .before .before .before .before .before .before .before .before .before .before .before .before .node-at .ensures .same) _ (c .before .before .before .before .before .before .before .before .before .before .is-private-place .ensures) _ (kind-as _ _ 19 (sym (c .before .before .before .before .before .before .before .before .before .before .before .before .node-at .ensures .same)) (c .before .before .before .before .before .before .before .before .before .before .before .before .before .before .before .pre .0)) _ (c .before .before .before .before .before .before .before .before .before .body-count .ensures)) (c .before .before .before .before .before .before .before .before .before .before .before .before .before .before .before .pre .1 .1 .1 .1)) _ _ (c .before .before .before .before .before .before .before .write-body-form .ensures) _ _ (c .before .before .before .write-placed-form .ensures))
-    (λ c. c .before .before .put-above-two .kept .1 .1 .1 .1 .0 ∙ c .before .before .before .before .before .before .write-placed-form .kept .1 .1 .1 .1 .1 .1 .0 ∙ c .before .before .before .before .before .before .before .before .before .before .write-body-form .kept .1 .1 .1 .1 .1 .0)
-    (λ c. numbered-as _ _ _ _ _ _ _ _ (entry-form _ _ _ (c .before .before .before .before .before .before .before .before .before .before .before .before .before .before .before .before .before .before .pre .1 .1 .0) _ (c .before .before .before .before .before .before .before .before .before .before .before .before .before .before .before .before .before .before .pre .1 .0) _ (c .before .before .before .before .before .before .before .before .before .before .before .before .before .before .before .node-at .ensures .same) _ (c .before .before .before .before .before .before .before .before .before .before .before .before .before .is-private-place .ensures) _ (kind-as _ _ 19 (sym (c .before .before .before .before .before .before .before .before .before .before .before .before .before .before .before .node-at .ensures .same)) (c .before .before .before .before .before .before .before .before .before .before .before .before .before .before .before .before .before .before .pre .0)) _ (c .before .before .before .before .before .before .before .before .before .before .before .before .body-count .ensures)) (c .before .before .put-above-two .ensures .1) (numbered-two _ _ _ _ _ _ _ (room-as _ _ _ _ _ (entry-form _ _ _ (c .before .before .before .before .before .before .before .before .before .before .before .before .before .before .before .before .before .before .pre .1 .1 .0) _ (c .before .before .before .before .before .before .before .before .before .before .before .before .before .before .before .before .before .before .pre .1 .0) _ (c .before .before .before .before .before .before .before .before .before .before .before .before .before .before .before .node-at .ensures .same) _ (c .before .before .before .before .before .before .before .before .before .before .before .before .before .is-private-place .ensures) _ (kind-as _ _ 19 (sym (c .before .before .before .before .before .before .before .before .before .before .before .before .before .before .before .node-at .ensures .same)) (c .before .before .before .before .before .before .before .before .before .before .before .before .before .before .before .before .before .before .pre .0)) _ (c .before .before .before .before .before .before .before .before .before .before .before .before .body-count .ensures)) (c .before .before .before .before .before .before .before .before .before .before .before .before .before .before .before .before .before .before .pre .1 .1 .1 .1)) _ _ (c .before .before .before .before .before .before .before .before .before .before .write-body-form .ensures) _ _ (c .before .before .before .before .before .before .write-placed-form .ensures) _ (c .before .before .put-above-two .ensures .0))))
+    (λ c κs. let (kind-at-is, (n-bound, (context, (i-bound, room)))) = c .before .before .before .before .before .before .before .before .before .before .before .pre in
+    let node-at-same = c .before .before .before .before .before .before .before .before .node-at .ensures .same in
+    let is-private-place = c .before .before .before .before .before .before .is-private-place .ensures in
+    let body-count = c .before .before .before .before .before .body-count .ensures in
+    let less = key-and-value-below _ _ _ context _ n-bound _ node-at-same (kind-as _ _ 19 (sym node-at-same) kind-at-is) in
+    let h = entry-count _ _ _ context _ n-bound _ node-at-same _ is-private-place (kind-as _ _ 19 (sym node-at-same) kind-at-is) in
+    (omega arith, (context, (omega (arith, i-bound, body-count), room-right _ _ _ _ _ _ _ (room-as _ _ _ _ _ (entry-form _ _ _ context _ n-bound _ node-at-same _ is-private-place _ (kind-as _ _ 19 (sym node-at-same) kind-at-is) _ body-count) room) _ _ (c .before .before .before .write-body-form .ensures)))))
+    (λ c κs. let (kind-at-is, (n-bound, (context, (_, room)))) = c .before .before .before .before .before .before .before .before .before .before .before .before .before .before .before .pre in
+    let node-at-same = c .before .before .before .before .before .before .before .before .before .before .before .before .node-at .ensures .same in
+    let is-private-place = c .before .before .before .before .before .before .before .before .before .before .is-private-place .ensures in
+    let body-count = c .before .before .before .before .before .before .before .before .before .body-count .ensures in
+    let write-body-form = c .before .before .before .before .before .before .before .write-body-form .ensures in
+    room-above-two _ _ _ _ _ _ _ (room-as _ _ _ _ _ (entry-form _ _ _ context _ n-bound _ node-at-same _ is-private-place _ (kind-as _ _ 19 (sym node-at-same) kind-at-is) _ body-count) room) _ _ write-body-form _ _ (c .before .before .before .write-placed-form .ensures))
+    (λ c. let write-body-form-kept = c .before .before .before .before .before .before .before .before .before .before .write-body-form .kept .1 .1 .1 .1 .1 .0 in
+    let write-placed-form-kept = c .before .before .before .before .before .before .write-placed-form .kept .1 .1 .1 .1 .1 .1 .0 in
+    c .before .before .put-above-two .kept .1 .1 .1 .1 .0 ∙ write-placed-form-kept ∙ write-body-form-kept)
+    (λ c. let (kind-at-is, (n-bound, (context, (_, room)))) = c .before .before .before .before .before .before .before .before .before .before .before .before .before .before .before .before .before .before .pre in
+    let node-at-same = c .before .before .before .before .before .before .before .before .before .before .before .before .before .before .before .node-at .ensures .same in
+    let is-private-place = c .before .before .before .before .before .before .before .before .before .before .before .before .before .is-private-place .ensures in
+    let body-count = c .before .before .before .before .before .before .before .before .before .before .before .before .body-count .ensures in
+    let write-body-form = c .before .before .before .before .before .before .before .before .before .before .write-body-form .ensures in
+    let write-placed-form = c .before .before .before .before .before .before .write-placed-form .ensures in
+    let put-above-two = c .before .before .put-above-two .ensures in
+    numbered-as _ _ _ _ _ _ _ _ (entry-form _ _ _ context _ n-bound _ node-at-same _ is-private-place _ (kind-as _ _ 19 (sym node-at-same) kind-at-is) _ body-count) (put-above-two .1) (numbered-two _ _ _ _ _ _ _ (room-as _ _ _ _ _ (entry-form _ _ _ context _ n-bound _ node-at-same _ is-private-place _ (kind-as _ _ 19 (sym node-at-same) kind-at-is) _ body-count) room) _ _ write-body-form _ _ write-placed-form _ (put-above-two .0))))

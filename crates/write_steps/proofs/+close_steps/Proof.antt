@@ -18,12 +18,10 @@ abbrev μ-close-steps : Measures 2 close-steps-kinds.ps ℕ
 μ-close-steps κs a = a .1 .0
 
 abbrev close-steps-at : ℕ → In 2 close-steps-kinds.ps
-close-steps-at t =
-    and 2 close-steps-kinds.ps (is 2 close-steps-kinds.ps μ-close-steps t) close-steps.Pre
+close-steps-at t = and 2 close-steps-kinds.ps (is 2 close-steps-kinds.ps μ-close-steps t) close-steps.Pre
 
 abbrev close-steps-below : ℕ → In 2 close-steps-kinds.ps
-close-steps-below t =
-    and 2 close-steps-kinds.ps (falls 2 close-steps-kinds.ps _<_ μ-close-steps t) close-steps.Pre
+close-steps-below t = and 2 close-steps-kinds.ps (falls 2 close-steps-kinds.ps _<_ μ-close-steps t) close-steps.Pre
 
 abbrev close-steps-claims : ℕ → close-steps-lts.Claims
 close-steps-claims t = (put-node-reads.Asked, put-node-reads.Learnt, close-steps-below t, close-steps.Post)
@@ -33,14 +31,19 @@ pub +close-steps-spec : {M : Type 1} → statement M
     close μ-close-steps
     (λ t. close-steps-lts.spec (close-steps-claims t) (close-steps-at t) close-steps.Post
     (λ c. search needs)
-    (λ c. omega (arith, c .before .before .before .good .0, c .before .before .before .pre .1 .0))
-    (λ c. omega (arith, c .before .before .before .before .pre .1 .0))
+    (λ c. let (_, (count-bound, _)) = c .before .before .before .pre in omega (arith, c .before .before .before .good .0, count-bound))
+    (λ c. let (_, (count-bound, _)) = c .before .before .before .before .pre in omega (arith, count-bound))
     (λ c. omega (arith, c .shared-slice-known2 .given (c .before .before .before .before .args .count - 1)))
-    (λ c κs. omega (arith, c .before .before .before .before .before .pre .1 .1 .1))
+    (λ c κs. let (_, (_, (_, out-room))) = c .before .before .before .before .before .pre in omega (arith, out-room))
     (λ c. search needs)
-    (λ c. omega (arith, c .before .before .before .before .before .before .before .before .pre .1 .1 .0))
-    (λ c. omega (arith, c .before .before .before .before .before .before .before .before .before .pre .1 .1 .1, c .before .before .before .before .before .before .before .before .before .good))
-    (λ c κs. (omega arith, (omega (arith, c .before .before .before .before .before .before .before .before .before .pre .1 .0), (omega (arith, c .before .before .before .before .before .before .before .before .before .pre .1 .1 .0), omega (arith, c .before .before .before .before .before .before .before .before .before .pre .1 .1 .1, c .before .before .before .put-node .kept .1 .1 .1 .1 .1 .0)))))
+    (λ c. let (_, (_, (top-bound, _))) = c .before .before .before .before .before .before .before .before .pre in omega (arith, top-bound))
+    (λ c. let (_, (_, (_, out-room))) = c .before .before .before .before .before .before .before .before .before .pre in
+    omega (arith, out-room, c .before .before .before .before .before .before .before .before .before .good))
+    (λ c κs. let (_, (count-bound, (top-bound, out-room))) = c .before .before .before .before .before .before .before .before .before .pre in
+    (omega arith, (omega (arith, count-bound), (omega (arith, top-bound), omega (arith, out-room, c .before .before .before .put-node .kept .1 .1 .1 .1 .1 .0)))))
     (λ c. c .before .before .close-steps .kept .1 .1 .1 .0 ∙ c .before .before .before .before .before .before .put-node .kept .1 .1 .1 .1 .1 .0)
-    (λ c. closed-next _ _ _ (c .before .before .before .before .before .before .before .before .before .if1 .taken) (c .before .before .before .before .before .before .before .before .before .before .before .before .pre .1 .0) _ _ _ _ (c .before .before .before .before .before .before .before .before .before .before .before .before .pre .1 .1 .1) (c .before .before .before .before .before .before .put-node .ensures) (c .before .before .close-steps .ensures))
+    (λ c. let (_, (count-bound, (_, out-room))) = c .before .before .before .before .before .before .before .before .before .before .before .before .pre in
+    let if1-taken = c .before .before .before .before .before .before .before .before .before .if1 .taken in
+    let put-node = c .before .before .before .before .before .before .put-node .ensures in
+    closed-next _ _ _ if1-taken count-bound _ _ _ _ out-room put-node (c .before .before .close-steps .ensures))
     (λ c. closed-none _ _ _ (c .if1 .left) _ _))

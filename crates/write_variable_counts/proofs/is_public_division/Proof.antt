@@ -1,4 +1,3 @@
--- `write_variable_counts::is_public_division` meets its contract.
 use Rattle.write_variable_counts.proofs.Divisions.{divides, leaves-rest, neither}
 use borrow.Author.Needs.{needs}
 use Rattle.write_variable_counts.proofs.is_public_division.Statement.{statement}

@@ -7,12 +7,11 @@ use Rattle.write_variables.proofs.append_code.Tie as tie
 
 pub append-code-spec : {M : Type 1} → statement M
 append-code-spec =
-    tie.close
-    (tie.spec
-    (λ c. search needs)
-    (λ c. search needs)
-    (λ c κs. new-room (c .before .before .before .before .before .args .table .now) (c .before .before .before .before .before .args .code) (c .before .if1 .left) _ _ (c .before .before .before .before .before .pre .1))
-    (λ c. code-seen (c .before .before .before .before .args .table .now) (c .before .before .before .before .args .code) _ _ (c .if1 .taken))
-    (λ c. search needs)
-    (λ c. search needs)
-    (λ c. code-new (c .before .before .before .before .before .before .before .before .args .table .now) (c .before .before .before .before .before .before .before .before .args .code) (c .before .before .before .before .if1 .left) _ _ _ _ (omega arith) (c .before .before .append-byte .ensures)))
+    tie.close (tie.spec
+    (λ c. search needs) (λ c. search needs)
+    (λ c κs. let start = c .before .before .before .before .before in let args = start .args in let (_, out-room) = start .pre in
+    new-room (args .table .now) (args .code) (c .before .if1 .left) _ _ out-room)
+    (λ c. let args = c .before .before .before .before .args in code-seen (args .table .now) (args .code) _ _ (c .if1 .taken))
+    (λ c. search needs) (λ c. search needs)
+    (λ c. let args = c .before .before .before .before .before .before .before .before .args in
+    code-new (args .table .now) (args .code) (c .before .before .before .before .if1 .left) _ _ _ _ (omega arith) (c .before .before .append-byte .ensures)))

@@ -6,12 +6,15 @@ use Rattle.write_variables.proofs.append_key.Tie as tie
 
 pub append-key-spec : {M : Type 1} → statement M
 append-key-spec =
-    tie.close
-    (tie.spec
+    tie.close (tie.spec
     (λ c. search needs)
-    (λ c κs. (search needs, cell-room (c .before .before .before .before .before .before .args .table .now) (c .before .before .before .before .before .before .args .tag) (c .before .before .before .before .before .before .args .owner) (c .before .before .before .if1 .taken) (c .before .before .if2 .left) _ _ (c .before .before .before .before .before .before .pre .1)))
-    (λ c. plain-taken (c .before .before .before .before .args .table .now) (c .before .before .before .before .args .tag) (c .before .before .before .before .args .owner) _ _ (c .before .if1 .taken) (c .if2 .taken))
-    (λ c. search needs)
-    (λ c. search needs)
-    (λ c. cell-taken (c .before .before .before .before .before .before .before .before .before .before .before .args .table .now) (c .before .before .before .before .before .before .before .before .before .before .before .args .tag) (c .before .before .before .before .before .before .before .before .before .before .before .args .owner) (c .before .before .before .before .before .before .before .before .if1 .taken) (c .before .before .before .before .before .before .before .if2 .left) _ _ _ _ _ (c .before .before .before .before .append-code .ensures))
-    (λ c. other-taken (c .before .before .before .args .table .now) (c .before .before .before .args .tag) (c .before .before .before .args .owner) _ _ (c .if1 .left)))
+    (λ c κs. let start = c .before .before .before .before .before .before in let args = start .args in let (_, out-room) = start .pre in
+    (search needs, cell-room (args .table .now) (args .tag) (args .owner) (c .before .before .before .if1 .taken) (c .before .before .if2 .left) _ _ out-room))
+    (λ c. let args = c .before .before .before .before .args in
+    plain-taken (args .table .now) (args .tag) (args .owner) _ _ (c .before .if1 .taken) (c .if2 .taken))
+    (λ c. search needs) (λ c. search needs)
+    (λ c. let args = c .before .before .before .before .before .before .before .before .before .before .before .args in
+    let if1-taken = c .before .before .before .before .before .before .before .before .if1 .taken in
+    let if2-left = c .before .before .before .before .before .before .before .if2 .left in
+    cell-taken (args .table .now) (args .tag) (args .owner) if1-taken if2-left _ _ _ _ _ (c .before .before .before .before .append-code .ensures))
+    (λ c. let args = c .before .before .before .args in other-taken (args .table .now) (args .tag) (args .owner) _ _ (c .if1 .left)))

@@ -23,21 +23,20 @@ abbrev μ-loop : tie.MeasureT-loop
 
 pub append-keys-spec : {M : Type 1} → statement M
 append-keys-spec =
-    tie.close
-    (tie.spec
-    Inv-loop
-    μ-loop
-    (λ c. (keys-start (c .before .before .args .log .now) (c .before .before .args .out .now) (c .before .before .args .from) (c .before .before .pre), omega arith, refl, refl))
+    tie.close (tie.spec Inv-loop μ-loop
+    (λ c. let args = c .before .before .args in
+    (keys-start (args .log .now) (args .out .now) (args .from) (c .before .before .pre), omega arith, refl, refl))
+    (λ c. search needs) (λ c. search needs) (λ c. search needs) (λ c. search needs) (λ c. search needs) (λ c. search needs)
     (λ c. search needs)
+    (λ c κs. let start = c .before .before .before .before .before .before .before .before in let args = start .args in let pre = start .pre in
+    let loop = c .before .before .before .before .before .loop in
+    let (appending, _, _, _) = c .before .before .before .before .before .loop .inv in
+    (search needs, key-room (args .log .now) (args .out .now) (args .from) pre _ (loop .table) _ (loop .i) (omega arith) appending))
+    (λ c. search needs) (λ c. search needs)
+    (λ c. let start = c .before .before .before .before .before .before .before .before .before .before .before .before in let args = start .args in
+    let pre = start .pre in let loop-i = c .before .before .before .before .before .before .before .before .before .loop .i in
+    let (appending, _, _, _) = c .before .before .before .before .before .before .before .before .before .loop .inv in
+    (key-appended (args .log .now) (args .out .now) (args .from) pre _ _ _ _ _ _ loop-i (omega arith) appending (c .before .before .before .append-key .ensures), omega arith, search needs, search needs))
     (λ c. search needs)
-    (λ c. search needs)
-    (λ c. search needs)
-    (λ c. search needs)
-    (λ c. search needs)
-    (λ c. search needs)
-    (λ c κs. (search needs, key-room (c .before .before .before .before .before .before .before .before .args .log .now) (c .before .before .before .before .before .before .before .before .args .out .now) (c .before .before .before .before .before .before .before .before .args .from) (c .before .before .before .before .before .before .before .before .pre) _ (c .before .before .before .before .before .loop .table) _ (c .before .before .before .before .before .loop .i) (omega arith) (c .before .before .before .before .before .loop .inv .0)))
-    (λ c. search needs)
-    (λ c. search needs)
-    (λ c. (key-appended (c .before .before .before .before .before .before .before .before .before .before .before .before .args .log .now) (c .before .before .before .before .before .before .before .before .before .before .before .before .args .out .now) (c .before .before .before .before .before .before .before .before .before .before .before .before .args .from) (c .before .before .before .before .before .before .before .before .before .before .before .before .pre) _ _ _ _ _ _ (c .before .before .before .before .before .before .before .before .before .loop .i) (omega arith) (c .before .before .before .before .before .before .before .before .before .loop .inv .0) (c .before .before .before .append-key .ensures), omega arith, search needs, search needs))
-    (λ c. search needs)
-    (λ c. keys-done (c .before .before .before .before .args .log .now) (c .before .before .before .before .args .out .now) (c .before .before .before .before .args .from) (c .before .before .before .before .pre) _ (c .before .loop .table) _ (c .before .loop .i) (omega arith) (c .before .loop .inv .0)))
+    (λ c. let args = c .before .before .before .before .args in let loop = c .before .loop in let (appending, _, _, _) = c .before .loop .inv in
+    keys-done (args .log .now) (args .out .now) (args .from) (c .before .before .before .before .pre) _ (loop .table) _ (loop .i) (omega arith) appending))

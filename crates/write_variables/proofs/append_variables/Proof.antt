@@ -21,20 +21,17 @@ abbrev μ-loop : tie.MeasureT-loop
 
 pub append-variables-spec : {M : Type 1} → statement M
 append-variables-spec =
-    tie.close
-    (tie.spec
-    Inv-loop
-    μ-loop
+    tie.close (tie.spec Inv-loop μ-loop
     (λ c. (appending-start _ _ _, omega arith, refl))
+    (λ c. search needs) (λ c. search needs) (λ c. search needs) (λ c. search needs) (λ c. search needs) (λ c. search needs)
+    (λ c κs. let start = c .before .before .before .before .before .before .before in let args = start .args in let pre = start .pre in
+    let (appending, _, _) = c .before .before .before .before .loop .inv in
+    entry-room variableOf (args .log .now) (args .out .now) (args .from) pre _ _ (c .before .before .before .before .loop .i) (omega arith) appending)
+    (λ c. search needs) (λ c. search needs)
+    (λ c. let start = c .before .before .before .before .before .before .before .before .before .before in let args = start .args in
+    let pre = start .pre in let loop-i = c .before .before .before .before .before .before .before .loop .i in
+    let (appending, _, _) = c .before .before .before .before .before .before .before .loop .inv in
+    (entry-appended variableOf (args .log .now) (args .out .now) (args .from) pre _ _ _ _ loop-i (omega arith) appending (c .before .before .append-variable .ensures), omega arith, search needs))
     (λ c. search needs)
-    (λ c. search needs)
-    (λ c. search needs)
-    (λ c. search needs)
-    (λ c. search needs)
-    (λ c. search needs)
-    (λ c κs. entry-room variableOf (c .before .before .before .before .before .before .before .args .log .now) (c .before .before .before .before .before .before .before .args .out .now) (c .before .before .before .before .before .before .before .args .from) (c .before .before .before .before .before .before .before .pre) _ _ (c .before .before .before .before .loop .i) (omega arith) (c .before .before .before .before .loop .inv .0))
-    (λ c. search needs)
-    (λ c. search needs)
-    (λ c. (entry-appended variableOf (c .before .before .before .before .before .before .before .before .before .before .args .log .now) (c .before .before .before .before .before .before .before .before .before .before .args .out .now) (c .before .before .before .before .before .before .before .before .before .before .args .from) (c .before .before .before .before .before .before .before .before .before .before .pre) _ _ _ _ (c .before .before .before .before .before .before .before .loop .i) (omega arith) (c .before .before .before .before .before .before .before .loop .inv .0) (c .before .before .append-variable .ensures), omega arith, search needs))
-    (λ c. search needs)
-    (λ c. entries-appended variableOf (c .before .before .before .before .args .log .now) (c .before .before .before .before .args .out .now) (c .before .before .before .before .args .from) (c .before .before .before .before .pre) _ _ (c .before .loop .i) (omega arith) (c .before .loop .inv .0)))
+    (λ c. let args = c .before .before .before .before .args in let (appending, _, _) = c .before .loop .inv in
+    entries-appended variableOf (args .log .now) (args .out .now) (args .from) (c .before .before .before .before .pre) _ _ (c .before .loop .i) (omega arith) appending))

@@ -17,17 +17,11 @@ abbrev μ-loop : tie.MeasureT-loop
 
 pub count-tag-spec : {M : Type 1} → statement M
 count-tag-spec =
-    tie.close
-    (tie.spec
-    Inv-loop
-    μ-loop
+    tie.close (tie.spec Inv-loop μ-loop
     (λ c. (omega arith, omega arith, omega arith))
+    (λ c. search needs) (λ c. search needs) (λ c. search needs) (λ c κs. search needs) (λ c. search needs) (λ c. search needs)
     (λ c. search needs)
-    (λ c. search needs)
-    (λ c. search needs)
-    (λ c κs. search needs)
-    (λ c. search needs)
-    (λ c. search needs)
-    (λ c. search needs)
-    (λ c. (count-next (c .before .before .before .before .before .args .log .now) (c .before .before .before .before .before .args .tag) _ _ _ (omega arith) (c .one-if-same .ensures .0) (c .before .before .before .loop .inv .0), omega arith, omega arith))
-    (λ c. count-done (c .before .before .before .args .log .now) (c .before .before .before .args .tag) _ (c .before .loop .i) (omega arith) (c .before .loop .inv .0)))
+    (λ c. let args = c .before .before .before .before .before .args in let (count-is, _, _) = c .before .before .before .loop .inv in
+    (count-next (args .log .now) (args .tag) _ _ _ (omega arith) (c .one-if-same .ensures .0) count-is, omega arith, omega arith))
+    (λ c. let args = c .before .before .before .args in let (count-is, _, _) = c .before .loop .inv in
+    count-done (args .log .now) (args .tag) _ (c .before .loop .i) (omega arith) count-is))

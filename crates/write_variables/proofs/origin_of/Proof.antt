@@ -4,4 +4,6 @@ use Rattle.write_variables.proofs.origin_of.Statement.{statement}
 use Rattle.write_variables.proofs.origin_of.Tie as tie
 
 pub origin-of-spec : {M : Type 1} → statement M
-origin-of-spec = tie.close (tie.spec (λ c. supplied-plain (c .before .before .args .tag) (c .before .before .args .owner) (c .before .if1 .taken) (c .if2 .taken)) (λ c. supplied-cell (c .before .before .args .tag) (c .before .before .args .owner) (c .before .if1 .taken) (c .if2 .left)) (λ c. read-plain (c .before .before .before .args .tag) (c .before .before .before .args .owner) (c .before .before .if1 .left) (c .before .if3 .taken) (c .if4 .taken)) (λ c. read-cell (c .before .before .before .args .tag) (c .before .before .before .args .owner) (c .before .before .if1 .left) (c .before .if3 .taken) (c .if4 .left)) (λ c. neither (c .before .before .args .tag) (c .before .before .args .owner) (c .before .if1 .left) (c .if3 .left)))
+origin-of-spec = tie.close (tie.spec (λ c. let args = c .before .before .args in supplied-plain (args .tag) (args .owner) (c .before .if1 .taken) (c .if2 .taken)) (λ c. let args = c .before .before .args in supplied-cell (args .tag) (args .owner) (c .before .if1 .taken) (c .if2 .left)) (λ c. let args = c .before .before .before .args in
+    read-plain (args .tag) (args .owner) (c .before .before .if1 .left) (c .before .if3 .taken) (c .if4 .taken)) (λ c. let args = c .before .before .before .args in
+    read-cell (args .tag) (args .owner) (c .before .before .if1 .left) (c .before .if3 .taken) (c .if4 .left)) (λ c. let args = c .before .before .args in neither (args .tag) (args .owner) (c .before .if1 .left) (c .if3 .left)))

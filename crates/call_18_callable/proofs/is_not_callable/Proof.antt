@@ -1,0 +1,37 @@
+use mathlib.Core.Path.{_≡_, sym, _∙_}
+use native.Mathlib.Omega.{arith}
+use borrow.Author.Tests.{not-true, not-false}
+use lib.ListN.{length}
+use lib.Seq.{length-take-le}
+use Rattle.ledger_struct.specs.Ledgers.{ledgerOf}
+use Rattle.ledger_struct.proofs.Flat.{take-many}
+use Rattle.call_18_callable.proofs.Callable.{not-well-formed, caller-above, otherwise, lacks-in}
+use borrow.Author.Needs.{needs}
+use Rattle.call_18_callable.proofs.is_not_callable.Statement.{statement}
+use Rattle.call_18_callable.proofs.is_not_callable.Tie as tie
+
+bytes : (c : tie.Start) → length (c .args .l .file) ≡ 4596
+bytes c = search needs
+
+returns-3 : tie.Need-returns-3
+unfolding ledgerOf
+returns-3 c =
+    let k = c .before .before .before in
+    let s = c .before .before .before .before .before .before .before in
+    let l = s .args .l in
+    otherwise _ _ _ _ (sym (c .before .before .before .before .before .before .is-well-formed .ensures) ∙ not-false _ (c .before .before .before .before .before .if1 .left)) (c .before .before .before .before .if2 .left)
+    (lacks-in _ _ _ _ (take-many (l .«file_length») (k .at-most .result) (l .file) (omega (arith, k .at-most .ensures, bytes s))) (c .lacks-function .ensures))
+
+pub is-not-callable-spec : {M : Type 1} → statement M
+is-not-callable-spec =
+    tie.close (tie.spec
+    (λ c κs. search needs)
+    (λ c. not-well-formed _ _ _ (sym (c .before .is-well-formed .ensures) ∙ not-true _ (c .if1 .taken)))
+    (λ c. caller-above _ _ _ (sym (c .before .before .is-well-formed .ensures) ∙ not-false _ (c .before .if1 .left)) (c .if2 .taken))
+    (λ c κs. search needs)
+    (λ c. omega (arith, c .before .at-most .ensures, bytes (c .before .before .before .before .before)))
+    (λ c. let args-l-file = c .before .before .before .before .before .before .args .l .file in
+    let k = c .before .before in
+    sym (length-take-le (k .at-most .result) args-l-file (omega (arith, k .at-most .ensures, bytes (c .before .before .before .before .before .before)))))
+    (λ c κs. search needs)
+    returns-3)

@@ -1,0 +1,82 @@
+// "18. The ledger isn't well formed": a ledger after a done call.
+use file_bytes::read_layout;
+use file_functions::function_start;
+use ledger_18_parameters::parameters_fit;
+use ledger_18_parts::put_parameters;
+use ledger_18_parts::put_variables;
+use ledger_18_variables::variables_fit;
+use ledger_addresses::put_addresses;
+use ledger_numbers::plain_numbers;
+use ledger_struct::Ledger;
+ghost use mathlib.Core.Path.{_≡_};
+ghost use mathlib.Core.List.{map};
+ghost use Prim.Native.Nat.{_<_, _≤_, _/_};
+ghost use lib.ListN.{length};
+ghost use Rattle.definitions.specs.ContractFile.{functionCount, nodesAt};
+ghost use Rattle.definitions.specs.Ledger.{plainNumber, allFit, isAfterDone};
+ghost use Rattle.definitions.specs.Original.{addressIn};
+ghost use Rattle.file_accepted.specs.Context.{scopeIn};
+ghost use Rattle.ledger_contents.specs.Contents.{contentsOf};
+ghost use Rattle.ledger_struct.specs.Ledgers.{ledgerOf};
+ghost use Rattle.ledger_18_forms.specs.Forms.{fitsOrZero};
+ghost use Rattle.write_function_room.specs.Functions.{writtenIn, FunctionRoom};
+ghost use Rattle.ledger_18_variables.specs.Variables.{variableForm};
+ghost use Rattle.ledger_18_parts.specs.Tests.{Opened};
+
+// The variables of the last call, which was done, by the addresses of the names in it.
+pub fn done_variables_fit(
+    file: &[u8],
+    function_at: usize,
+    nodes_at: usize,
+    caller: u8,
+    parameters: &[u32],
+    numbers: &[u32],
+    variables: &[u32],
+) -> bool
+    requires { ⌜ (FunctionRoom (now file) «function_at» 0 0) × («nodes_at» ≡ nodesAt (now file)) ⌝ }
+    requires { ⌜ length (now parameters) ≤ 40 ⌝ }
+    ensures { λ r. ⌜ r ≡ allFit fitsOrZero (map (variableForm (scopeIn (now (file .entry)) «function_at») (addressIn (scopeIn (now (file .entry)) «function_at») caller (map plainNumber (contentsOf (now (parameters .entry)))) (now (numbers .entry)))) ((writtenIn (now (file .entry)) «function_at») .variables)) (contentsOf (now (variables .entry))) ⌝ }
+{
+    let count = parameters.len() / 5;
+    let mut arguments = [0u32; 8];
+    plain_numbers(parameters, &mut arguments[..]);
+    let mut addresses = [0u32; 136];
+    put_addresses(
+        file,
+        function_at,
+        caller,
+        &arguments[..count],
+        numbers,
+        &mut addresses[..],
+    );
+    variables_fit(file, function_at, nodes_at, &addresses[..], variables)
+}
+
+// After a done call, which shows all parameters and the variables.
+pub fn is_after_done(l: Ledger, file: &[u8], numbers: &[u32]) -> bool
+    requires { ⌜ (Opened (ledgerOf l) (now file) (now numbers)) × (l .function < functionCount (now file)) ⌝ }
+    ensures { λ r. ⌜ r ≡ isAfterDone (ledgerOf l) ⌝ }
+{
+    if l.outcome != 0 {
+        return false;
+    }
+    let function_at = function_start(file, l.function);
+    let mut flat = [0u32; 40];
+    let size = put_parameters(l, &mut flat[..]);
+    if parameters_fit(file, function_at, l.caller, true, &flat[..size]) {
+        let layout = read_layout(file);
+        let mut variables = [0u32; 5120];
+        let end = put_variables(l, &mut variables[..]);
+        done_variables_fit(
+            file,
+            function_at,
+            layout.nodes_at,
+            l.caller,
+            &flat[..size],
+            numbers,
+            &variables[..end],
+        )
+    } else {
+        false
+    }
+}

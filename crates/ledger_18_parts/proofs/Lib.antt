@@ -1,0 +1,3 @@
+pub mod Flats
+pub mod Tests
+pub mod Files

@@ -1,0 +1,16 @@
+// A condition judged: numbers 9 and 14.
+use rules_faults::least;
+use rules_faults::number_if;
+use rules_judgements::Judged;
+ghost use mathlib.Core.Path.{_≡_};
+ghost use Rattle.rules_assignments.specs.Putting.{conditionFault};
+
+// "9. .. conditions are bools."; "14. The condition of a require or an if isn't public."
+pub fn condition_fault(condition: Judged) -> u8
+    ensures { λ r. ⌜ r ≡ conditionFault condition ⌝ }
+{
+    least(
+        least(condition.fault, number_if(!(condition.kind == 0), 9)),
+        number_if(!(condition.owner == 0), 14),
+    )
+}

@@ -1,0 +1,45 @@
+// A negation and a reveal judged on their part's judgement: numbers 9, 11 and 13.
+use rules_codes::parts_owner;
+use rules_codes::unread;
+use rules_faults::least;
+use rules_faults::number_if;
+use rules_judgements::Judged;
+use rules_links::Classes;
+ghost use mathlib.Core.Path.{_≡_};
+ghost use mathlib.Core.Bool.{true};
+ghost use Rattle.definitions.specs.Numbers.{targetInTables};
+ghost use Rattle.rules_links.specs.Names.{linkedBy};
+ghost use Rattle.rules_operators.specs.Operating.{negationJudged, revealJudged};
+
+pub fn negation_judged(classes: Classes, part: Judged) -> Judged
+    requires { ⌜ targetInTables (part .owner) ≡ true ⌝ }
+    ensures { λ r. ⌜ r ≡ negationJudged (linkedBy (classes .of)) part ⌝ }
+{
+    let fault = least(
+        least(part.fault, number_if(!(part.kind == 0), 9)),
+        unread(classes, part.owner),
+    );
+    Judged {
+        kind: 0,
+        owner: parts_owner(part.owner, 0),
+        name: 0,
+        fault: fault,
+    }
+}
+
+// "13. A reveal's operand belongs to all."
+pub fn reveal_judged(classes: Classes, target: u8, fits: bool, part: Judged) -> Judged
+    requires { ⌜ targetInTables (part .owner) ≡ true ⌝ }
+    ensures { λ r. ⌜ r ≡ revealJudged (linkedBy (classes .of)) target fits part ⌝ }
+{
+    let read = least(
+        least(part.fault, number_if(!fits, 8)),
+        unread(classes, part.owner),
+    );
+    Judged {
+        kind: part.kind,
+        owner: target,
+        name: 0,
+        fault: least(read, number_if(part.owner == 0, 13)),
+    }
+}

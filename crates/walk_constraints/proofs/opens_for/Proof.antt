@@ -1,8 +1,0 @@
--- `walk_constraints::opens_for` meets its contract.
-
-use borrow.Author.Needs.{needs}
-use Rattle.walk_constraints.proofs.opens_for.Statement.{statement}
-use Rattle.walk_constraints.proofs.opens_for.Tie as tie
-
-pub opens-for-spec : {M : Type 1} → statement M
-opens-for-spec = tie.close (tie.spec (λ c. search needs) (λ c. search needs) (λ c. search needs) (λ c. search needs) (λ c. rw (c .before .before .content .given .1)))

@@ -1,0 +1,46 @@
+// 01, Runs and views: a content against a value, an address, the caller.
+use ledger_contents::Cell;
+use ledger_contents::Content;
+ghost use mathlib.Core.Path.{_≡_};
+ghost use mathlib.Core.Bool.{_&&_};
+ghost use lib.Dec.{eqb};
+ghost use Rattle.definitions.specs.Original.{anyone, only};
+ghost use Rattle.definitions.specs.Ledger.{isContentOf, opensFor};
+ghost use Rattle.ledger_contents.specs.Contents.{contentOfCode};
+
+pub fn is_plain(content: Content, value: u32) -> bool
+    ensures { λ r. ⌜ r ≡ isContentOf anyone value (contentOfCode content) ⌝ }
+{
+    match content {
+        Content::Plain(number) => number == value,
+        Content::Cell(_) => false,
+    }
+}
+
+pub fn cell_matches(cell: Cell, address: u32, value: u32) -> bool
+    ensures { λ r. ⌜ r ≡ eqb (cell .owner) address && eqb (cell .value) value ⌝ }
+{
+    if cell.owner as u32 == address {
+        cell.value == value
+    } else {
+        false
+    }
+}
+
+pub fn is_cell_of(content: Content, address: u32, value: u32) -> bool
+    ensures { λ r. ⌜ r ≡ isContentOf (only address) value (contentOfCode content) ⌝ }
+{
+    match content {
+        Content::Plain(_) => false,
+        Content::Cell(cell) => cell_matches(cell, address, value),
+    }
+}
+
+pub fn opens_for(content: Content, address: u32) -> bool
+    ensures { λ r. ⌜ r ≡ opensFor address (contentOfCode content) ⌝ }
+{
+    match content {
+        Content::Plain(_) => false,
+        Content::Cell(cell) => cell.owner as u32 == address,
+    }
+}

@@ -1,0 +1,81 @@
+-- The answers of writing: 1 to 15 of a refused file, 16 where the output is too short, and the written file.
+use mathlib.Core.Path.{_≡_, refl, ap, sym, _∙_}
+use mathlib.Core.Bool.{Bool, true, false, cond}
+use mathlib.Core.List.{List, _++_}
+use Prim.Native.Nat.{ℕ, zero, suc, _+_, _<_, _≤_}
+use native.Mathlib.Omega.{arith}
+use borrow.Author.Tests.{lt-ltb, le-ltb, ltb-false, ne-eqb}
+use lib.Dec.{eqb, ltb}
+use lib.ListN.{length, drop, length-append}
+use Rattle.definitions.specs.Basics.{twoBytes, firstThatHolds}
+use Rattle.definitions.specs.Numbers.{checkNumber, orElse}
+use Rattle.definitions.specs.Rewriting.{writtenFile, writeNumber, writtenLength, outputAfterWriting}
+use Rattle.memory_buffer.specs.Buffer.{stored}
+use Rattle.memory_append.specs.Append.{Appended}
+use Rattle.write_output.specs.Answers.{Promised, HandedOut}
+
+-- Headings, a count of two bytes, and nodes.
+module _ (headings nodes : List ℕ) (count : ℕ) where
+  pub total-long : length headings + 2 + length nodes ≡ length (headings ++ twoBytes count ++ nodes)
+  total-long = let m = length-append headings (twoBytes count) in let n = length-append (headings ++ twoBytes count) nodes in omega arith
+
+  pub three-long : (room : ℕ) → room < length headings + 2 + length nodes → room < length (headings ++ twoBytes count ++ nodes)
+  three-long room h = let e = total-long in omega arith
+
+  pub room-left : (room : ℕ) → length headings + 2 + length nodes ≤ room → 0 + length (headings ++ twoBytes count ++ nodes) ≤ room
+  room-left room h = let e = total-long in omega arith
+
+module _ (whole held : List ℕ) where
+  pub too-short : length held < length whole → HandedOut whole held held 16 0
+  unfolding firstThatHolds
+  too-short h = let e = lt-ltb (length held) (length whole) h in record { number = rw e; long = rw e; output = rw e }
+
+  pub stands : (after : List ℕ) (end total : ℕ) → 0 + length whole ≤ length held → total ≡ length whole → Appended held after 0 whole end → HandedOut whole held after 0 total
+  unfolding firstThatHolds stored
+  stands after end total h t a =
+      let e = le-ltb (length held) (length whole) (omega arith) in
+      record { number = rw e; long = rw e t; output = rw e (a .contents ∙ front) }
+    where
+      front : stored held 0 whole ≡ whole ++ drop (length whole) held
+      front = let z : 0 + length whole ≡ length whole = omega arith in ap (λ (n : ℕ). whole ++ drop n held) z
+
+pub refused : (file held : List ℕ) (number : ℕ) → number ≡ checkNumber file → 0 < number → Promised file held held number 0
+unfolding writeNumber writtenLength outputAfterWriting
+refused file held zero e h = absurd (omega arith)
+refused file held (suc n) e h =
+    let s : checkNumber file ≡ suc n = sym e in
+    let some : eqb (suc n) 0 ≡ false = ne-eqb (suc n) 0 (λ z. omega arith) in
+    let long : writtenLength file (length held) ≡ 0 = rw s (ap (λ (b : Bool). cond b (length (writtenFile file)) 0) some) in
+    let after : outputAfterWriting file held ≡ held = rw s (ap (λ (b : Bool). cond b (writtenFile file ++ drop (length (writtenFile file)) held) held) some) in
+    (rw s, (sym long, sym after))
+
+pub accepted : (file whole held after : List ℕ) (number long : ℕ) → checkNumber file ≡ 0 → writtenFile file ≡ whole → HandedOut whole held after number long
+    → Promised file held after number long
+unfolding writeNumber writtenLength outputAfterWriting firstThatHolds
+accepted file whole held after number long z w a = go (ltb (length held) (length whole)) refl
+  where
+    go : (short : Bool) → ltb (length held) (length whole) ≡ short → Promised file held after number long
+    go true e = (rw (z, w) (a .number), (rw (z, w, e) (rw e at (a .long)), rw (z, w, e) (rw e at (a .output))))
+    go false e = (rw (z, w) (a .number), (rw (z, w, e) (rw e at (a .long)), rw (z, w, e) (rw e at (a .output))))
+
+pub accepted-parts : (file headings nodes front back held after : List ℕ) (count number long : ℕ) → checkNumber file ≡ 0
+    → writtenFile file ≡ headings ++ twoBytes count ++ nodes → front ≡ headings → back ≡ nodes → HandedOut (front ++ twoBytes count ++ back) held after number long
+    → Promised file held after number long
+accepted-parts file headings nodes front back held after count number long z w f b a =
+    accepted file (front ++ twoBytes count ++ back) held after number long z (w ∙ (λ t. sym f t ++ twoBytes count ++ sym b t)) a
+
+-- What is written stays inside the output.
+written-within : (file : List ℕ) (room : ℕ) → writtenLength file room ≤ room
+unfolding writtenLength writeNumber firstThatHolds
+written-within file room = go (checkNumber file) (ltb room (length (writtenFile file))) refl
+  where
+    none : (n : ℕ) (b : Bool) → eqb n 0 ≡ false → cond (eqb n 0) (length (writtenFile file)) 0 ≤ room
+    none n b e = rw e (omega arith)
+
+    go : (n : ℕ) (short : Bool) → ltb room (length (writtenFile file)) ≡ short → cond (eqb (orElse n (cond short 16 0)) 0) (length (writtenFile file)) 0 ≤ room
+    go (suc n) short e = none (suc n) short (ne-eqb (suc n) 0 (λ z. omega arith))
+    go zero true e = omega arith
+    go zero false e = ltb-false room (length (writtenFile file)) e
+
+pub promised-within : (file held after : List ℕ) (number long : ℕ) → Promised file held after number long → long ≤ length held
+promised-within file held after number long p = let e = p .1 .0 in let w = written-within file (length held) in omega arith
