@@ -20,7 +20,7 @@ use Rattle.rewrite_log.specs.declared.Position.{Position}
 use Rattle.rewrite_log.specs.Entries.{Entries}
 use Rattle.rewrite_log.specs.Logs.{Logged}
 use Rattle.rewrite_expressions.specs.Translations.{Ready, statementOf}
-use Rattle.rewrite_statements.specs.Placing.{startingAt}
+use Rattle.rewrite_assignments.specs.Placing.{startingAt}
 use Rattle.ledger_circuits.specs.Circuits.{addressFrom}
 use Rattle.write_function_room.specs.Functions.{privateIn, eventsIn, FunctionRoom}
 use Rattle.write_function_room.proofs.Room.{function-room-alone}

@@ -16,7 +16,7 @@ use Rattle.file_bytes.specs.Node.{recordOf, IsNode}
 use Rattle.file_bytes.proofs.Sections.{fields-are, functions-are, nodes-are}
 use Rattle.file_children.proofs.Steps.{fieldRecord}
 use Rattle.file_children.proofs.Scans.{fields-next, fields-found, functions-next, functions-found, numbered-next, numbered-found}
-use Rattle.check_04_names.specs.Naming.{ownerNamesNothing, rootNamesNothing, nodeNamesNothing}
+use Rattle.check_04_nodes.specs.Naming.{ownerNamesNothing, rootNamesNothing, nodeNamesNothing}
 
 module _ (fields left : ℕ) (file : List ℕ) (at : ℕ) (goal : Bool) (inv : any (ownerNamesNothing fields) (fieldRecords left file at) ≡ goal)
     (h : 0 < left)

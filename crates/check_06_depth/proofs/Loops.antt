@@ -19,7 +19,7 @@ use Rattle.file_children.proofs.Truth.{either-false}
 use Rattle.file_children.proofs.ByCount.{no-children, one-child, two-children, three-children}
 use Rattle.file_children.proofs.Lookups.{node-within, node-past}
 use Rattle.file_children.proofs.Scans.{functions-next, functions-found}
-use Rattle.check_04_names.specs.Naming.{ownerNamesNothing, rootNamesNothing, nodeNamesNothing}
+use Rattle.check_04_nodes.specs.Naming.{ownerNamesNothing, rootNamesNothing, nodeNamesNothing}
 use Rattle.check_04_names.proofs.Laws.{nothing-named}
 use Rattle.check_06_depth.specs.Chains.{InOrder, ChildrenBelow, Bounded, Chains, depthIn, rootTooDeep}
 use Rattle.check_06_depth.proofs.Laws.{note}

@@ -20,7 +20,7 @@ ghost use Rattle.ledger_contents.specs.Contents.{contentsOf};
 ghost use Rattle.ledger_struct.specs.Ledgers.{ledgerOf};
 ghost use Rattle.ledger_18_forms.specs.Forms.{fitsOrZero};
 ghost use Rattle.write_function_room.specs.Functions.{writtenIn, FunctionRoom};
-ghost use Rattle.ledger_18_variables.specs.Variables.{variableForm};
+ghost use Rattle.ledger_18_variable.specs.Variables.{variableForm};
 ghost use Rattle.ledger_18_parts.specs.Tests.{Opened};
 
 // The variables of the last call, which was done, by the addresses of the names in it.

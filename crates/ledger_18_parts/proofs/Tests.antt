@@ -22,7 +22,7 @@ use Rattle.ledger_struct.specs.Ledgers.{contentsIn, ledgerOf}
 use Rattle.ledger_18_forms.specs.Forms.{fitsOrZero}
 use Rattle.ledger_18_parameters.specs.Parameters.{formsOfParameters}
 use Rattle.ledger_18_places.specs.Places.{formsOfPlaces}
-use Rattle.ledger_18_variables.specs.Variables.{variableForm}
+use Rattle.ledger_18_variable.specs.Variables.{variableForm}
 use Rattle.write_function_room.specs.Functions.{functionIn, writtenIn}
 use Rattle.ledger_18_parts.specs.Tests.{Accepted, Opened}
 

@@ -28,7 +28,7 @@ use Rattle.write_parameters.specs.Parameters.{privateCount}
 use Rattle.write_function_room.specs.Functions.{writtenIn, eventsIn, privateIn}
 use Rattle.ledger_18_forms.specs.Forms.{fitsOrZero, frontFits}
 use Rattle.ledger_18_forms.proofs.Laws.{all-front}
-use Rattle.ledger_18_variables.specs.Variables.{variableForm, openingForm, openingForms, codeReader, loggedForms}
+use Rattle.ledger_18_variable.specs.Variables.{variableForm, openingForm, openingForms, codeReader, loggedForms}
 
 -- The address at an owner's code is the owner's.
 reader-told : (addresses : List ℕ) (o : Owner) → Listed o → codeReader addresses (ownerCode o) ≡ readerOf (addressFrom addresses) o

@@ -1,4 +1,3 @@
 pub mod Openings
-pub mod Log
 pub mod Forms
 pub mod Room

@@ -17,10 +17,10 @@ use Rattle.rewrite_log.specs.Logs.{Logged}
 use Rattle.rewrite_log.proofs.Laws.{entries-length}
 use Rattle.memory_buffer.proofs.Laws.{stored-length}
 use Rattle.rewrite_expressions.specs.Translations.{Ready, statementOf}
-use Rattle.rewrite_statements.specs.Placing.{startingAt}
+use Rattle.rewrite_assignments.specs.Placing.{startingAt}
 use Rattle.write_function_room.specs.Functions.{writtenIn, eventsIn, privateIn, FunctionRoom}
 use Rattle.ledger_18_forms.specs.Forms.{fitsOrZero, frontFits}
-use Rattle.ledger_18_variables.specs.Variables.{variableForm, openingForms, loggedForms}
+use Rattle.ledger_18_variable.specs.Variables.{variableForm, openingForms, loggedForms}
 use Rattle.ledger_18_variables.proofs.Forms.{variables-split, log-front}
 
 module _ (file : List ℕ) (at : ℕ) (room : FunctionRoom file at 0 0) (private : ℕ) (same : private ≡ privateIn file at) where

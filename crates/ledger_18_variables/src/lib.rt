@@ -1,54 +1,23 @@
 // Whether the variables of a ledger's last call have the types and the owners that the file asks.
 use file_bytes::byte_at;
-use file_bytes::two_bytes_at;
 use ledger_18_forms::variable_fits_at;
-use ledger_readers::Reader;
+use ledger_18_variable::code_reader;
+use ledger_18_variable::entry_type;
 use ledger_types::parameter_type;
-use ledger_types::type_code;
 use rewrite_statements::function_log;
 use write_parameters::count_private;
 ghost use mathlib.Core.Path.{_≡_};
-ghost use mathlib.Core.Bool.{cond};
 ghost use mathlib.Core.List.{map};
 ghost use Prim.Native.Nat.{_≤_};
-ghost use lib.Dec.{eqb};
 ghost use lib.ListN.{length, getD, drop};
-ghost use Rattle.definitions.specs.ContractFile.{boolean, byteAt, nodesAt, dataTypeOf, typeOf};
+ghost use Rattle.definitions.specs.ContractFile.{byteAt, nodesAt};
 ghost use Rattle.definitions.specs.Ledger.{allFit};
-ghost use Rattle.theory_trees.specs.Trees.{expressionIn};
-ghost use Rattle.file_accepted.specs.Context.{Context, nodesIn, parametersIn, scopeIn};
+ghost use Rattle.file_accepted.specs.Context.{Context, parametersIn, scopeIn};
 ghost use Rattle.ledger_contents.specs.Contents.{contentsOf};
-ghost use Rattle.ledger_readers.specs.Readers.{readerOfCode};
 ghost use Rattle.ledger_circuits.specs.Circuits.{addressFrom};
 ghost use Rattle.write_function_room.specs.Functions.{writtenIn, FunctionRoom};
 ghost use Rattle.ledger_18_forms.specs.Forms.{fitsOrZero, frontFits};
-ghost use Rattle.ledger_18_variables.specs.Variables.{codeReader, openingForms, loggedForms, variableForm};
-
-// Code 0 is everyone's; addresses stand at the other codes.
-fn code_reader(addresses: &[u32], code: usize) -> Reader
-    ensures { λ r. ⌜ readerOfCode r ≡ codeReader (now (addresses .entry)) code ⌝ }
-{
-    if code == 0 {
-        Reader::Anyone
-    } else {
-        Reader::Only(ledger_places::number_at(addresses, code))
-    }
-}
-
-// The type code of an entry's variable: a guard is a bool.
-fn entry_type(file: &[u8], function_at: usize, nodes_at: usize, tag: u16, node: usize) -> usize
-    requires { ⌜ Context (now file) «function_at» «nodes_at» ⌝ }
-    ensures { λ r. ⌜ dataTypeOf r ≡ cond (eqb tag 3) boolean (typeOf (scopeIn (now (file .entry)) «function_at») (expressionIn (nodesIn (now (file .entry))) node)) ⌝ }
-{
-    if tag == 3 {
-        return 0;
-    }
-    if node < two_bytes_at(file, nodes_at) {
-        type_code(file, function_at, nodes_at, node)
-    } else {
-        2
-    }
-}
+ghost use Rattle.ledger_18_variable.specs.Variables.{openingForms, loggedForms, variableForm};
 
 // "First, each private parameter is read": cells of the caller's.
 fn openings_fit(file: &[u8], function_at: usize, addresses: &[u32], flat: &[u32]) -> bool

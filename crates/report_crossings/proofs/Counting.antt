@@ -20,7 +20,7 @@ use Rattle.rewrite_log.specs.declared.Position.{Position}
 use Rattle.rewrite_log.specs.Logs.{Logged}
 use Rattle.rewrite_log.proofs.Laws.{entries-length}
 use Rattle.rewrite_expressions.specs.Translations.{statementOf, Ready}
-use Rattle.rewrite_statements.specs.Placing.{startingAt}
+use Rattle.rewrite_assignments.specs.Placing.{startingAt}
 use Rattle.write_variables.specs.PerEntry.{perEntry, ofTag, countTag}
 use Rattle.write_parameters.specs.Parameters.{privateCount}
 use Rattle.write_heading_laws.proofs.Heading.{crossings-counted}

@@ -1,3 +1,2 @@
-pub mod Placing
 pub mod Statements
 pub mod Roots

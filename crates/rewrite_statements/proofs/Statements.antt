@@ -14,7 +14,7 @@ use Rattle.rewrite_log.specs.Logs.{Slot, Wrote, Room, Logged, SmallEntry}
 use Rattle.rewrite_log.proofs.Laws.{nothing-logged}
 use Rattle.rewrite_log.proofs.Turns.{turn-first, turn-second, turn-logged, branch-slot, branch-inside, branch-logged}
 use Rattle.rewrite_expressions.specs.Translations.{bodyOf, statementOf, Ready}
-use Rattle.rewrite_statements.specs.Placing.{assignFieldOf, assignEntryOf, branchOf}
+use Rattle.rewrite_assignments.specs.Placing.{assignFieldOf, assignEntryOf, branchOf}
 
 module _ (file : List ℕ) (functionStart nodesStart guard : ℕ) (n : ℕ) (before : List ℕ) (p : Position)
     (ready : Ready file functionStart nodesStart n before p (statementOf file functionStart guard n)) (r : NodeRecord) (same : r ≡ nodeRecord file (nodesStart + 2 + 8 * n)) where

@@ -1,4 +1,4 @@
-// Faults of what is put into a place, and of a condition, from what is found of their expressions.
+// Faults of what is put into a place, from what is found of its expressions: numbers 8, 9 and 15.
 use rules_codes::misplaced;
 use rules_codes::place_owner;
 use rules_entries::entry_fault;

@@ -1,4 +1,4 @@
-// What is found of operators, not and reveal, from what is found of their operands.
+// What is found of an operator, from what is found of its operands: numbers 9, 11 and 12.
 use rules_codes::is_division;
 use rules_codes::operands_fit;
 use rules_codes::parts_owner;

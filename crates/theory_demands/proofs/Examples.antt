@@ -74,6 +74,7 @@ paired = computed .paired
 
 -- The theorem at these lists, for address 4: nothing is disclosed to it, and the views are equal, and not empty.
 equal-for-others : take 2 (viewsAfter 4 start secrets) ≡ take 2 (viewsAfter 4 start secrets′)
+unfolding start
 equal-for-others = equal-views fileA (5 ∷ []) accepted 4 secrets secrets′ paired 2 (computed .nothingDisclosed)
 
 views-not-empty : length (getD (viewsAfter 4 start secrets) 0 []) ≡ 65

@@ -1,12 +1,10 @@
 // One item of a view, ten bytes, written over a lent output.
 use ledger_contents::Cell;
-use ledger_contents::Content;
 ghost use mathlib.Core.Path.{_≡_};
 ghost use lib.ListN.{length};
 ghost use Prim.Native.Nat.{_+_, _≤_};
 ghost use Rattle.memory_buffer.specs.Buffer.{stored};
-ghost use Rattle.definitions.specs.View.{itemBytes, itemFor};
-ghost use Rattle.ledger_contents.specs.Contents.{contentOfCode};
+ghost use Rattle.definitions.specs.View.{itemBytes};
 ghost use Rattle.view_item.specs.Items.{itemOf};
 
 // Mark, owner, serial and value.
@@ -27,38 +25,4 @@ pub fn put_item(out: &mut [u8], at: usize, mark: u8, cell: Cell)
     out[at + 7] = (value / 256 % 256) as u8;
     out[at + 8] = (value / 65536 % 256) as u8;
     out[at + 9] = (value / 16777216 % 256) as u8;
-}
-
-// A cell that is not the party's shows no value.
-pub fn put_cell(out: &mut [u8], at: usize, party: u8, cell: Cell)
-    requires { ⌜ at + 10 ≤ length (now out) ⌝ }
-    ensures { λ _. ⌜ now (out .exit) ≡ stored (now (out .entry)) at (itemBytes (itemFor party (contentOfCode (Content.Cell cell)))) ⌝ }
-{
-    if cell.owner == party {
-        put_item(out, at, 2, cell)
-    } else {
-        let mut hidden = cell;
-        hidden.value = 0;
-        put_item(out, at, 1, hidden)
-    }
-}
-
-pub fn put_content(out: &mut [u8], at: usize, party: u8, content: Content)
-    requires { ⌜ at + 10 ≤ length (now out) ⌝ }
-    ensures { λ _. ⌜ now (out .exit) ≡ stored (now (out .entry)) at (itemBytes (itemFor party (contentOfCode content))) ⌝ }
-{
-    match content {
-        Content::Plain(value) => put_item(
-            out,
-            at,
-            0,
-            Cell {
-                owner: 0,
-                call: 0,
-                index: 0,
-                value: value,
-            },
-        ),
-        Content::Cell(cell) => put_cell(out, at, party, cell),
-    }
 }

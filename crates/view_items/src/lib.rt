@@ -1,6 +1,6 @@
 // The items of a view, ten bytes each, written over a lent output.
 use ledger_contents::Place;
-use view_item::put_content;
+use view_content::put_content;
 ghost use mathlib.Core.Path.{_≡_};
 ghost use lib.ListN.{length};
 ghost use Prim.Native.Nat.{_+_, _*_, _≤_, min};

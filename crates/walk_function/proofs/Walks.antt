@@ -18,7 +18,7 @@ use Rattle.rewrite_log.specs.declared.Position.{Position}
 use Rattle.rewrite_log.specs.Logs.{Logged}
 use Rattle.write_logged_steps.proofs.Held.{stored-holds}
 use Rattle.rewrite_expressions.specs.Translations.{Ready, statementOf}
-use Rattle.rewrite_statements.specs.Placing.{startingAt}
+use Rattle.rewrite_assignments.specs.Placing.{startingAt}
 use Rattle.write_trees.specs.Trees.{commandIn}
 use Rattle.write_trees.specs.Table.{tableOf}
 use Rattle.write_trees.proofs.Functions.{all-length}

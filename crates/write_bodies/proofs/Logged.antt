@@ -24,7 +24,7 @@ use Rattle.rewrite_expressions.specs.Translations.{bodyOf, statementOf, Ready}
 use Rattle.write_nodes.specs.Numbering.{Room, Numbered}
 use Rattle.write_nodes.proofs.Laws.{room-as, numbered-as}
 use Rattle.write_nodes.proofs.Parents.{room-first}
-use Rattle.write_expressions.specs.Forms.{bodyForm}
+use Rattle.write_reads.specs.Forms.{bodyForm}
 use Rattle.write_simple_statements.specs.Statements.{simple, simpleCount}
 use Rattle.write_simple_statements.proofs.Statements.{simple-makes}
 use Rattle.write_steps.specs.declared.Steps.{Steps}

@@ -12,7 +12,7 @@ use Rattle.file_accepted.specs.Context.{Context, nodesIn, scopeIn}
 use Rattle.file_accepted.specs.Functions.{rootAt}
 use Rattle.rewrite_events.specs.Events.{variableCount}
 use Rattle.write_nodes.specs.Numbering.{Room, Numbered}
-use Rattle.write_expressions.specs.Forms.{bodyForm}
+use Rattle.write_reads.specs.Forms.{bodyForm}
 use Rattle.write_steps.specs.Steps.{StepsPut}
 use Rattle.write_function_room.specs.Functions.{writtenIn, privateIn, eventsIn}
 use Rattle.write_bodies.specs.declared.Extent.{Extent}

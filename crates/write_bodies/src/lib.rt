@@ -3,7 +3,7 @@ use file_bytes::node_at;
 use rewrite_expressions::body_log;
 use rewrite_log::Position;
 use rewrite_statements::statement_log;
-use write_expressions::write_body_form;
+use write_body_expressions::write_body_form;
 use write_nodes::put_above_three;
 use write_nodes::put_above_two;
 use write_nodes::put_leaf;

@@ -1,7 +1,6 @@
 pub mod Fours
 pub mod Entries
 pub mod Turns
-pub mod Sixes
 pub mod Held
 pub mod Logged
 pub mod Claims

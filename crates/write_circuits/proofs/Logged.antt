@@ -13,7 +13,7 @@ use Rattle.definitions.specs.Rewriting.{Guard, Tree, size, sizes, claimTrees, g
 use Rattle.theory_trees.specs.Trees.{expressionIn}
 use Rattle.rewrite_events.specs.Events.{Event, claimedEvent, constraintsOf}
 use Rattle.rewrite_log.specs.Entries.{suppliedEntry, claimedEntry, readEntry, guardEntry, Entries, noEntry, entryThen}
-use Rattle.write_expressions.specs.Forms.{circuitForm}
+use Rattle.write_reads.specs.Forms.{circuitForm}
 use Rattle.write_logged_steps.specs.Held.{Holds}
 use Rattle.write_logged_steps.proofs.Held.{holds-tag, holds-variable, holds-node, holds-last, holds-rest}
 use Rattle.write_trees.specs.Numbers.{constraintNumbers}

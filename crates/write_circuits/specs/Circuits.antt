@@ -13,7 +13,7 @@ use Rattle.memory_buffer.specs.Buffer.{stored}
 use Rattle.file_accepted.specs.Context.{nodesIn, scopeIn}
 use Rattle.write_variable_counts.specs.Counts.{circuitCount}
 use Rattle.write_nodes.specs.Numbering.{Numbered}
-use Rattle.write_expressions.specs.Forms.{circuitForm}
+use Rattle.write_reads.specs.Forms.{circuitForm}
 use Rattle.write_circuits.specs.declared.Circuits.{Circuits}
 
 -- A claim as a log tells it: the guard's number, the variable, the owner code, and the circuit's tree.

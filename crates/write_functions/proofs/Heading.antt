@@ -19,7 +19,7 @@ use Rattle.write_headings.specs.Parts.{headingParts, HeadingFits}
 use Rattle.write_headings.proofs.Parts.{heading-is}
 use Rattle.write_nodes.proofs.Laws.{size-positive}
 use Rattle.write_circuits.specs.Circuits.{sixesFrom}
-use Rattle.write_circuits.proofs.Sixes.{sixes-length}
+use Rattle.write_claims.proofs.Sixes.{sixes-length}
 use Rattle.write_function_room.specs.Functions.{writtenIn, eventsIn}
 use Rattle.write_functions.specs.declared.Parts.{Parts}
 use Rattle.write_functions.specs.Writing.{constraintsIn, HeadingReady}

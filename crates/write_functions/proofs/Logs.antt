@@ -19,7 +19,7 @@ use Rattle.rewrite_log.specs.Entries.{Entries}
 use Rattle.rewrite_log.specs.declared.Position.{Position}
 use Rattle.rewrite_log.specs.Logs.{Logged}
 use Rattle.rewrite_expressions.specs.Translations.{Ready, statementOf}
-use Rattle.rewrite_statements.specs.Placing.{startingAt}
+use Rattle.rewrite_assignments.specs.Placing.{startingAt}
 use Rattle.write_logged_steps.specs.Held.{Holds}
 use Rattle.write_logged_steps.proofs.Held.{stored-holds}
 use Rattle.write_logged_steps.proofs.Readings.{entries-length}

@@ -1,8 +1,8 @@
 // 01, Rewriting: one function written, "per function circuits, in constraint order, come before the body", and its heading.
 use file_bytes::byte_at;
 use rewrite_statements::function_log;
-use write_circuits::append_claims;
 use write_circuits::put_circuits;
+use write_claims::append_claims;
 use write_function_bodies::write_function_body;
 use write_headings::append_heading;
 use write_parameters::count_private;

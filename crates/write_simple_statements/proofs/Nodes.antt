@@ -10,7 +10,7 @@ use Rattle.theory_trees.specs.Trees.{expressionIn, statementIn}
 use Rattle.file_accepted.specs.Context.{Context, nodesIn, scopeIn}
 use Rattle.file_accepted.proofs.Statements.{assign-field-is, assign-entry-is, require-is}
 use Rattle.write_variable_counts.specs.Counts.{bodyCount}
-use Rattle.write_expressions.specs.Forms.{bodyForm}
+use Rattle.write_reads.specs.Forms.{bodyForm}
 use Rattle.write_simple_statements.specs.Places.{placedForm, placedCount, PrivatePlace}
 use Rattle.write_simple_statements.specs.Statements.{simpleForm, simpleCount}
 use Rattle.write_simple_statements.proofs.Statements.{form-of-require, count-of-require, form-of-field, count-of-field, form-of-entry, count-of-entry}

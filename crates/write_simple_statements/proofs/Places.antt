@@ -15,7 +15,7 @@ use Rattle.definitions.specs.Rewriting.{supplying, inBody, inCircuit, inPlace, 
 use Rattle.file_accepted.specs.Context.{fieldsIn}
 use Rattle.write_variable_counts.specs.Counts.{bodyCount, circuitCount}
 use Rattle.write_variable_counts.proofs.Counts.{body-makes, circuit-makes}
-use Rattle.write_expressions.specs.Forms.{bodyForm}
+use Rattle.write_reads.specs.Forms.{bodyForm}
 use Rattle.write_simple_statements.specs.Places.{placedForm, placedCount, PrivatePlace}
 
 module _ (scope : Scope) (e : Expression) where

@@ -9,7 +9,7 @@ use Rattle.definitions.specs.Owners.{nameOf, placeOwner}
 use Rattle.definitions.specs.Rewriting.{kept, onePart, twoParts, inBody, inPlace, leaf, oneChild, twoChildren, bodyTree, commandTree}
 use Rattle.write_variable_counts.specs.Counts.{bodyCount}
 use Rattle.write_variable_counts.proofs.Counts.{body-makes}
-use Rattle.write_expressions.specs.Forms.{bodyForm}
+use Rattle.write_reads.specs.Forms.{bodyForm}
 use Rattle.write_simple_statements.specs.Places.{placedForm, placedCount}
 use Rattle.write_simple_statements.specs.Statements.{simple, simpleForm, simpleCount}
 use Rattle.write_simple_statements.proofs.Places.{placed-tree, placed-makes}

@@ -9,7 +9,7 @@ use Rattle.definitions.specs.Owners.{isPublic, placeOwner}
 use Rattle.definitions.specs.Rewriting.{Tree, leaf}
 use Rattle.file_accepted.specs.Context.{fieldsIn}
 use Rattle.write_variable_counts.specs.Counts.{bodyCount, circuitCount}
-use Rattle.write_expressions.specs.Forms.{bodyForm}
+use Rattle.write_reads.specs.Forms.{bodyForm}
 
 -- "A public value put into a private place is supplied"
 abbrev pub placedForm : Scope → Bool → Expression → ℕ → Tree

@@ -2,7 +2,7 @@
 use file_bytes::node_at;
 use rewrite_owners::field_owner;
 use rewrite_owners::is_public;
-use write_expressions::write_body_form;
+use write_body_expressions::write_body_form;
 use write_nodes::put_above_one;
 use write_nodes::put_above_two;
 use write_nodes::put_leaf;
@@ -14,7 +14,7 @@ ghost use Rattle.definitions.specs.ContractFile.{nodeCount};
 ghost use Rattle.theory_trees.specs.Trees.{expressionIn, statementIn};
 ghost use Rattle.file_accepted.specs.Context.{Context, nodesIn, scopeIn};
 ghost use Rattle.rewrite_owners.specs.Codes.{FieldsListed};
-ghost use Rattle.write_expressions.specs.Forms.{kindAt};
+ghost use Rattle.write_reads.specs.Forms.{kindAt};
 ghost use Rattle.write_nodes.specs.Numbering.{Room, Numbered};
 ghost use Rattle.write_simple_statements.specs.Places.{placedForm, placedCount, PrivatePlace};
 ghost use Rattle.write_simple_statements.specs.Statements.{simpleForm, simpleCount};

@@ -1,6 +1,6 @@
 // 01, Rewriting: steps that set read variables, and the sequences that nest them before a rest.
 use memory_buffer::put_number;
-use write_expressions::write_body_form;
+use write_body_expressions::write_body_form;
 use write_nodes::put_node;
 use write_nodes::put_setting;
 ghost use mathlib.Core.Path.{_≡_};
@@ -14,7 +14,7 @@ ghost use Rattle.memory_buffer.specs.Buffer.{stored};
 ghost use Rattle.file_accepted.specs.Context.{Context, nodesIn, scopeIn};
 ghost use Rattle.write_variable_counts.specs.Counts.{bodyCount};
 ghost use Rattle.write_nodes.specs.Numbering.{Room, Numbered};
-ghost use Rattle.write_expressions.specs.Forms.{bodyForm};
+ghost use Rattle.write_reads.specs.Forms.{bodyForm};
 ghost use Rattle.write_steps.specs.Steps.{stepsIn, closers, Readable, StepsRoom, StepsPut};
 
 pub struct Steps {

@@ -1,5 +1,5 @@
 use borrow.Author.Needs.{needs}
-use Rattle.check_04_names.proofs.Naming.{owner-none, owner-key, owner-field}
+use Rattle.check_04_nodes.proofs.Naming.{owner-none, owner-key, owner-field}
 use Rattle.check_04_names.proofs.owner_names_nothing.Statement.{statement}
 use Rattle.check_04_names.proofs.owner_names_nothing.Tie as tie
 

@@ -9,7 +9,7 @@ use Rattle.file_accepted.specs.Context.{scopeIn}
 use Rattle.ledger_contents.specs.Contents.{contentsOf}
 use Rattle.ledger_18_forms.specs.Forms.{fitsOrZero}
 use Rattle.write_function_room.specs.Functions.{writtenIn}
-use Rattle.ledger_18_variables.specs.Variables.{variableForm}
+use Rattle.ledger_18_variable.specs.Variables.{variableForm}
 use Rattle.ledger_18_parts.proofs.Flats.{arguments-long}
 use borrow.Author.Needs.{needs}
 use Rattle.ledger_18_done.proofs.done_variables_fit.Statement.{statement}

@@ -7,8 +7,8 @@ use borrow.Author.Needs.{needs}
 use Rattle.definitions.specs.Ledger.{allFit}
 use Rattle.ledger_contents.specs.Contents.{contentsOf}
 use Rattle.ledger_18_forms.specs.Forms.{fitsOrZero}
-use Rattle.ledger_18_variables.specs.Variables.{loggedForms}
-use Rattle.ledger_18_variables.proofs.Log.{claim-next, entry-next, entry-stops, log-done}
+use Rattle.ledger_18_variable.specs.Variables.{loggedForms}
+use Rattle.ledger_18_variable.proofs.Log.{claim-next, entry-next, entry-stops, log-done}
 use Rattle.ledger_18_variables.proofs.log_fits.Statement.{statement}
 use Rattle.ledger_18_variables.proofs.log_fits.Tie as tie
 

@@ -8,7 +8,7 @@ use Rattle.file_accepted.proofs.Declarations.{parameters-count}
 use Rattle.file_accepted.specs.Context.{parametersIn}
 use Rattle.ledger_contents.specs.Contents.{contentsOf}
 use Rattle.ledger_18_forms.specs.Forms.{fitsOrZero, frontFits}
-use Rattle.ledger_18_variables.specs.Variables.{openingForms}
+use Rattle.ledger_18_variable.specs.Variables.{openingForms}
 use Rattle.ledger_18_variables.proofs.Openings.{is-public, is-private, public-next, private-next, private-stops, openings-done}
 use Rattle.ledger_18_variables.proofs.openings_fit.Statement.{statement}
 use Rattle.ledger_18_variables.proofs.openings_fit.Tie as tie

@@ -15,8 +15,8 @@ use Rattle.rewrite_statements.proofs.+branch_log+statement_log.Lts-stat
 use Rattle.rewrite_log.proofs.log_entry.Reads as log-entry-reads
 use Rattle.file_bytes.proofs.node_at.Reads as node-at-reads
 use Rattle.rewrite_expressions.proofs.body_log.Reads as body-log-reads
-use Rattle.rewrite_statements.proofs.assign_entry_log.Reads as assign-entry-log-reads
-use Rattle.rewrite_statements.proofs.assign_field_log.Reads as assign-field-log-reads
+use Rattle.rewrite_assignments.proofs.assign_entry_log.Reads as assign-entry-log-reads
+use Rattle.rewrite_assignments.proofs.assign_field_log.Reads as assign-field-log-reads
 use Rattle.rewrite_statements.proofs.+branch_log+statement_log.{statement}
 use Rattle.rewrite_statements.proofs.+branch_log+statement_log.Tie.{close}
 

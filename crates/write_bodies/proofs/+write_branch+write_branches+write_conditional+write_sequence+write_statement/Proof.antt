@@ -188,7 +188,7 @@ pub +write-branch+write-branches+write-conditional+write-sequence+write-statemen
     let write-branch-2 = c .before .before .before .before .before .before .before .before .write-branch .ensures in
     let room = else-room _ _ _ _ _ _ _ _ _ _ _ _ node-at-same branches-ready-2 _ _ write-branch-2 in
     omega (arith, room .numbers))
-    (λ c κs. let (_, branches-ready-2) = c .before .before .before .before .before .before .before .before .before .before .before .before .before .before .before .before .before .before .before .before .pre in
+    (λ c κs. let (measure, branches-ready-2) = c .before .before .before .before .before .before .before .before .before .before .before .before .before .before .before .before .before .before .before .before .pre in
     let node-at-same = c .before .before .before .before .before .before .before .before .before .before .before .before .before .before .before .node-at .ensures .same in
     let write-branch-2 = c .before .before .before .before .before .before .before .before .before .before .before .write-branch in
     let less = branches-less _ _ _ _ _ _ _ _ _ _ _ _ node-at-same branches-ready-2 in

@@ -1,0 +1,91 @@
+// Number 4 for one node: its arg names a field, and its children are below it.
+use check_03_declarations::is_final_code;
+use file_bytes::Node;
+use file_children::child_count;
+ghost use mathlib.Core.Path.{_≡_};
+ghost use Prim.Native.Nat.{_+_, _-_};
+ghost use lib.Dec.{leb};
+ghost use Rattle.definitions.specs.Basics.{any};
+ghost use Rattle.definitions.specs.ContractFile.{nodeOf, fieldsNamed, children};
+ghost use Rattle.file_bytes.specs.Node.{recordOf};
+ghost use Rattle.check_04_nodes.specs.Naming.{naming};
+
+pub const NAMING: [usize; 22] = [
+    0,
+    0,
+    0,
+    1,
+    1,
+    0,
+    0,
+    0,
+    2,
+    0,
+    0,
+    0,
+    0,
+    0,
+    0,
+    0,
+    0,
+    0,
+    1,
+    1,
+    0,
+    0,
+];
+
+// How a kind's arg names a field: 1 by its number, 2 by an owner code, 0 not at all.
+pub fn naming_of(kind: usize) -> usize
+    ensures { λ r. ⌜ r ≡ naming kind ⌝ }
+{
+    if kind < 22 { NAMING[kind] } else { 0 }
+}
+
+// The field of an owner code 16+f.
+pub fn final_number(code: usize) -> usize
+    ensures { λ r. ⌜ r ≡ code - 16 ⌝ }
+{
+    if 16 <= code { code - 16 } else { 0 }
+}
+
+// Whether a node's arg names no field.
+pub fn arg_names_nothing(fields: usize, node: Node) -> bool
+    ensures { λ r. ⌜ r ≡ any (leb fields) (fieldsNamed (nodeOf (recordOf node))) ⌝ }
+{
+    let arg = node.arg;
+    let how = naming_of(node.kind);
+    if how == 1 {
+        return fields <= arg;
+    }
+    if how != 2 {
+        return false;
+    }
+    if !is_final_code(arg) {
+        return false;
+    }
+    fields <= final_number(arg)
+}
+
+// Whether some child's number is not below n.
+pub fn child_not_below(n: usize, node: Node) -> bool
+    ensures { λ r. ⌜ r ≡ any (leb n) (children (nodeOf (recordOf node))) ⌝ }
+{
+    let count = child_count(node.kind);
+    if count < 1 {
+        return false;
+    }
+    if n <= node.first {
+        return true;
+    }
+    if count < 2 {
+        return false;
+    }
+    if n <= node.second {
+        return true;
+    }
+    if count < 3 {
+        return false;
+    }
+    n <= node.third
+}

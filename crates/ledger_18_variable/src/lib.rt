@@ -1,0 +1,38 @@
+// "each item .. has the type": one variable, by the event that made it.
+use file_bytes::two_bytes_at;
+use ledger_readers::Reader;
+use ledger_types::type_code;
+ghost use mathlib.Core.Path.{_≡_};
+ghost use mathlib.Core.Bool.{cond};
+ghost use lib.Dec.{eqb};
+ghost use Rattle.definitions.specs.ContractFile.{boolean, dataTypeOf, typeOf};
+ghost use Rattle.theory_trees.specs.Trees.{expressionIn};
+ghost use Rattle.file_accepted.specs.Context.{Context, nodesIn, scopeIn};
+ghost use Rattle.ledger_readers.specs.Readers.{readerOfCode};
+ghost use Rattle.ledger_18_variable.specs.Variables.{codeReader};
+
+// Code 0 is everyone's; addresses stand at the other codes.
+pub fn code_reader(addresses: &[u32], code: usize) -> Reader
+    ensures { λ r. ⌜ readerOfCode r ≡ codeReader (now (addresses .entry)) code ⌝ }
+{
+    if code == 0 {
+        Reader::Anyone
+    } else {
+        Reader::Only(ledger_places::number_at(addresses, code))
+    }
+}
+
+// The type code of an entry's variable: a guard is a bool.
+pub fn entry_type(file: &[u8], function_at: usize, nodes_at: usize, tag: u16, node: usize) -> usize
+    requires { ⌜ Context (now file) «function_at» «nodes_at» ⌝ }
+    ensures { λ r. ⌜ dataTypeOf r ≡ cond (eqb tag 3) boolean (typeOf (scopeIn (now (file .entry)) «function_at») (expressionIn (nodesIn (now (file .entry))) node)) ⌝ }
+{
+    if tag == 3 {
+        return 0;
+    }
+    if node < two_bytes_at(file, nodes_at) {
+        type_code(file, function_at, nodes_at, node)
+    } else {
+        2
+    }
+}

@@ -1,0 +1,14 @@
+-- The party's own cell is open, another is not.
+use Rattle.view_item.proofs.Bytes.{shows-own, shows-opaque}
+use borrow.Author.Needs.{needs}
+use Rattle.view_content.proofs.put_cell.Statement.{statement}
+use Rattle.view_content.proofs.put_cell.Tie as tie
+
+pub put-cell-spec : {M : Type 1} → statement M
+put-cell-spec =
+    tie.close
+    (tie.spec (λ c κs. search needs) (λ c κs. search needs) (λ c. search needs) (λ c. let args = c .before .before .before .before .before .before .before .args in
+    let k = args in
+    rw (shows-own (k .party) (k .cell .owner) (k .cell .call) (k .cell .index) (k .cell .value) (c .before .before .before .before .if1 .taken)) (c .before .before .put-item .ensures)) (λ c. search needs) (λ c. let args = c .before .before .before .before .before .before .before .args in
+    let k = args in
+    rw (shows-opaque (k .party) (k .cell .owner) (k .cell .call) (k .cell .index) (k .cell .value) (c .before .before .before .before .if1 .left)) (c .before .before .put-item2 .ensures)))

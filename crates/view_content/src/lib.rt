@@ -1,0 +1,44 @@
+// A content as an item of a party's view: plain, opaque or opened.
+use ledger_contents::Cell;
+use ledger_contents::Content;
+use view_item::put_item;
+ghost use mathlib.Core.Path.{_≡_};
+ghost use lib.ListN.{length};
+ghost use Prim.Native.Nat.{_+_, _≤_};
+ghost use Rattle.memory_buffer.specs.Buffer.{stored};
+ghost use Rattle.definitions.specs.View.{itemBytes, itemFor};
+ghost use Rattle.ledger_contents.specs.Contents.{contentOfCode};
+
+// A cell that is not the party's shows no value.
+pub fn put_cell(out: &mut [u8], at: usize, party: u8, cell: Cell)
+    requires { ⌜ at + 10 ≤ length (now out) ⌝ }
+    ensures { λ _. ⌜ now (out .exit) ≡ stored (now (out .entry)) at (itemBytes (itemFor party (contentOfCode (Content.Cell cell)))) ⌝ }
+{
+    if cell.owner == party {
+        put_item(out, at, 2, cell)
+    } else {
+        let mut hidden = cell;
+        hidden.value = 0;
+        put_item(out, at, 1, hidden)
+    }
+}
+
+pub fn put_content(out: &mut [u8], at: usize, party: u8, content: Content)
+    requires { ⌜ at + 10 ≤ length (now out) ⌝ }
+    ensures { λ _. ⌜ now (out .exit) ≡ stored (now (out .entry)) at (itemBytes (itemFor party (contentOfCode content))) ⌝ }
+{
+    match content {
+        Content::Plain(value) => put_item(
+            out,
+            at,
+            0,
+            Cell {
+                owner: 0,
+                call: 0,
+                index: 0,
+                value: value,
+            },
+        ),
+        Content::Cell(cell) => put_cell(out, at, party, cell),
+    }
+}

@@ -1,0 +1,98 @@
+// 01, Rewriting: the nodes of an expression's form in the body, written behind others.
+use file_bytes::node_at;
+use rewrite_owners::is_public;
+use write_nodes::put_above_one;
+use write_nodes::put_above_two;
+use write_nodes::put_leaf;
+use write_variable_counts::body_count;
+ghost use mathlib.Core.Path.{_≡_};
+ghost use Prim.Native.Nat.{_+_, _<_, _≤_};
+ghost use Rattle.definitions.specs.ContractFile.{nodeCount, node};
+ghost use Rattle.theory_trees.specs.Trees.{expressionIn};
+ghost use Rattle.file_accepted.specs.Context.{Context, nodesIn, scopeIn};
+ghost use Rattle.write_nodes.specs.Numbering.{Room, Numbered};
+ghost use Rattle.write_variable_counts.specs.Counts.{bodyCount};
+ghost use Rattle.write_reads.specs.Forms.{bodyForm, kindAt};
+
+// The body's form of node n, whose first variable is number i; the answer is how many nodes it has.
+pub fn write_body_form(
+    file: &[u8],
+    function_at: usize,
+    nodes_at: usize,
+    n: usize,
+    i: usize,
+    out: &mut [u8],
+    at: usize,
+    base: usize,
+) -> usize
+    requires { ⌜ (n < nodeCount (now file)) × ((Context (now file) «function_at» «nodes_at») × ((i + bodyCount (scopeIn (now file) «function_at») (expressionIn (nodesIn (now file)) n) ≤ 65535) × (Room (now out) at base (bodyForm (scopeIn (now file) «function_at») (expressionIn (nodesIn (now file)) n) i)))) ⌝ }
+    ensures { λ r. ⌜ Numbered (now (out .entry)) (now (out .exit)) at base (bodyForm (scopeIn (now (file .entry)) «function_at») (expressionIn (nodesIn (now (file .entry))) n) i) r ⌝ }
+{
+    let node = node_at(file, nodes_at, n);
+    let kind = node.kind;
+    let arg = node.arg as u8;
+    match kind {
+        1 => put_leaf(1, arg, node.first, node.second, out, at),
+        3 => put_leaf(3, arg, 0, 0, out, at),
+        4 => {
+            let key = write_body_form(file, function_at, nodes_at, node.first, i, out, at, base);
+            put_above_one(4, arg, key, out, at, base)
+        }
+        5 => put_leaf(5, arg, 0, 0, out, at),
+        6 => write_body_operator(file, function_at, nodes_at, n, i, out, at, base),
+        7 => write_body_negation(file, function_at, nodes_at, n, i, out, at, base),
+        8 => put_leaf(9, 0, i, 0, out, at),
+        _ => put_leaf(2, 0, 0, 0, out, at),
+    }
+}
+
+// An operator on public operands is kept above them; any other is a variable.
+pub fn write_body_operator(
+    file: &[u8],
+    function_at: usize,
+    nodes_at: usize,
+    n: usize,
+    i: usize,
+    out: &mut [u8],
+    at: usize,
+    base: usize,
+) -> usize
+    requires { ⌜ (kindAt (now file) «nodes_at» n ≡ 6) × ((n < nodeCount (now file)) × ((Context (now file) «function_at» «nodes_at») × ((i + bodyCount (scopeIn (now file) «function_at») (expressionIn (nodesIn (now file)) n) ≤ 65535) × (Room (now out) at base (bodyForm (scopeIn (now file) «function_at») (expressionIn (nodesIn (now file)) n) i))))) ⌝ }
+    ensures { λ r. ⌜ Numbered (now (out .entry)) (now (out .exit)) at base (bodyForm (scopeIn (now (file .entry)) «function_at») (expressionIn (nodesIn (now (file .entry))) n) i) r ⌝ }
+{
+    let node = node_at(file, nodes_at, n);
+    let arg = node.arg as u8;
+    if is_public(file, function_at, nodes_at, n) {
+        let j = i + body_count(file, function_at, nodes_at, node.first);
+        let left = write_body_form(file, function_at, nodes_at, node.first, i, out, at, base);
+        let a = at + 8 * left;
+        let b = base + left;
+        let right = write_body_form(file, function_at, nodes_at, node.second, j, out, a, b);
+        put_above_two(6, arg, left, right, out, at, base)
+    } else {
+        put_leaf(9, 0, i, 0, out, at)
+    }
+}
+
+// A negation of a public part is kept above it; any other is a variable.
+pub fn write_body_negation(
+    file: &[u8],
+    function_at: usize,
+    nodes_at: usize,
+    n: usize,
+    i: usize,
+    out: &mut [u8],
+    at: usize,
+    base: usize,
+) -> usize
+    requires { ⌜ (kindAt (now file) «nodes_at» n ≡ 7) × ((n < nodeCount (now file)) × ((Context (now file) «function_at» «nodes_at») × ((i + bodyCount (scopeIn (now file) «function_at») (expressionIn (nodesIn (now file)) n) ≤ 65535) × (Room (now out) at base (bodyForm (scopeIn (now file) «function_at») (expressionIn (nodesIn (now file)) n) i))))) ⌝ }
+    ensures { λ r. ⌜ Numbered (now (out .entry)) (now (out .exit)) at base (bodyForm (scopeIn (now (file .entry)) «function_at») (expressionIn (nodesIn (now (file .entry))) n) i) r ⌝ }
+{
+    let node = node_at(file, nodes_at, n);
+    if is_public(file, function_at, nodes_at, n) {
+        let part = write_body_form(file, function_at, nodes_at, node.first, i, out, at, base);
+        put_above_one(7, 0, part, out, at, base)
+    } else {
+        put_leaf(9, 0, i, 0, out, at)
+    }
+}

@@ -1,0 +1,92 @@
+// 01, Rewriting: the nodes of an expression's form in a circuit, written behind others.
+use file_bytes::node_at;
+use rewrite_owners::is_public;
+use write_nodes::put_above_one;
+use write_nodes::put_above_two;
+use write_nodes::put_leaf;
+use write_reads::put_read;
+use write_variable_counts::body_count;
+use write_variable_counts::circuit_count;
+use write_variable_counts::is_public_division;
+ghost use mathlib.Core.Path.{_≡_};
+ghost use Prim.Native.Nat.{_+_, _<_, _≤_};
+ghost use Rattle.definitions.specs.ContractFile.{nodeCount, node};
+ghost use Rattle.theory_trees.specs.Trees.{expressionIn};
+ghost use Rattle.file_accepted.specs.Context.{Context, nodesIn, scopeIn};
+ghost use Rattle.write_nodes.specs.Numbering.{Room, Numbered};
+ghost use Rattle.write_variable_counts.specs.Counts.{circuitCount};
+ghost use Rattle.write_reads.specs.Forms.{circuitForm, kindAt};
+
+// The circuit's form of node n, whose first variable is number i; the answer is how many nodes it has.
+pub fn write_circuit_form(
+    file: &[u8],
+    function_at: usize,
+    nodes_at: usize,
+    n: usize,
+    i: usize,
+    out: &mut [u8],
+    at: usize,
+    base: usize,
+) -> usize
+    requires { ⌜ (n < nodeCount (now file)) × ((Context (now file) «function_at» «nodes_at») × ((i + circuitCount (scopeIn (now file) «function_at») (expressionIn (nodesIn (now file)) n) ≤ 65535) × (Room (now out) at base (circuitForm (scopeIn (now file) «function_at») (expressionIn (nodesIn (now file)) n) i)))) ⌝ }
+    ensures { λ r. ⌜ Numbered (now (out .entry)) (now (out .exit)) at base (circuitForm (scopeIn (now (file .entry)) «function_at») (expressionIn (nodesIn (now (file .entry))) n) i) r ⌝ }
+{
+    let node = node_at(file, nodes_at, n);
+    let kind = node.kind;
+    let arg = node.arg as u8;
+    match kind {
+        1 => put_leaf(1, arg, node.first, node.second, out, at),
+        3 => put_read(is_public(file, function_at, nodes_at, n), i, out, at),
+        4 => {
+            let j = i + body_count(file, function_at, nodes_at, node.first);
+            put_read(is_public(file, function_at, nodes_at, n), j, out, at)
+        }
+        5 => put_read(is_public(file, function_at, nodes_at, n), i, out, at),
+        6 => write_circuit_operator(file, function_at, nodes_at, n, i, out, at, base),
+        7 => {
+            let part = write_circuit_form(
+                file,
+                function_at,
+                nodes_at,
+                node.first,
+                i,
+                out,
+                at,
+                base,
+            );
+            put_above_one(7, 0, part, out, at, base)
+        }
+        8 => write_circuit_form(file, function_at, nodes_at, node.first, i, out, at, base),
+        _ => put_leaf(2, 0, 0, 0, out, at),
+    }
+}
+
+// A public division is a variable; any other operator stands above its operands.
+fn write_circuit_operator(
+    file: &[u8],
+    function_at: usize,
+    nodes_at: usize,
+    n: usize,
+    i: usize,
+    out: &mut [u8],
+    at: usize,
+    base: usize,
+) -> usize
+    requires { ⌜ (kindAt (now file) «nodes_at» n ≡ 6) × ((n < nodeCount (now file)) × ((Context (now file) «function_at» «nodes_at») × ((i + circuitCount (scopeIn (now file) «function_at») (expressionIn (nodesIn (now file)) n) ≤ 65535) × (Room (now out) at base (circuitForm (scopeIn (now file) «function_at») (expressionIn (nodesIn (now file)) n) i))))) ⌝ }
+    ensures { λ r. ⌜ Numbered (now (out .entry)) (now (out .exit)) at base (circuitForm (scopeIn (now (file .entry)) «function_at») (expressionIn (nodesIn (now (file .entry))) n) i) r ⌝ }
+{
+    let node = node_at(file, nodes_at, n);
+    let arg = node.arg as u8;
+    if is_public_division(file, function_at, nodes_at, n, node.arg) {
+        let j = i + body_count(file, function_at, nodes_at, node.first);
+        let k = j + body_count(file, function_at, nodes_at, node.second);
+        put_leaf(9, 0, k, 0, out, at)
+    } else {
+        let j = i + circuit_count(file, function_at, nodes_at, node.first);
+        let left = write_circuit_form(file, function_at, nodes_at, node.first, i, out, at, base);
+        let a = at + 8 * left;
+        let b = base + left;
+        let right = write_circuit_form(file, function_at, nodes_at, node.second, j, out, a, b);
+        put_above_two(6, arg, left, right, out, at, base)
+    }
+}

@@ -1,0 +1,21 @@
+// "9 variable first, 10 variable first opened": a variable read in a circuit.
+use write_nodes::put_leaf;
+ghost use mathlib.Core.Path.{_≡_};
+ghost use Prim.Native.Nat.{_+_, _≤_};
+ghost use lib.ListN.{length};
+ghost use Rattle.definitions.specs.ContractFile.{node};
+ghost use Rattle.definitions.specs.Rewriting.{nodeBytes};
+ghost use Rattle.memory_buffer.specs.Buffer.{stored};
+ghost use Rattle.write_reads.specs.Forms.{readKind};
+
+// "9 variable first, 10 variable first opened"
+pub fn put_read(public: bool, variable: usize, out: &mut [u8], at: usize) -> usize
+    requires { ⌜ at + 8 ≤ length (now out) ⌝ }
+    ensures { λ r. ⌜ (now (out .exit) ≡ stored (now (out .entry)) at (nodeBytes (node (readKind public) 0 variable 0 0))) × (r ≡ 1) ⌝ }
+{
+    if public {
+        put_leaf(9, 0, variable, 0, out, at)
+    } else {
+        put_leaf(10, 0, variable, 0, out, at)
+    }
+}
