@@ -134,7 +134,7 @@ pub +write-branch+write-branches+write-conditional+write-sequence+write-statemen
     let ready = inside-ready _ _ _ _ _ _ _ _ _ _ branch-ready _ put-leaf _ put-setting in
     let room = ready .room in
     omega (arith, room .numbers))
-    (λ c κs. let (_, branch-ready) = c .before .before .before .before .before .before .before .before .before .before .before .before .before .before .before .pre in
+    (λ c κs. let (measure, branch-ready) = c .before .before .before .before .before .before .before .before .before .before .before .before .before .before .before .pre in
     let put-leaf = c .before .before .before .before .before .before .before .before .before .put-leaf .ensures .0 in
     let put-setting = c .before .before .before .before .before .put-setting .ensures .0 in
     (omega arith, inside-ready _ _ _ _ _ _ _ _ _ _ branch-ready _ put-leaf _ put-setting))
@@ -168,7 +168,7 @@ pub +write-branch+write-branches+write-conditional+write-sequence+write-statemen
     (λ c. let (_, branches-ready-2) = c .before .before .before .before .before .pre in
     let room = then-ready _ _ _ _ _ _ _ _ _ _ _ _ (c .node-at .ensures .same) branches-ready-2 .room in
     omega (arith, room .numbers))
-    (λ c κs. let (_, branches-ready-2) = c .before .before .before .before .before .before .before .before .pre in
+    (λ c κs. let (measure, branches-ready-2) = c .before .before .before .before .before .before .before .before .pre in
     let node-at-same = c .before .before .before .node-at .ensures .same in
     let less = branches-less _ _ _ _ _ _ _ _ _ _ _ _ node-at-same branches-ready-2 in
     (omega arith, then-ready _ _ _ _ _ _ _ _ _ _ _ _ node-at-same branches-ready-2))
@@ -242,7 +242,7 @@ pub +write-branch+write-branches+write-conditional+write-sequence+write-statemen
     (write-conditional-sub-write-branches t)
     (λ c. write-conditional-sub-write-branches t c)
     (λ c. search needs)
-    (λ c κs. let (_, (record-at-is, statement-ready)) = c .before .before .before .before .before .before .before .before .before .before .before .before .before .before .before .before .before .before .before .before .pre in
+    (λ c κs. let (measure, (record-at-is, statement-ready)) = c .before .before .before .before .before .before .before .before .before .before .before .before .before .before .before .before .before .before .before .before .pre in
     let node-at-same = c .before .before .before .before .before .before .before .before .before .before .before .before .before .before .before .node-at .ensures .same in
     let write-condition = c .before .before .before .before .before .before .before .before .before .before .before .write-condition in
     (omega arith, branches-ready _ _ _ _ _ _ _ _ _ _ statement-ready _ node-at-same record-at-is _ _ _ (write-condition .ensures) _ _ (write-condition .kept .1 .1 .1 .1 .1 .0) (sym (c .before .write-branches-arg2 .given .1)) (write-condition .kept .1 .1 .1 .1 .1 .1 .0)))
@@ -310,7 +310,7 @@ pub +write-branch+write-branches+write-conditional+write-sequence+write-statemen
     (λ t. write-sequence-lts.spec (write-sequence-claims t) (write-sequence-at t) write-sequence.Post
     (λ c κs. let (_, (_, statement-ready)) = c .before .before .before .before .pre in
     (statement-ready .context .nearNodes, omega (arith, statement-ready .inside, statement-ready .context .fewNodes)))
-    (λ c κs. let (_, (record-at-is, statement-ready)) = c .before .before .before .before .before .before .before .before .pre in
+    (λ c κs. let (measure, (record-at-is, statement-ready)) = c .before .before .before .before .before .before .before .before .pre in
     let node-at-same = c .before .before .before .node-at .ensures .same in
     let less = parts-less _ _ _ _ _ _ _ _ _ _ statement-ready _ node-at-same record-at-is in
     (omega arith, first-ready _ _ _ _ _ _ _ _ _ _ statement-ready _ node-at-same record-at-is))
@@ -330,7 +330,7 @@ pub +write-branch+write-branches+write-conditional+write-sequence+write-statemen
     let write-statement-2 = c .before .before .before .before .before .before .before .before .write-statement .ensures in
     let room = second-room _ _ _ _ _ _ _ _ _ _ statement-ready _ node-at-same record-at-is _ _ write-statement-2 in
     omega (arith, room .numbers))
-    (λ c κs. let (_, (record-at-is, statement-ready)) = c .before .before .before .before .before .before .before .before .before .before .before .before .before .before .before .before .before .before .before .before .pre in
+    (λ c κs. let (measure, (record-at-is, statement-ready)) = c .before .before .before .before .before .before .before .before .before .before .before .before .before .before .before .before .before .before .before .before .pre in
     let node-at-same = c .before .before .before .before .before .before .before .before .before .before .before .before .before .before .before .node-at .ensures .same in
     let write-statement-2 = c .before .before .before .before .before .before .before .before .before .before .before .write-statement in
     let less = parts-less _ _ _ _ _ _ _ _ _ _ statement-ready _ node-at-same record-at-is in
@@ -358,9 +358,9 @@ pub +write-branch+write-branches+write-conditional+write-sequence+write-statemen
     λ t. write-statement-lts.spec (write-statement-claims t) (write-statement-at t) write-statement.Post
     (λ c κs. let (_, statement-ready) = c .before .before .before .before .pre in
     (statement-ready .context .nearNodes, omega (arith, statement-ready .inside, statement-ready .context .fewNodes)))
-    (λ c κs. let (_, statement-ready) = c .before .before .before .before .before .before .before .before .before .pre in
+    (λ c κs. let (measure, statement-ready) = c .before .before .before .before .before .before .before .before .before .pre in
     (omega arith, (kind-as _ _ 17 (c .before .before .before .before .node-at .ensures .same) (c .before .before .before .match .keys1), statement-ready)))
-    (λ c κs. let (_, statement-ready) = c .before .before .before .before .before .before .before .before .before .pre in
+    (λ c κs. let (measure, statement-ready) = c .before .before .before .before .before .before .before .before .before .pre in
     (omega arith, (kind-as _ _ 21 (c .before .before .before .before .node-at .ensures .same) (c .before .before .before .match .keys2), statement-ready)))
     (λ c κs. let (_, statement-ready) = c .before .before .before .before .before .before .before .before .before .pre in
     let match-rest = c .before .before .before .match .rest in
