@@ -271,8 +271,7 @@ module _ (l : Ledger) where
   isWellFormed =
       let fields = (contractIn (l .file)) .fields in
       let readers = placeReaders fields (map plainNumber (l .places)) in
-      let forms : List Form =
-      zipWith (λ t r. record { type = t; reader = r }) (perPlace (λ d _. d .type) fields) readers in
+      let forms : List Form = zipWith (λ t r. record { type = t; reader = r }) (perPlace (λ d _. d .type) fields) readers in
       isZero (checkNumber (l .file))
       && (isBeforeCalls || isAfterCall)
       && allFit fits forms (l .places)
@@ -312,9 +311,7 @@ module _ (l : Ledger) (function caller : ℕ) where
   callWith parameters variables =
       let fields = (contractIn (l .file)) .fields in
       let g = rewriteFunction fields (functionOfLedger l function) in
-      let address =
-      addressIn (scopeOf (contractIn (l .file)) function) caller
-      (map plainNumber parameters) (map plainNumber (l .places)) in
+      let address = addressIn (scopeOf (contractIn (l .file)) function) caller (map plainNumber parameters) (map plainNumber (l .places)) in
       let start : State = record { places = l .places; variables = variables } in
       cond (walkCompletes address fields parameters (g .constraints) start (g .body))
       (afterCall 0 parameters (stateAfter address fields parameters start (g .body)))

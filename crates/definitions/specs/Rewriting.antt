@@ -158,8 +158,7 @@ module _ (scope : Scope) where
         let e = Expression.operator o left right in
         cond (isPublic scope e)
         (twoParts (BodyExpression.operator o) (inBody left) (inBody right))
-        (supplying (ownedBy meName) e (operatorInCircuit
-        o left right (inBody left) (inBody right) (inCircuit left) (inCircuit right)))
+        (supplying (ownedBy meName) e (operatorInCircuit o left right (inBody left) (inBody right) (inCircuit left) (inCircuit right)))
     inBody (Expression.negation part) =
         cond (isPublic scope (Expression.negation part))
         (onePart BodyExpression.negation (inBody part))
@@ -254,8 +253,7 @@ rewriteStatement scope Statement.skip = single (kept Command.skip)
 rewriteStatement scope (Statement.sequence first second) =
     inSequence (rewriteStatement scope first) (rewriteStatement scope second)
 rewriteStatement scope (Statement.assignField f value) =
-    single (onePart (Command.assignField f)
-    (inPlace scope (placeOwner ((fieldAt (scope .fields) f) .owner) none) value))
+    single (onePart (Command.assignField f) (inPlace scope (placeOwner ((fieldAt (scope .fields) f) .owner) none) value))
 rewriteStatement scope (Statement.assignEntry f key value) =
     single (twoParts (Command.assignEntry f)
     (inBody scope key)
@@ -292,9 +290,7 @@ withVerify constraints body = elim constraints [ [] ↦ body | c ∷ cs ↦ Comm
 unfoldable pub rewriteFunction : List Field → Function → WrittenFunction
 rewriteFunction fields g =
     let opening = openings (privateParameters 0 (g .parameters)) 0 in
-    let inside =
-    rewriteStatement (record { fields = fields; parameters = g .parameters })
-    (g .body) always (length (opening .variables)) in
+    let inside = rewriteStatement (record { fields = fields; parameters = g .parameters }) (g .body) always (length (opening .variables)) in
     let constraints = heldUnder always (opening .claims) ++ inside .constraints in
     let body = stepsBefore (opening .steps) (withVerify constraints (inside .command)) in
     record {

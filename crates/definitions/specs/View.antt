@@ -82,8 +82,7 @@ isTaken run r = isZero (callNumber (run .ledger) (r .function) (r .caller) (r .a
 -- "A call gets the ledger that the one before returned, or left when refused."; "refused calls pass it by"
 unfoldable pub runAfter : Run → Request → Run
 runAfter run r =
-    let original =
-    originalAfter (contractIn ((run .ledger) .file)) (run .original) (r .function) (r .caller) (r .arguments) in
+    let original = originalAfter (contractIn ((run .ledger) .file)) (run .original) (r .function) (r .caller) (r .arguments) in
     record {
       ledger = ledgerAfterCall (run .ledger) (r .function) (r .caller) (r .arguments);
       original = cond (isTaken run r) original (run .original);
