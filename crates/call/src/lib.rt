@@ -46,7 +46,8 @@ fn is_not_callable(l: Ledger, function: u8, caller: u8) -> bool
 }
 
 fn arguments_off_for(file: &[u8], function: u8, arguments: &[u32]) -> bool
-    ensures { λ r. ⌜ r ≡ argumentsOffFor (parametersIn (now (file .entry)) (functionStart (now (file .entry)) function)) (now (arguments .entry)) ⌝ }
+    ensures { λ r. ⌜ r ≡ argumentsOffFor (parametersIn (now (file .entry)) (functionStart (now (file .entry)) function))
+        (now (arguments .entry)) ⌝ }
 {
     let function_at = function_start(file, function);
     arguments_off(file, function_at, arguments)
@@ -54,7 +55,8 @@ fn arguments_off_for(file: &[u8], function: u8, arguments: &[u32]) -> bool
 
 // "19. Arguments differ in number from the parameters, or one is outside its type."
 fn are_arguments_off(l: Ledger, function: u8, arguments: &[u32]) -> bool
-    ensures { λ r. ⌜ r ≡ argumentsOffFor (parametersIn ((ledgerOf l) .file) (functionStart ((ledgerOf l) .file) function)) (now (arguments .entry)) ⌝ }
+    ensures { λ r. ⌜ r ≡ argumentsOffFor (parametersIn ((ledgerOf l) .file) (functionStart ((ledgerOf l) .file) function))
+        (now (arguments .entry)) ⌝ }
 {
     let length = at_most(l.file_length, 4596);
     let bytes = l.file;

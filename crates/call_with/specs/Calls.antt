@@ -26,9 +26,10 @@ failedLedger l function caller shown = withCall (withVariables (withParameters l
 
 -- The written body of the function that begins at a place was walked.
 pub record Walked (file : List ℕ) (functionStart : ℕ) (addresses parameters : List ℕ) (start end : State) (r : Bool) : Type 0 where
-  pub ran :
-      Ran (walkCompletes (addressFrom addresses) (fieldsIn file) (contentsOf parameters) ((writtenIn file functionStart) .constraints) start ((writtenIn file functionStart) .body))
-      (stateAfter (addressFrom addresses) (fieldsIn file) (contentsOf parameters) start ((writtenIn file functionStart) .body)) end r
+  pub ran : Ran (walkCompletes (addressFrom addresses) (fieldsIn file) (contentsOf parameters)
+      ((writtenIn file functionStart) .constraints) start ((writtenIn file functionStart) .body))
+      (stateAfter (addressFrom addresses) (fieldsIn file) (contentsOf parameters) start ((writtenIn file functionStart) .body))
+      end r
 
 -- Contents that the ledger's arrays hold.
 pub record Held (l : Ledger) (parameters variables : List ℕ) : Type 0 where

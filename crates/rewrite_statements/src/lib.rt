@@ -53,8 +53,10 @@ pub fn assign_field_log(
     log: &mut [u16],
     p: Position,
 ) -> Position
-    requires { ⌜ (f ≤ 255) × (Ready (now file) «function_at» «nodes_at» n (now log) p (assignFieldOf (now file) «function_at» guard f n)) ⌝ }
-    ensures { λ r. ⌜ Logged (nodesIn (now (file .entry))) (now (log .entry)) (now (log .exit)) p r (assignFieldOf (now (file .entry)) «function_at» guard f n (p .variable)) ⌝ }
+    requires { ⌜ (f ≤ 255)
+        × (Ready (now file) «function_at» «nodes_at» n (now log) p (assignFieldOf (now file) «function_at» guard f n)) ⌝ }
+    ensures { λ r. ⌜ Logged (nodesIn (now (file .entry))) (now (log .entry)) (now (log .exit)) p r
+        (assignFieldOf (now (file .entry)) «function_at» guard f n (p .variable)) ⌝ }
 {
     let owner = place_code(field_owner(file, f), 0) as usize;
     place_log(file, function_at, nodes_at, n, owner, guard, log, p)
@@ -72,8 +74,10 @@ pub fn assign_entry_log(
     log: &mut [u16],
     p: Position,
 ) -> Position
-    requires { ⌜ ((f ≤ 255) × (value < nodeCount (now file))) × (Ready (now file) «function_at» «nodes_at» key (now log) p (assignEntryOf (now file) «function_at» guard f key value)) ⌝ }
-    ensures { λ r. ⌜ Logged (nodesIn (now (file .entry))) (now (log .entry)) (now (log .exit)) p r (assignEntryOf (now (file .entry)) «function_at» guard f key value (p .variable)) ⌝ }
+    requires { ⌜ ((f ≤ 255) × (value < nodeCount (now file)))
+        × (Ready (now file) «function_at» «nodes_at» key (now log) p (assignEntryOf (now file) «function_at» guard f key value)) ⌝ }
+    ensures { λ r. ⌜ Logged (nodesIn (now (file .entry))) (now (log .entry)) (now (log .exit)) p r
+        (assignEntryOf (now (file .entry)) «function_at» guard f key value (p .variable)) ⌝ }
 {
     let declared = field_owner(file, f);
     let name = name_code(file, function_at, nodes_at, key);
@@ -92,7 +96,8 @@ pub fn branch_log(
     p: Position,
 ) -> Position
     requires { ⌜ Ready (now file) «function_at» «nodes_at» n (now log) p (branchOf (now file) «function_at» n) ⌝ }
-    ensures { λ r. ⌜ Logged (nodesIn (now (file .entry))) (now (log .entry)) (now (log .exit)) p r (branchOf (now (file .entry)) «function_at» n (p .variable)) ⌝ }
+    ensures { λ r. ⌜ Logged (nodesIn (now (file .entry))) (now (log .entry)) (now (log .exit)) p r
+        (branchOf (now (file .entry)) «function_at» n (p .variable)) ⌝ }
 {
     let variable = p.variable;
     let entry = Entry {
@@ -124,7 +129,8 @@ pub fn statement_log(
     p: Position,
 ) -> Position
     requires { ⌜ Ready (now file) «function_at» «nodes_at» n (now log) p (statementOf (now file) «function_at» guard n) ⌝ }
-    ensures { λ r. ⌜ Logged (nodesIn (now (file .entry))) (now (log .entry)) (now (log .exit)) p r (statementOf (now (file .entry)) «function_at» guard n (p .variable)) ⌝ }
+    ensures { λ r. ⌜ Logged (nodesIn (now (file .entry))) (now (log .entry)) (now (log .exit)) p r
+        (statementOf (now (file .entry)) «function_at» guard n (p .variable)) ⌝ }
 {
     let node = node_at(file, nodes_at, n);
     let kind = node.kind;
@@ -172,8 +178,10 @@ pub fn function_log(
     first: usize,
     log: &mut [u16],
 ) -> Position
-    requires { ⌜ Ready (now file) «function_at» «nodes_at» (rootAt (now file) «function_at») (now log) (startingAt first) (statementOf (now file) «function_at» 0 (rootAt (now file) «function_at»)) ⌝ }
-    ensures { λ r. ⌜ Logged (nodesIn (now (file .entry))) (now (log .entry)) (now (log .exit)) (startingAt first) r (statementOf (now (file .entry)) «function_at» 0 (rootAt (now (file .entry)) «function_at») first) ⌝ }
+    requires { ⌜ Ready (now file) «function_at» «nodes_at» (rootAt (now file) «function_at») (now log) (startingAt first)
+        (statementOf (now file) «function_at» 0 (rootAt (now file) «function_at»)) ⌝ }
+    ensures { λ r. ⌜ Logged (nodesIn (now (file .entry))) (now (log .entry)) (now (log .exit)) (startingAt first) r
+        (statementOf (now (file .entry)) «function_at» 0 (rootAt (now (file .entry)) «function_at») first) ⌝ }
 {
     let root = two_bytes_at(file, function_end(file, function_at) - 2);
     let start = Position {

@@ -94,7 +94,9 @@ fn equals_value(
     root: usize,
 ) -> bool
     requires { ⌜ Readable (now nodes) ⌝ }
-    ensures { λ r. ⌜ r ≡ isContentOf (readerOf (addressFrom (now (addresses .entry))) (ownerOfCode owner)) (valueFrom (now (addresses .entry)) (now (variables .entry)) (circuitIn (tableOf (now (nodes .entry))) root)) (contentAt (contentsOf (now (variables .entry))) i) ⌝ }
+    ensures { λ r. ⌜ r ≡ isContentOf (readerOf (addressFrom (now (addresses .entry))) (ownerOfCode owner))
+        (valueFrom (now (addresses .entry)) (now (variables .entry)) (circuitIn (tableOf (now (nodes .entry))) root))
+        (contentAt (contentsOf (now (variables .entry))) i) ⌝ }
 {
     let value = root_value(nodes, addresses, variables, root);
     let content = content_at(variables, i);
@@ -114,7 +116,8 @@ fn claim_holds(
     root: usize,
 ) -> bool
     requires { ⌜ Readable (now nodes) ⌝ }
-    ensures { λ r. ⌜ r ≡ claimHolds (addressFrom (now (addresses .entry))) (contentsOf (now (variables .entry))) (claimFrom (tableOf (now (nodes .entry))) i owner root) ⌝ }
+    ensures { λ r. ⌜ r ≡ claimHolds (addressFrom (now (addresses .entry))) (contentsOf (now (variables .entry)))
+        (claimFrom (tableOf (now (nodes .entry))) i owner root) ⌝ }
 {
     if root == 65535 {
         let content = content_at(variables, i);
@@ -143,7 +146,8 @@ fn constraint_holds(
     at: usize,
 ) -> bool
     requires { ⌜ (at + 4 ≤ length (now constraints)) × (Readable (now nodes)) ⌝ }
-    ensures { λ r. ⌜ r ≡ holdsFrom (now (addresses .entry)) (now (variables .entry)) (constraintFrom (tableOf (now (nodes .entry))) (now (constraints .entry)) at) ⌝ }
+    ensures { λ r. ⌜ r ≡ holdsFrom (now (addresses .entry)) (now (variables .entry))
+        (constraintFrom (tableOf (now (nodes .entry))) (now (constraints .entry)) at) ⌝ }
 {
     let guard = constraints[at] as usize;
     let i = constraints[at + 1] as usize;
@@ -159,7 +163,8 @@ fn constraint_holds(
 // All constraints of a function hold.
 pub fn verify(nodes: &[u8], constraints: &[u16], addresses: &[u32], variables: &[u32]) -> bool
     requires { ⌜ Readable (now nodes) ⌝ }
-    ensures { λ r. ⌜ r ≡ allHold (now (addresses .entry)) (now (variables .entry)) (constraintsFrom (tableOf (now (nodes .entry))) (now (constraints .entry))) ⌝ }
+    ensures { λ r. ⌜ r ≡ allHold (now (addresses .entry)) (now (variables .entry))
+        (constraintsFrom (tableOf (now (nodes .entry))) (now (constraints .entry))) ⌝ }
 {
     let mut left = constraints.len() / 4;
     let mut at = 0;

@@ -56,7 +56,8 @@ fn write_simple(
     at: usize,
     base: usize,
 ) -> Extent
-    requires { ⌜ (isSimple (statementIn (nodesIn (now file)) n) ≡ true) × (StatementReady (now file) «function_at» «nodes_at» n i (now scratch) (now roots) (now out) at base) ⌝ }
+    requires { ⌜ (isSimple (statementIn (nodesIn (now file)) n) ≡ true)
+        × (StatementReady (now file) «function_at» «nodes_at» n i (now scratch) (now roots) (now out) at base) ⌝ }
     ensures { λ r. ⌜ StatementWritten (now (file .entry)) «function_at» n i (now (out .entry)) (now (out .exit)) at base r ⌝ }
 {
     let start = Position { at: 0, variable: i };
@@ -96,7 +97,8 @@ fn write_condition(
     base: usize,
 ) -> Condition
     requires { ⌜ ConditionReady (now file) «function_at» «nodes_at» n i (now scratch) (now roots) (now out) at base ⌝ }
-    ensures { λ r. ⌜ ConditionWritten (now (file .entry)) «function_at» n i (now (roots .entry)) (now (roots .exit)) (now (out .entry)) (now (out .exit)) at base r ⌝ }
+    ensures { λ r. ⌜ ConditionWritten (now (file .entry)) «function_at» n i (now (roots .entry)) (now (roots .exit))
+        (now (out .entry)) (now (out .exit)) at base r ⌝ }
 {
     let start = Position { at: 0, variable: i };
     let end = body_log(file, function_at, nodes_at, n, 0, scratch, start);
@@ -176,8 +178,10 @@ fn write_branches(
     at: usize,
     base: usize,
 ) -> Extent
-    requires { ⌜ BranchesReady (now file) «function_at» «nodes_at» n (recordAt (now file) «nodes_at» n) form j (now scratch) (now roots) (now out) at base ⌝ }
-    ensures { λ r. ⌜ BranchesWritten (now (file .entry)) «function_at» (recordAt (now (file .entry)) «nodes_at» n) form j (now (out .entry)) (now (out .exit)) at base r ⌝ }
+    requires { ⌜ BranchesReady (now file) «function_at» «nodes_at» n (recordAt (now file) «nodes_at» n) form j (now scratch)
+        (now roots) (now out) at base ⌝ }
+    ensures { λ r. ⌜ BranchesWritten (now (file .entry)) «function_at» (recordAt (now (file .entry)) «nodes_at» n) form j
+        (now (out .entry)) (now (out .exit)) at base r ⌝ }
 {
     let node = node_at(file, nodes_at, n);
     let a = at + 8 * form;
@@ -229,7 +233,8 @@ fn write_conditional(
     at: usize,
     base: usize,
 ) -> Extent
-    requires { ⌜ ((recordAt (now file) «nodes_at» n) .kind ≡ 21) × (StatementReady (now file) «function_at» «nodes_at» n i (now scratch) (now roots) (now out) at base) ⌝ }
+    requires { ⌜ ((recordAt (now file) «nodes_at» n) .kind ≡ 21)
+        × (StatementReady (now file) «function_at» «nodes_at» n i (now scratch) (now roots) (now out) at base) ⌝ }
     ensures { λ r. ⌜ StatementWritten (now (file .entry)) «function_at» n i (now (out .entry)) (now (out .exit)) at base r ⌝ }
 {
     let first = node_at(file, nodes_at, n).first;
@@ -340,7 +345,8 @@ fn write_sequence(
     at: usize,
     base: usize,
 ) -> Extent
-    requires { ⌜ ((recordAt (now file) «nodes_at» n) .kind ≡ 17) × (StatementReady (now file) «function_at» «nodes_at» n i (now scratch) (now roots) (now out) at base) ⌝ }
+    requires { ⌜ ((recordAt (now file) «nodes_at» n) .kind ≡ 17)
+        × (StatementReady (now file) «function_at» «nodes_at» n i (now scratch) (now roots) (now out) at base) ⌝ }
     ensures { λ r. ⌜ StatementWritten (now (file .entry)) «function_at» n i (now (out .entry)) (now (out .exit)) at base r ⌝ }
 {
     let node = node_at(file, nodes_at, n);
@@ -391,8 +397,11 @@ fn put_openings(
     at: usize,
     base: usize,
 ) -> Steps
-    requires { ⌜ (k + left ≤ 8) × ((i ≤ k) × ((place + 2 * left ≤ 1000000) × (StepsRoom (now out) (now roots) at base i (openingSteps (now file) place left k i)))) ⌝ }
-    ensures { λ r. ⌜ StepsPut (now (out .entry)) (now (out .exit)) (now (roots .entry)) (now (roots .exit)) at base i (openingSteps (now (file .entry)) place left k i) r ⌝ }
+    requires { ⌜ (k + left ≤ 8)
+        × ((i ≤ k)
+        × ((place + 2 * left ≤ 1000000) × (StepsRoom (now out) (now roots) at base i (openingSteps (now file) place left k i)))) ⌝ }
+    ensures { λ r. ⌜ StepsPut (now (out .entry)) (now (out .exit)) (now (roots .entry)) (now (roots .exit)) at base i
+        (openingSteps (now (file .entry)) place left k i) r ⌝ }
 {
     if left == 0 {
         return Steps { count: 0, nodes: 0 };
@@ -435,7 +444,8 @@ fn write_passage(
     base: usize,
 ) -> usize
     requires { ⌜ PassageReady (now file) «function_at» «nodes_at» private verified (now scratch) (now roots) (now out) at base ⌝ }
-    ensures { λ r. ⌜ Numbered (now (out .entry)) (now (out .exit)) at base (passageTree (now (file .entry)) «function_at» private verified) r ⌝ }
+    ensures { λ r. ⌜ Numbered (now (out .entry)) (now (out .exit)) at base
+        (passageTree (now (file .entry)) «function_at» private verified) r ⌝ }
 {
     let root = two_bytes_at(file, function_end(file, function_at) - 2);
     let body = write_statement(
@@ -473,7 +483,8 @@ pub fn write_function_body(
     base: usize,
 ) -> usize
     requires { ⌜ BodyReady (now file) «function_at» «nodes_at» private verified (now scratch) (now roots) (now out) at base ⌝ }
-    ensures { λ r. ⌜ Numbered (now (out .entry)) (now (out .exit)) at base (commandTree ((writtenIn (now (file .entry)) «function_at») .body)) r ⌝ }
+    ensures { λ r. ⌜ Numbered (now (out .entry)) (now (out .exit)) at base
+        (commandTree ((writtenIn (now (file .entry)) «function_at») .body)) r ⌝ }
 {
     let parameters = byte_at(file, function_at);
     let opened = put_openings(

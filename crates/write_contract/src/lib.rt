@@ -21,7 +21,8 @@ pub struct Answer {
 // "16. The lent output is too short": else headings, count of nodes and nodes stand there, one behind another.
 fn hand_out(headings: &[u8], nodes: &[u8], count: usize, out: &mut [u8]) -> Answer
     requires { ⌜ (length (now headings) ≤ 49152) × (length (now nodes) ≤ 49152) ⌝ }
-    ensures { λ r. ⌜ HandedOut (now (headings .entry) ++ twoBytes count ++ now (nodes .entry)) (now (out .entry)) (now (out .exit)) (r .number) (r .length) ⌝ }
+    ensures { λ r. ⌜ HandedOut (now (headings .entry) ++ twoBytes count ++ now (nodes .entry)) (now (out .entry)) (now (out .exit))
+        (r .number) (r .length) ⌝ }
 {
     let total = headings.len() + 2 + nodes.len();
     if out.len() < total {
@@ -54,7 +55,9 @@ fn write_accepted(file: &[u8], out: &mut [u8]) -> Answer
 
 // A wrong writer that this rules out: one that writes a byte before it refuses; one that leaves a byte behind the written file changed.
 pub fn write(file: &[u8], out: &mut [u8]) -> Answer
-    ensures { λ r. ⌜ (r .number ≡ writeNumber (now (file .entry)) (length (now (out .entry)))) × ((r .length ≡ writtenLength (now (file .entry)) (length (now (out .entry)))) × (now (out .exit) ≡ outputAfterWriting (now (file .entry)) (now (out .entry)))) ⌝ }
+    ensures { λ r. ⌜ (r .number ≡ writeNumber (now (file .entry)) (length (now (out .entry))))
+        × ((r .length ≡ writtenLength (now (file .entry)) (length (now (out .entry))))
+        × (now (out .exit) ≡ outputAfterWriting (now (file .entry)) (now (out .entry)))) ⌝ }
 {
     let number = check(file);
     if 0 < number {
