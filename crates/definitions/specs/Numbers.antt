@@ -72,9 +72,7 @@ namesNothing s =
     let nodes = length (s .nodes) in
     any (λ r. any (leb fields) (fieldOfDeclaredOwner ((fieldOf r) .owner))) (s .fields)
     || any (λ r. leb nodes (r .root)) (s .functions)
-    || anyNumbered (λ n r.
-    any (leb fields) (fieldsNamed (nodeOf r))
-    || any (leb n) (children (nodeOf r))) 0 (s .nodes)
+    || anyNumbered (λ n r. any (leb fields) (fieldsNamed (nodeOf r)) || any (leb n) (children (nodeOf r))) 0 (s .nodes)
 
 -- "5. A node is used other than once, as a root or a child."
 unfoldable pub usesOf : Sections → List ℕ
