@@ -39,14 +39,16 @@ pub record LogPut (file : List ℕ) (at : ℕ) (log : List ℕ) (r : ℕ) : Type
   pub fits : r ≤ 7680
 
 -- On opened places: the entries of the body's events, and the address of each name.
-pub record Told (l : Ledger) (function caller : ℕ) (arguments file : List ℕ) (at nodesStart : ℕ) (numbers log : List ℕ) (private : ℕ) (addresses : List ℕ) : Type 0 where
+pub record Told (l : Ledger) (function caller : ℕ) (arguments file : List ℕ) (at nodesStart : ℕ) (numbers log : List ℕ)
+    (private : ℕ) (addresses : List ℕ) : Type 0 where
   pub known : Opened l function caller arguments file at nodesStart numbers
   pub entries : Entries (nodesIn file) (eventsIn file at) log
   pub privateIs : private ≡ privateIn file at
   pub addressed : Addressed file at caller arguments numbers addresses
 
 -- The numbers that the original works out for the variables, and the address of each name, on the places opened.
-pub record WorkedOut (l : Ledger) (function caller : ℕ) (arguments file : List ℕ) (at : ℕ) (log : List ℕ) (private : ℕ) (slots addresses : List ℕ) : Type 0 where
+pub record WorkedOut (l : Ledger) (function caller : ℕ) (arguments file : List ℕ) (at : ℕ) (log : List ℕ) (private : ℕ)
+    (slots addresses : List ℕ) : Type 0 where
   pub called : Called l function caller arguments file at
   pub entries : Entries (nodesIn file) (eventsIn file at) log
   pub privateIs : private ≡ privateIn file at

@@ -61,8 +61,12 @@ fn call_supplied(
     parameters: &mut [u32],
     variables: &mut [u32],
 ) -> Ledger
-    requires { ⌜ (WorkedOut (ledgerOf l) function caller (now arguments) (now file) «function_at» (now log) private (now slots) (now addresses)) × (ContentsRoom (now arguments) (now slots) (now parameters) (now variables)) ⌝ }
-    ensures { λ r. ⌜ ledgerOf r ≡ callWith (ledgerOf l) function caller (honestParametersOf (ledgerOf l) function caller (now (arguments .entry))) (honestVariablesOf (ledgerOf l) function caller (now (arguments .entry))) ⌝ }
+    requires { ⌜ (WorkedOut (ledgerOf l) function caller (now arguments)
+        (now file) «function_at» (now log) private (now slots) (now addresses))
+        × (ContentsRoom (now arguments) (now slots) (now parameters) (now variables)) ⌝ }
+    ensures { λ r. ⌜ ledgerOf r ≡ callWith (ledgerOf l) function caller
+        (honestParametersOf (ledgerOf l) function caller (now (arguments .entry)))
+        (honestVariablesOf (ledgerOf l) function caller (now (arguments .entry))) ⌝ }
 {
     let call = l.call + 1;
     put_parameters(file, function_at, caller, call, arguments, parameters);
@@ -83,8 +87,11 @@ fn call_in_room(
     slots: &[u64],
     addresses: &[u32],
 ) -> Ledger
-    requires { ⌜ WorkedOut (ledgerOf l) function caller (now arguments) (now file) «function_at» (now log) private (now slots) (now addresses) ⌝ }
-    ensures { λ r. ⌜ ledgerOf r ≡ callWith (ledgerOf l) function caller (honestParametersOf (ledgerOf l) function caller (now (arguments .entry))) (honestVariablesOf (ledgerOf l) function caller (now (arguments .entry))) ⌝ }
+    requires { ⌜ WorkedOut (ledgerOf l) function caller (now arguments)
+        (now file) «function_at» (now log) private (now slots) (now addresses) ⌝ }
+    ensures { λ r. ⌜ ledgerOf r ≡ callWith (ledgerOf l) function caller
+        (honestParametersOf (ledgerOf l) function caller (now (arguments .entry)))
+        (honestVariablesOf (ledgerOf l) function caller (now (arguments .entry))) ⌝ }
 {
     let mut parameters = [0u32; 40];
     let mut variables = [0u32; 5120];
@@ -120,8 +127,11 @@ fn call_worked_out(
     private: usize,
     addresses: &[u32],
 ) -> Ledger
-    requires { ⌜ Told (ledgerOf l) function caller (now arguments) (now file) «function_at» «nodes_at» (now numbers) (now log) private (now addresses) ⌝ }
-    ensures { λ r. ⌜ ledgerOf r ≡ callWith (ledgerOf l) function caller (honestParametersOf (ledgerOf l) function caller (now (arguments .entry))) (honestVariablesOf (ledgerOf l) function caller (now (arguments .entry))) ⌝ }
+    requires { ⌜ Told (ledgerOf l) function caller (now arguments)
+        (now file) «function_at» «nodes_at» (now numbers) (now log) private (now addresses) ⌝ }
+    ensures { λ r. ⌜ ledgerOf r ≡ callWith (ledgerOf l) function caller
+        (honestParametersOf (ledgerOf l) function caller (now (arguments .entry)))
+        (honestVariablesOf (ledgerOf l) function caller (now (arguments .entry))) ⌝ }
 {
     let mut slots = [0u64; 1024];
     let made = honest_slots(
@@ -159,7 +169,9 @@ fn call_opened(
     numbers: &mut [u32],
 ) -> Ledger
     requires { ⌜ Opened (ledgerOf l) function caller (now arguments) (now file) «function_at» «nodes_at» (now numbers) ⌝ }
-    ensures { λ r. ⌜ ledgerOf r ≡ callWith (ledgerOf l) function caller (honestParametersOf (ledgerOf l) function caller (now (arguments .entry))) (honestVariablesOf (ledgerOf l) function caller (now (arguments .entry))) ⌝ }
+    ensures { λ r. ⌜ ledgerOf r ≡ callWith (ledgerOf l) function caller
+        (honestParametersOf (ledgerOf l) function caller (now (arguments .entry)))
+        (honestVariablesOf (ledgerOf l) function caller (now (arguments .entry))) ⌝ }
 {
     let mut addresses = [0u32; 136];
     put_addresses(
@@ -199,8 +211,11 @@ fn call_on(
     flat: &mut [u32],
     numbers: &mut [u32],
 ) -> Ledger
-    requires { ⌜ ((now file ≡ (ledgerOf l) .file) × (callNumber (ledgerOf l) function caller (now arguments) ≡ 0)) × ((length (now flat) ≡ 5 * min (l .«place_count») 1024) × (length (now numbers) ≡ min (l .«place_count») 1024)) ⌝ }
-    ensures { λ r. ⌜ ledgerOf r ≡ callWith (ledgerOf l) function caller (honestParametersOf (ledgerOf l) function caller (now (arguments .entry))) (honestVariablesOf (ledgerOf l) function caller (now (arguments .entry))) ⌝ }
+    requires { ⌜ ((now file ≡ (ledgerOf l) .file) × (callNumber (ledgerOf l) function caller (now arguments) ≡ 0))
+        × ((length (now flat) ≡ 5 * min (l .«place_count») 1024) × (length (now numbers) ≡ min (l .«place_count») 1024)) ⌝ }
+    ensures { λ r. ⌜ ledgerOf r ≡ callWith (ledgerOf l) function caller
+        (honestParametersOf (ledgerOf l) function caller (now (arguments .entry)))
+        (honestVariablesOf (ledgerOf l) function caller (now (arguments .entry))) ⌝ }
 {
     opened_places(l, flat, numbers);
     let function_at = function_start(file, function);
@@ -221,7 +236,9 @@ fn call_on(
 // "The honest call": the call with what the original works out.
 pub fn honest_call(l: Ledger, function: u8, caller: u8, arguments: &[u32]) -> Ledger
     requires { ⌜ callNumber (ledgerOf l) function caller (now arguments) ≡ 0 ⌝ }
-    ensures { λ r. ⌜ ledgerOf r ≡ callWith (ledgerOf l) function caller (honestParametersOf (ledgerOf l) function caller (now (arguments .entry))) (honestVariablesOf (ledgerOf l) function caller (now (arguments .entry))) ⌝ }
+    ensures { λ r. ⌜ ledgerOf r ≡ callWith (ledgerOf l) function caller
+        (honestParametersOf (ledgerOf l) function caller (now (arguments .entry)))
+        (honestVariablesOf (ledgerOf l) function caller (now (arguments .entry))) ⌝ }
 {
     let bytes = l.file;
     let length = at_most(l.file_length, 4596);

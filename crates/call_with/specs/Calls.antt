@@ -17,9 +17,10 @@ use Rattle.call_ledgers.specs.Ledgers.{Held}
 
 -- The written body of the function that begins at a place was walked.
 pub record Walked (file : List ℕ) (functionStart : ℕ) (addresses parameters : List ℕ) (start end : State) (r : Bool) : Type 0 where
-  pub ran :
-      Ran (walkCompletes (addressFrom addresses) (fieldsIn file) (contentsOf parameters) ((writtenIn file functionStart) .constraints) start ((writtenIn file functionStart) .body))
-      (stateAfter (addressFrom addresses) (fieldsIn file) (contentsOf parameters) start ((writtenIn file functionStart) .body)) end r
+  pub ran : Ran (walkCompletes (addressFrom addresses) (fieldsIn file) (contentsOf parameters)
+      ((writtenIn file functionStart) .constraints) start ((writtenIn file functionStart) .body))
+      (stateAfter (addressFrom addresses) (fieldsIn file) (contentsOf parameters) start ((writtenIn file functionStart) .body))
+      end r
 
 -- A call that can be made: the file is accepted, the function is there, a call number is left, and there is room.
 pub record Callable (l : Ledger) (function : ℕ) (parameters variables : List ℕ) : Type 0 where

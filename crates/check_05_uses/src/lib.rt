@@ -60,7 +60,8 @@ fn count_roots(file: &[u8], from: usize, count: usize, counts: &mut [usize; 512]
 
 fn count_nodes(file: &[u8], from: usize, count: usize, counts: &mut [usize; 512])
     requires { ⌜ (from + 8 * count ≤ 1000000) × (Room (now counts) (3 * count)) ⌝ }
-    ensures { λ _. ⌜ Counted (now (counts .entry)) (now (counts .exit)) (flatMap childrenOf (nodeRecords count (now (file .entry)) from)) ⌝ }
+    ensures { λ _. ⌜ Counted (now (counts .entry)) (now (counts .exit))
+        (flatMap childrenOf (nodeRecords count (now (file .entry)) from)) ⌝ }
 {
     let mut at = from;
     let mut left = count;

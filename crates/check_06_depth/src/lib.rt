@@ -51,7 +51,10 @@ fn chain_from(depths: &[usize; 512], node: Node) -> usize
 
 // Notes the depth of each node. A child's number is below its parent's, so its depth is noted before.
 fn note_depths(file: &[u8], from: usize, count: usize, depths: &mut [usize; 512])
-    requires { ⌜ (from + 8 * count ≤ 1000000) × (count ≤ 512) × (ChildrenBelow (map nodeOf (nodeRecords count (now file) from))) × (Bounded (now depths)) ⌝ }
+    requires { ⌜ (from + 8 * count ≤ 1000000)
+        × (count ≤ 512)
+        × (ChildrenBelow (map nodeOf (nodeRecords count (now file) from)))
+        × (Bounded (now depths)) ⌝ }
     ensures { λ _. ⌜ Chains (map nodeOf (nodeRecords count (now (file .entry)) from)) count (now (depths .exit)) ⌝ }
 {
     let mut at = from;

@@ -22,4 +22,5 @@ rootWrong nodes r = not (isStatement (nodeAt nodes (r .root)))
 
 abbrev pub partsWrong : List Node → Node → Bool
 partsWrong nodes node =
-    any (λ n. not (isExpression (nodeAt nodes n))) (expressionParts node) || any (λ n. not (isStatement (nodeAt nodes n))) (statementParts node)
+    any (λ n. not (isExpression (nodeAt nodes n))) (expressionParts node)
+    || any (λ n. not (isStatement (nodeAt nodes n))) (statementParts node)

@@ -22,7 +22,8 @@ unfoldable pub any : {A : Type 0} → (A → Bool) → List A → Bool
 any test [] = false
 any test (x ∷ xs) = test x || any test xs
 
-unfoldable pub anyNumbered : {A : Type 0} → (ℕ → A → Bool) → ℕ → List A → Bool  -- The test also sees an element's number, counted from the one given.
+-- The test also sees an element's number, counted from the one given.
+unfoldable pub anyNumbered : {A : Type 0} → (ℕ → A → Bool) → ℕ → List A → Bool
 anyNumbered test n [] = false
 anyNumbered test n (x ∷ xs) = test n x || anyNumbered test (suc n) xs
 
@@ -37,13 +38,15 @@ largest (n ∷ ns) = max n (largest ns)
 abbrev pub isZero : ℕ → Bool
 isZero n = eqb n 0
 
-abbrev pub bit : Bool → ℕ  -- A bool's value: 1 for true, 0 for false.
+-- A bool's value: 1 for true, 0 for false.
+abbrev pub bit : Bool → ℕ
 bit b = cond b 1 0
 
 abbrev pub isTrue : ℕ → Bool
 isTrue n = not (isZero n)
 
-abbrev pub twoBytes : ℕ → List ℕ  -- 01, The contract file: "Numbers of several bytes are low byte first."
+-- 01, The contract file: "Numbers of several bytes are low byte first."
+abbrev pub twoBytes : ℕ → List ℕ
 twoBytes n = n % 256 ∷ n / 256 % 256 ∷ []
 
 -- 01, Numbers: "The first sentence that holds gives the number; 0 means accepted." The first of the sentences has the number given.

@@ -1,28 +1,38 @@
--- 01, The contract file: what a file says, as trees; its sections as they lie in the bytes; the codes; the trees that its nodes make; data types.
+-- 01, The contract file: what a file says, as trees; its sections as they lie in the bytes; the codes;
+-- the trees that its nodes make; data types.
 use Rattle.definitions.specs.Basics.{Bool, true, false, _||_, List, [], ℕ, eqb, getD, _&&_, cond, not, _∷_, zero, suc, _+_, _*_, _-_, leb, ltb, drop, slice, force, _++_, map, largest}
 
-pub data DataType : Type 0 where  -- "type (0 bool, 1 uint, 2 address)"
+-- "type (0 bool, 1 uint, 2 address)"
+pub data DataType : Type 0 where
   boolean uint address : DataType
 
-pub data Shape : Type 0 where  -- "shape (0 plain, 1 final, 2 mapping from address)"
+-- "shape (0 plain, 1 final, 2 mapping from address)"
+pub data Shape : Type 0 where
   plainField finalField mapping : Shape
 
-pub data Name : Type 0 where  -- 01, Owners: "A name is me, a final, or a public address parameter."
+-- 01, Owners: "A name is me, a final, or a public address parameter."
+pub data Name : Type 0 where
   meName : Name
   finalName parameterName : ℕ → Name
 
-pub data Owner : Type 0 where  -- An owner of a value: "0 all, 1 me (the caller), .. 16+f final field f .., 128+k parameter k".
+-- An owner of a value: "0 all, 1 me (the caller), .. 16+f final field f .., 128+k parameter k".
+pub data Owner : Type 0 where
   everyone : Owner
   ownedBy : Name → Owner
 
-pub data FieldOwner : Type 0 where  -- "A field's owner is 0, 16+f, or 2 for a mapping only."
+-- "A field's owner is 0, 16+f, or 2 for a mapping only."
+pub data FieldOwner : Type 0 where
   toEveryone toKey : FieldOwner
   toFinal : ℕ → FieldOwner
 
-pub data Operator : Type 0 where  -- "Operators: 0 +, 1 −, 2 ×, 3 /, 4 %, 5 <, 6 ≤, 7 ==, 8 !=, 9 and, 10 or."
-  plus minus times divide remainder less lessOrEqual equal unequal conjunction disjunction : Operator
+-- "Operators: 0 +, 1 −, 2 ×, 3 /, 4 %, 5 <, 6 ≤, 7 ==, 8 !=, 9 and, 10 or."
+pub data Operator : Type 0 where
+  plus minus times divide remainder
+      less lessOrEqual equal unequal
+      conjunction disjunction : Operator
 
-pub data Expression : Type 0 where  -- Kinds 1 to 8.
+-- Kinds 1 to 8.
+pub data Expression : Type 0 where
   constant : DataType → ℕ → Expression
   me : Expression
   field parameter : ℕ → Expression
@@ -31,7 +41,8 @@ pub data Expression : Type 0 where  -- Kinds 1 to 8.
   negation : Expression → Expression
   reveal : Expression → Owner → Expression
 
-pub data Statement : Type 0 where  -- Kinds 16 to 21.
+-- Kinds 16 to 21.
+pub data Statement : Type 0 where
   skip : Statement
   sequence : Statement → Statement → Statement
   assignField : ℕ → Expression → Statement
@@ -44,7 +55,8 @@ pub record Field : Type 0 where
   pub type : DataType
   pub owner : FieldOwner
 
-pub record Parameter : Type 0 where  -- "a type and an owner (0 or 1) for each parameter"
+-- "a type and an owner (0 or 1) for each parameter"
+pub record Parameter : Type 0 where
   pub type : DataType
   pub private : Bool
 
@@ -56,7 +68,8 @@ pub record Contract : Type 0 where
   pub fields : List Field
   pub functions : List Function
 
-pub record Scope : Type 0 where  -- What the names in a function's body can mean: the contract's fields and the function's own parameters.
+-- What the names in a function's body can mean: the contract's fields and the function's own parameters.
+pub record Scope : Type 0 where
   pub fields : List Field
   pub parameters : List Parameter
 
@@ -70,9 +83,13 @@ abbrev pub functionAt : List Function → ℕ → Function
 functionAt functions f = getD functions f (record { parameters = []; body = skip })
 
 abbrev pub scopeOf : Contract → ℕ → Scope
-scopeOf contract f = record { fields = contract .fields; parameters = (functionAt (contract .functions) f) .parameters }
+scopeOf contract f = record {
+  fields = contract .fields;
+  parameters = (functionAt (contract .functions) f) .parameters;
+}
 
-abbrev pub dataTypeCode : DataType → ℕ  -- A type's and a shape's number.
+-- A type's and a shape's number.
+abbrev pub dataTypeCode : DataType → ℕ
 dataTypeCode = elim [ boolean ↦ 0 | uint ↦ 1 | address ↦ 2 ]
 
 abbrev pub sameType : DataType → DataType → Bool
@@ -95,8 +112,21 @@ sameName (parameterName k) = elim [ meName ↦ false | finalName g ↦ false | p
 abbrev pub isEveryone : Owner → Bool
 isEveryone = elim [ everyone ↦ true | ownedBy n ↦ false ]
 
-abbrev pub operatorCode : Operator → ℕ  -- An operator's number.
-operatorCode = elim [ plus ↦ 0 | minus ↦ 1 | times ↦ 2 | divide ↦ 3 | remainder ↦ 4 | less ↦ 5 | lessOrEqual ↦ 6 | equal ↦ 7 | unequal ↦ 8 | conjunction ↦ 9 | disjunction ↦ 10 ]
+-- An operator's number.
+abbrev pub operatorCode : Operator → ℕ
+operatorCode = elim [
+  | plus ↦ 0
+  | minus ↦ 1
+  | times ↦ 2
+  | divide ↦ 3
+  | remainder ↦ 4
+  | less ↦ 5
+  | lessOrEqual ↦ 6
+  | equal ↦ 7
+  | unequal ↦ 8
+  | conjunction ↦ 9
+  | disjunction ↦ 10
+]
 
 abbrev pub isOperator : Operator → Operator → Bool
 isOperator o p = eqb (operatorCode o) (operatorCode p)
@@ -104,33 +134,39 @@ isOperator o p = eqb (operatorCode o) (operatorCode p)
 abbrev pub isDivision : Operator → Bool
 isDivision o = isOperator o divide || isOperator o remainder
 
-abbrev pub byteAt : List ℕ → ℕ → ℕ  -- "Numbers of several bytes are low byte first." A byte that is not there reads as 0.
+-- "Numbers of several bytes are low byte first." A byte that is not there reads as 0.
+abbrev pub byteAt : List ℕ → ℕ → ℕ
 byteAt file at = getD file at 0
 
 abbrev pub twoBytesAt : List ℕ → ℕ → ℕ
 twoBytesAt file at = byteAt file at + 256 * byteAt file (at + 1)
 
-pub record FieldRecord : Type 0 where  -- "Fields: one-byte count, 0 to 64; each is shape .., type .., owner."
+-- "Fields: one-byte count, 0 to 64; each is shape .., type .., owner."
+pub record FieldRecord : Type 0 where
   pub shape : ℕ
   pub type : ℕ
   pub owner : ℕ
 
-pub record ParameterRecord : Type 0 where  -- "a type and an owner (0 or 1) for each parameter"
+-- "a type and an owner (0 or 1) for each parameter"
+pub record ParameterRecord : Type 0 where
   pub type : ℕ
   pub owner : ℕ
 
-pub record FunctionRecord : Type 0 where  -- "each is a one-byte parameter count, 0 to 8; a type and an owner .. for each parameter; a two-byte root node"
+-- "each is a one-byte parameter count, 0 to 8; a type and an owner .. for each parameter; a two-byte root node"
+pub record FunctionRecord : Type 0 where
   pub parameters : List ParameterRecord
   pub root : ℕ
 
-pub record NodeRecord : Type 0 where  -- "each is kind, arg, then first, second and third of two bytes"
+-- "each is kind, arg, then first, second and third of two bytes"
+pub record NodeRecord : Type 0 where
   pub kind : ℕ
   pub arg : ℕ
   pub first : ℕ
   pub second : ℕ
   pub third : ℕ
 
-pub record Sections : Type 0 where  -- "Sections stand in a fixed order, each after its count."
+-- "Sections stand in a fixed order, each after its count."
+pub record Sections : Type 0 where
   pub fields : List FieldRecord
   pub functions : List FunctionRecord
   pub nodes : List NodeRecord
@@ -144,7 +180,8 @@ functionsAt file = 1 + 3 * fieldCount file
 abbrev pub functionCount : List ℕ → ℕ
 functionCount file = byteAt file (functionsAt file)
 
-abbrev pub functionEnd : List ℕ → ℕ → ℕ  -- Where the function that begins at a position ends.
+-- Where the function that begins at a position ends.
+abbrev pub functionEnd : List ℕ → ℕ → ℕ
 functionEnd file at = at + 1 + 2 * byteAt file at + 2
 
 unfoldable pub functionsEnd : ℕ → List ℕ → ℕ → ℕ
@@ -157,49 +194,73 @@ nodesAt file = functionsEnd (functionCount file) file (functionsAt file + 1)
 abbrev pub nodeCount : List ℕ → ℕ
 nodeCount file = twoBytesAt file (nodesAt file)
 
-abbrev pub fileEnd : List ℕ → ℕ  -- Where a file with these counts ends. A count past the end reads as 0, and its own place alone then lies past the end.
+-- Where a file with these counts ends. A count past the end reads as 0, and its own place alone then lies past the end.
+abbrev pub fileEnd : List ℕ → ℕ
 fileEnd file = nodesAt file + 2 + 8 * nodeCount file
 
 unfoldable pub fieldRecords : ℕ → List ℕ → ℕ → List FieldRecord
 fieldRecords zero file at = []
-fieldRecords (suc n) file at = record { shape = byteAt file at; type = byteAt file (at + 1); owner = byteAt file (at + 2) } ∷ fieldRecords n file (at + 3)
+fieldRecords (suc n) file at =
+    record { shape = byteAt file at; type = byteAt file (at + 1); owner = byteAt file (at + 2) }
+    ∷ fieldRecords n file (at + 3)
 
 unfoldable pub parameterRecords : ℕ → List ℕ → ℕ → List ParameterRecord
 parameterRecords zero file at = []
-parameterRecords (suc n) file at = record { type = byteAt file at; owner = byteAt file (at + 1) } ∷ parameterRecords n file (at + 2)
+parameterRecords (suc n) file at =
+    record { type = byteAt file at; owner = byteAt file (at + 1) }
+    ∷ parameterRecords n file (at + 2)
 
 abbrev pub functionRecord : List ℕ → ℕ → FunctionRecord
-functionRecord file at = record { parameters = parameterRecords (byteAt file at) file (at + 1); root = twoBytesAt file (functionEnd file at - 2) }
+functionRecord file at = record {
+  parameters = parameterRecords (byteAt file at) file (at + 1);
+  root = twoBytesAt file (functionEnd file at - 2);
+}
 
 unfoldable pub functionRecords : ℕ → List ℕ → ℕ → List FunctionRecord
 functionRecords zero file at = []
-functionRecords (suc n) file at = functionRecord file at ∷ force (functionEnd file at) (functionRecords n file)
+functionRecords (suc n) file at =
+    functionRecord file at
+    ∷ force (functionEnd file at) (functionRecords n file)
 
 abbrev pub node : ℕ → ℕ → ℕ → ℕ → ℕ → NodeRecord
-node kind arg first second third = record { kind = kind; arg = arg; first = first; second = second; third = third }
+node kind arg first second third =
+    record { kind = kind; arg = arg; first = first; second = second; third = third }
 
 abbrev pub nodeRecord : List ℕ → ℕ → NodeRecord
-nodeRecord file at = node (byteAt file at) (byteAt file (at + 1)) (twoBytesAt file (at + 2)) (twoBytesAt file (at + 4)) (twoBytesAt file (at + 6))
+nodeRecord file at =
+    node (byteAt file at) (byteAt file (at + 1))
+    (twoBytesAt file (at + 2)) (twoBytesAt file (at + 4)) (twoBytesAt file (at + 6))
 
 unfoldable pub nodeRecords : ℕ → List ℕ → ℕ → List NodeRecord
 nodeRecords zero file at = []
 nodeRecords (suc n) file at = nodeRecord file at ∷ nodeRecords n file (at + 8)
 
 unfoldable pub sectionsOf : List ℕ → Sections
-sectionsOf file = let functions = functionRecords (functionCount file) file (functionsAt file + 1) in
-    record { fields = fieldRecords (fieldCount file) file 1; functions = functions; nodes = force (nodesAt file + 2) (nodeRecords (nodeCount file) file) }
+sectionsOf file =
+    let functions = functionRecords (functionCount file) file (functionsAt file + 1) in
+    record {
+      fields = fieldRecords (fieldCount file) file 1;
+      functions = functions;
+      nodes = force (nodesAt file + 2) (nodeRecords (nodeCount file) file);
+    }
 
 -- "Each section, count included, is handed back on request as that part of the caller's file (0 fields, 1 functions, 2 nodes)."
 unfoldable pub sectionPart : List ℕ → ℕ → List ℕ
-sectionPart file n = getD (slice 0 (functionsAt file) file ∷ slice (functionsAt file) (nodesAt file) file ∷ drop (nodesAt file) file ∷ []) n []
+sectionPart file n =
+    getD (slice 0 (functionsAt file) file
+    ∷ slice (functionsAt file) (nodesAt file) file
+    ∷ drop (nodesAt file) file
+    ∷ []) n []
 
-abbrev pub dataTypeOf : ℕ → DataType  -- The codes, as what they mean. Which codes are in the tables is number 3's to say; others read as the last of the list.
+-- The codes, as what they mean. Which codes are in the tables is number 3's to say; others read as the last of the list.
+abbrev pub dataTypeOf : ℕ → DataType
 dataTypeOf code = cond (eqb code 0) boolean (cond (eqb code 1) uint address)
 
 abbrev pub shapeOf : ℕ → Shape
 shapeOf code = cond (eqb code 0) plainField (cond (eqb code 1) finalField mapping)
 
-abbrev pub isFinalCode : ℕ → Bool  -- "Owner codes: 0 all, 1 me (the caller), 2 the mapping's key, 16+f final field f (f 0 to 63), 128+k parameter k (k 0 to 7)."
+-- "Owner codes: 0 all, 1 me (the caller), 2 the mapping's key, 16+f final field f (f 0 to 63), 128+k parameter k (k 0 to 7)."
+abbrev pub isFinalCode : ℕ → Bool
 isFinalCode code = leb 16 code && ltb code 80
 
 abbrev pub isParameterCode : ℕ → Bool
@@ -207,67 +268,116 @@ isParameterCode code = leb 128 code && ltb code 136
 
 abbrev pub ownerOfCode : ℕ → Owner
 ownerOfCode code =
-    cond (eqb code 0) everyone (cond (eqb code 1) (ownedBy meName) (cond (isFinalCode code) (ownedBy (finalName (code - 16))) (ownedBy (parameterName (code - 128)))))
+    cond (eqb code 0) everyone
+    (cond (eqb code 1) (ownedBy meName)
+    (cond (isFinalCode code) (ownedBy (finalName (code - 16))) (ownedBy (parameterName (code - 128)))))
 
 abbrev pub fieldOwnerOfCode : ℕ → FieldOwner
 fieldOwnerOfCode code = cond (eqb code 0) toEveryone (cond (eqb code 2) toKey (toFinal (code - 16)))
 
 abbrev pub ownerCode : Owner → ℕ
-ownerCode = elim [ everyone ↦ 0 | ownedBy n ↦ elim n [ meName ↦ 1 | finalName f ↦ 16 + f | parameterName k ↦ 128 + k ] ]
+ownerCode = elim [
+  | everyone ↦ 0
+  | ownedBy n ↦ elim n [ meName ↦ 1 | finalName f ↦ 16 + f | parameterName k ↦ 128 + k ]
+]
 
 abbrev pub fieldOwnerCode : FieldOwner → ℕ
 fieldOwnerCode = elim [ toEveryone ↦ 0 | toKey ↦ 2 | toFinal f ↦ 16 + f ]
 
-abbrev pub operatorOf : ℕ → Operator  -- "Operators: 0 +, 1 −, 2 ×, 3 /, 4 %, 5 <, 6 ≤, 7 ==, 8 !=, 9 and, 10 or."
-operatorOf code = getD (plus ∷ minus ∷ times ∷ divide ∷ remainder ∷ less ∷ lessOrEqual ∷ equal ∷ unequal ∷ conjunction ∷ disjunction ∷ []) code plus
+-- "Operators: 0 +, 1 −, 2 ×, 3 /, 4 %, 5 <, 6 ≤, 7 ==, 8 !=, 9 and, 10 or."
+abbrev pub operatorOf : ℕ → Operator
+operatorOf code =
+    getD (plus ∷ minus ∷ times ∷ divide ∷ remainder
+    ∷ less ∷ lessOrEqual ∷ equal ∷ unequal
+    ∷ conjunction ∷ disjunction ∷ []) code plus
 
 unfoldable pub fieldOf : FieldRecord → Field
-fieldOf r = record { shape = shapeOf (r .shape); type = dataTypeOf (r .type); owner = fieldOwnerOfCode (r .owner) }
+fieldOf r = record {
+  shape = shapeOf (r .shape);
+  type = dataTypeOf (r .type);
+  owner = fieldOwnerOfCode (r .owner);
+}
 
 unfoldable pub parameterOf : ParameterRecord → Parameter
 parameterOf r = record { type = dataTypeOf (r .type); private = not (eqb (r .owner) 0) }
 
-pub data Kind : Type 0 where  -- "Kinds (decimal)"
+-- "Kinds (decimal)"
+pub data Kind : Type 0 where
   constantKind meKind fieldKind entryKind parameterKind operatorKind negationKind revealKind : Kind
   skipKind sequenceKind assignFieldKind assignEntryKind requireKind conditionalKind noKind : Kind
 
 unfoldable pub kindOf : ℕ → Kind
-kindOf n = cond (eqb n 1) constantKind (cond (eqb n 2) meKind (cond (eqb n 3) fieldKind (cond (eqb n 4) entryKind (cond (eqb n 5) parameterKind
-    (cond (eqb n 6) operatorKind (cond (eqb n 7) negationKind (cond (eqb n 8) revealKind (cond (eqb n 16) skipKind (cond (eqb n 17) sequenceKind
-    (cond (eqb n 18) assignFieldKind (cond (eqb n 19) assignEntryKind (cond (eqb n 20) requireKind (cond (eqb n 21) conditionalKind noKind)))))))))))))
+kindOf n =
+    cond (eqb n 1) constantKind
+    (cond (eqb n 2) meKind
+    (cond (eqb n 3) fieldKind
+    (cond (eqb n 4) entryKind
+    (cond (eqb n 5) parameterKind
+    (cond (eqb n 6) operatorKind
+    (cond (eqb n 7) negationKind
+    (cond (eqb n 8) revealKind
+    (cond (eqb n 16) skipKind
+    (cond (eqb n 17) sequenceKind
+    (cond (eqb n 18) assignFieldKind
+    (cond (eqb n 19) assignEntryKind
+    (cond (eqb n 20) requireKind
+    (cond (eqb n 21) conditionalKind noKind)))))))))))))
 
--- A node as its kind uses it: the fields that it names, "in owner codes too"; its children, those that are due to be expressions and then
--- those that are due to be statements; the tree that it makes of theirs.
+-- A node as its kind uses it: the fields that it names, "in owner codes too"; its children, those that are due to be
+-- expressions and then those that are due to be statements; the tree that it makes of theirs.
 pub data Node : Type 0 where
-  expressionNode : (fields expressions : List ℕ) → ((ℕ → Expression) → Expression) → Node
-  statementNode : (fields expressions statements : List ℕ) → ((ℕ → Expression) → (ℕ → Statement) → Statement) → Node
+  expressionNode : (fields expressions : List ℕ)
+      → ((ℕ → Expression) → Expression)
+      → Node
+  statementNode : (fields expressions statements : List ℕ)
+      → ((ℕ → Expression) → (ℕ → Statement) → Statement)
+      → Node
   unknownNode : Node
 
-abbrev pub constantValue : NodeRecord → ℕ  -- "1 constant (arg type; value first + 65,536 × second ..)"
+-- "1 constant (arg type; value first + 65,536 × second ..)"
+abbrev pub constantValue : NodeRecord → ℕ
 constantValue r = r .first + 65536 * r .second
 
 abbrev pub fieldOfOwner : Owner → List ℕ
-fieldOfOwner = elim [ everyone ↦ [] | ownedBy n ↦ elim n [ meName ↦ [] | finalName f ↦ f ∷ [] | parameterName k ↦ [] ] ]
+fieldOfOwner = elim [
+  | everyone ↦ []
+  | ownedBy n ↦ elim n [ meName ↦ [] | finalName f ↦ f ∷ [] | parameterName k ↦ [] ]
+]
 
--- "2 me; 3 field (arg); 4 entry of mapping arg at key first; 5 parameter arg; 6 operator arg on first, second; 7 not; 8 reveal first to owner code arg ..;
+-- "2 me; 3 field (arg); 4 entry of mapping arg at key first; 5 parameter arg; 6 operator arg on first, second; 7 not;
+-- 8 reveal first to owner code arg ..;
 -- 16 skip; 17 sequence; 18 field arg takes first; 19 entry of arg at first takes second; 20 require; 21 if first, then second, else third."
 unfoldable pub nodeOfKind : Kind → NodeRecord → Node
 nodeOfKind constantKind r = expressionNode [] [] (λ below. constant (dataTypeOf (r .arg)) (constantValue r))
 nodeOfKind meKind r = expressionNode [] [] (λ below. me)
 nodeOfKind fieldKind r = expressionNode (r .arg ∷ []) [] (λ below. field (r .arg))
-nodeOfKind entryKind r = expressionNode (r .arg ∷ []) (r .first ∷ []) (λ below. entry (r .arg) (below (r .first)))
+nodeOfKind entryKind r =
+    expressionNode (r .arg ∷ []) (r .first ∷ [])
+    (λ below. entry (r .arg) (below (r .first)))
 nodeOfKind parameterKind r = expressionNode [] [] (λ below. parameter (r .arg))
-nodeOfKind operatorKind r = expressionNode [] (r .first ∷ r .second ∷ []) (λ below. operator (operatorOf (r .arg)) (below (r .first)) (below (r .second)))
+nodeOfKind operatorKind r =
+    expressionNode [] (r .first ∷ r .second ∷ [])
+    (λ below. operator (operatorOf (r .arg)) (below (r .first)) (below (r .second)))
 nodeOfKind negationKind r = expressionNode [] (r .first ∷ []) (λ below. negation (below (r .first)))
-nodeOfKind revealKind r = expressionNode (fieldOfOwner (ownerOfCode (r .arg))) (r .first ∷ []) (λ below. reveal (below (r .first)) (ownerOfCode (r .arg)))
+nodeOfKind revealKind r =
+    expressionNode (fieldOfOwner (ownerOfCode (r .arg))) (r .first ∷ [])
+    (λ below. reveal (below (r .first)) (ownerOfCode (r .arg)))
 nodeOfKind skipKind r = statementNode [] [] [] (λ expression below. skip)
-nodeOfKind sequenceKind r = statementNode [] [] (r .first ∷ r .second ∷ []) (λ expression below. sequence (below (r .first)) (below (r .second)))
-nodeOfKind assignFieldKind r = statementNode (r .arg ∷ []) (r .first ∷ []) [] (λ expression below. assignField (r .arg) (expression (r .first)))
+nodeOfKind sequenceKind r =
+    statementNode [] [] (r .first ∷ r .second ∷ [])
+    (λ expression below. sequence (below (r .first)) (below (r .second)))
+nodeOfKind assignFieldKind r =
+    statementNode (r .arg ∷ []) (r .first ∷ []) []
+    (λ expression below. assignField (r .arg) (expression (r .first)))
 nodeOfKind assignEntryKind r =
-    statementNode (r .arg ∷ []) (r .first ∷ r .second ∷ []) [] (λ expression below. assignEntry (r .arg) (expression (r .first)) (expression (r .second)))
-nodeOfKind requireKind r = statementNode [] (r .first ∷ []) [] (λ expression below. require (expression (r .first)))
+    statementNode (r .arg ∷ []) (r .first ∷ r .second ∷ []) []
+    (λ expression below. assignEntry (r .arg) (expression (r .first)) (expression (r .second)))
+nodeOfKind requireKind r =
+    statementNode [] (r .first ∷ []) []
+    (λ expression below. require (expression (r .first)))
 nodeOfKind conditionalKind r =
-    statementNode [] (r .first ∷ []) (r .second ∷ r .third ∷ []) (λ expression below. conditional (expression (r .first)) (below (r .second)) (below (r .third)))
+    statementNode [] (r .first ∷ []) (r .second ∷ r .third ∷ [])
+    (λ expression below. conditional (expression (r .first)) (below (r .second)) (below (r .third)))
 nodeOfKind noKind r = unknownNode
 
 abbrev pub nodeOf : NodeRecord → Node
@@ -277,59 +387,101 @@ abbrev pub nodeAt : List Node → ℕ → Node
 nodeAt nodes n = getD nodes n unknownNode
 
 unfoldable pub fieldsNamed : Node → List ℕ
-fieldsNamed = elim [ expressionNode fields _ _ ↦ fields | statementNode fields _ _ _ ↦ fields | unknownNode ↦ [] ]
+fieldsNamed = elim [
+  | expressionNode fields _ _ ↦ fields
+  | statementNode fields _ _ _ ↦ fields
+  | unknownNode ↦ []
+]
 
 unfoldable pub expressionParts : Node → List ℕ
-expressionParts = elim [ expressionNode _ expressions _ ↦ expressions | statementNode _ expressions _ _ ↦ expressions | unknownNode ↦ [] ]
+expressionParts = elim [
+  | expressionNode _ expressions _ ↦ expressions
+  | statementNode _ expressions _ _ ↦ expressions
+  | unknownNode ↦ []
+]
 
 unfoldable pub statementParts : Node → List ℕ
-statementParts = elim [ expressionNode _ _ _ ↦ [] | statementNode _ _ statements _ ↦ statements | unknownNode ↦ [] ]
+statementParts = elim [
+  | expressionNode _ _ _ ↦ []
+  | statementNode _ _ statements _ ↦ statements
+  | unknownNode ↦ []
+]
 
 abbrev pub children : Node → List ℕ
 children node = expressionParts node ++ statementParts node
 
 abbrev pub isExpression : Node → Bool
-isExpression = elim [ expressionNode _ _ _ ↦ true | statementNode _ _ _ _ ↦ false | unknownNode ↦ false ]
+isExpression = elim [
+  | expressionNode _ _ _ ↦ true
+  | statementNode _ _ _ _ ↦ false
+  | unknownNode ↦ false
+]
 
 abbrev pub isStatement : Node → Bool
-isStatement = elim [ expressionNode _ _ _ ↦ false | statementNode _ _ _ _ ↦ true | unknownNode ↦ false ]
+isStatement = elim [
+  | expressionNode _ _ _ ↦ false
+  | statementNode _ _ _ _ ↦ true
+  | unknownNode ↦ false
+]
 
 -- How many nodes the longest chain from node n to a leaf has. Children's numbers fall, so n + 1 levels hold all of node n's tree.
 unfoldable pub chainLength : ℕ → List Node → ℕ → ℕ
 chainLength zero nodes n = 0
-chainLength (suc levels) nodes n = suc (largest (map (chainLength levels nodes) (children (nodeAt nodes n))))
+chainLength (suc levels) nodes n =
+    suc (largest (map (chainLength levels nodes) (children (nodeAt nodes n))))
 
 unfoldable pub expressionOf : Node → (ℕ → Expression) → Expression
-expressionOf node below = elim node [ expressionNode _ _ make ↦ make below | statementNode _ _ _ _ ↦ me | unknownNode ↦ me ]
+expressionOf node below = elim node [
+  | expressionNode _ _ make ↦ make below
+  | statementNode _ _ _ _ ↦ me
+  | unknownNode ↦ me
+]
 
 unfoldable pub expressionAt : ℕ → List Node → ℕ → Expression
 expressionAt zero nodes n = me
 expressionAt (suc levels) nodes n = expressionOf (nodeAt nodes n) (expressionAt levels nodes)
 
 unfoldable pub statementOf : Node → (ℕ → Expression) → (ℕ → Statement) → Statement
-statementOf node expression below = elim node [ expressionNode _ _ _ ↦ skip | statementNode _ _ _ make ↦ make expression below | unknownNode ↦ skip ]
+statementOf node expression below = elim node [
+  | expressionNode _ _ _ ↦ skip
+  | statementNode _ _ _ make ↦ make expression below
+  | unknownNode ↦ skip
+]
 
 unfoldable pub statementAt : ℕ → List Node → ℕ → Statement
 statementAt zero nodes n = skip
-statementAt (suc levels) nodes n = statementOf (nodeAt nodes n) (expressionAt levels nodes) (statementAt levels nodes)
+statementAt (suc levels) nodes n =
+    statementOf (nodeAt nodes n) (expressionAt levels nodes) (statementAt levels nodes)
 
 abbrev pub functionOf : List Node → FunctionRecord → Function
-functionOf nodes r = record { parameters = map parameterOf (r .parameters); body = statementAt (suc (r .root)) nodes (r .root) }
+functionOf nodes r = record {
+  parameters = map parameterOf (r .parameters);
+  body = statementAt (suc (r .root)) nodes (r .root);
+}
 
 unfoldable pub contractOf : Sections → Contract
-contractOf s = let nodes = map nodeOf (s .nodes) in record { fields = map fieldOf (s .fields); functions = map (functionOf nodes) (s .functions) }
+contractOf s =
+    let nodes = map nodeOf (s .nodes) in
+    record {
+      fields = map fieldOf (s .fields);
+      functions = map (functionOf nodes) (s .functions);
+    }
 
 abbrev pub contractIn : List ℕ → Contract
 contractIn file = contractOf (sectionsOf file)
 
-abbrev pub isOfType : DataType → ℕ → Bool  -- "bool 0 or 1, address 0 to 15"; "Uint arithmetic is modulo 4,294,967,296."
+-- "bool 0 or 1, address 0 to 15"; "Uint arithmetic is modulo 4,294,967,296."
+abbrev pub isOfType : DataType → ℕ → Bool
 isOfType t v = ltb v (elim t [ boolean ↦ 2 | uint ↦ 4294967296 | address ↦ 16 ])
 
-abbrev pub operandsFit : Operator → DataType → DataType → Bool  -- "Operators 0 to 6 take uints, 7 and 8 two equal types, 9 and 10 bools"
-operandsFit o left right = cond (leb (operatorCode o) 6) (sameType left uint && sameType right uint)
+-- "Operators 0 to 6 take uints, 7 and 8 two equal types, 9 and 10 bools"
+abbrev pub operandsFit : Operator → DataType → DataType → Bool
+operandsFit o left right =
+    cond (leb (operatorCode o) 6) (sameType left uint && sameType right uint)
     (cond (leb (operatorCode o) 8) (sameType left right) (sameType left boolean && sameType right boolean))
 
-abbrev pub resultType : Operator → DataType  -- Arithmetic gives uints, a comparison or a truth function bools.
+-- Arithmetic gives uints, a comparison or a truth function bools.
+abbrev pub resultType : Operator → DataType
 resultType o = cond (leb (operatorCode o) 4) uint boolean
 
 module _ (scope : Scope) where

@@ -1,21 +1,25 @@
--- 01, Runs and views: plain values and cells, the ledger, the walk of a written body on it; deployment; calls with supplied values, and honest ones; numbers 17 to 20.
+-- 01, Runs and views: plain values and cells, the ledger, the walk of a written body on it; deployment;
+-- calls with supplied values, and honest ones; numbers 17 to 20.
 use Rattle.definitions.specs.Basics.{Bool, true, false, _&&_, _||_, cond, not, List, [], ℕ, eqb, getD, set, all, isTrue, _∷_, _++_, map, zipWith, suc, _+_, leb, ltb, length, replicate, any, countIf, isZero, firstThatHolds}
 use Rattle.definitions.specs.ContractFile.{Name, meName, Field, DataType, boolean, Statement, Parameter, Function, Scope, functionAt, scopeOf, isFinal, isOfType, typeOf, contractIn}
 use Rattle.definitions.specs.Original.{position, Reader, anyone, only, readerOf, operate, operates, negate, perPlace, addressIn, placeReaders, deployedNumbers, value, placesAfter}
 use Rattle.definitions.specs.Rewriting.{BodyExpression, Circuit, Command, Claim, equals, opensForCaller, Guard, always, under, Constraint, Variable, supplied, readFrom, guard, variableOwner, inBody, inBranch, rewriteStatement, openings, privateParameters, rewriteFunction}
 use Rattle.definitions.specs.Numbers.{checkNumber, orElse}
 
-pub record Cell : Type 0 where  -- "A supplied cell's serial is the call and 8 + variable; a private argument's is the call and parameter."
+-- "A supplied cell's serial is the call and 8 + variable; a private argument's is the call and parameter."
+pub record Cell : Type 0 where
   pub owner : ℕ
   pub call : ℕ
   pub index : ℕ
   pub value : ℕ
 
-pub data Content : Type 0 where  -- What a place, a parameter or a variable holds.
+-- What a place, a parameter or a variable holds.
+pub data Content : Type 0 where
   plain : ℕ → Content
   cell : Cell → Content
 
-pub record Ledger : Type 0 where  -- "A ledger carries its contract's file." Then the last call, its parameters and variables as the view lists them, and the places.
+-- "A ledger carries its contract's file." Then the last call, its parameters and variables as the view lists them, and the places.
+pub record Ledger : Type 0 where
   pub file : List ℕ
   pub call : ℕ
   pub function : ℕ
@@ -25,14 +29,19 @@ pub record Ledger : Type 0 where  -- "A ledger carries its contract's file." The
   pub variables : List Content
   pub places : List Content
 
-abbrev pub plainNumber : Content → ℕ  -- The number that the walk may use: a cell's content is not to be had there.
+-- The number that the walk may use: a cell's content is not to be had there.
+abbrev pub plainNumber : Content → ℕ
 plainNumber = elim [ plain v ↦ v | cell c ↦ 0 ]
 
 abbrev pub openedNumber : Content → ℕ
 openedNumber = elim [ plain v ↦ v | cell c ↦ c .value ]
 
-abbrev pub contentFor : Reader → ℕ → ℕ → ℕ → Content  -- A value for its readers: plain for all, or a cell of one address with a serial.
-contentFor reader call index v = elim reader [ anyone ↦ plain v | only x ↦ cell (record { owner = x; call = call; index = index; value = v }) ]
+-- A value for its readers: plain for all, or a cell of one address with a serial.
+abbrev pub contentFor : Reader → ℕ → ℕ → ℕ → Content
+contentFor reader call index v = elim reader [
+  | anyone ↦ plain v
+  | only x ↦ cell (record { owner = x; call = call; index = index; value = v })
+]
 
 pub record State : Type 0 where
   pub places : List Content
@@ -56,13 +65,15 @@ module _ (address : Name → ℕ) where
   unfoldable pub circuitValue : List Content → Circuit → ℕ
   circuitValue variables (Circuit.constant t v) = v
   circuitValue variables Circuit.me = address meName
-  circuitValue variables (Circuit.operator o left right) = operate o (circuitValue variables left) (circuitValue variables right)
+  circuitValue variables (Circuit.operator o left right) =
+      operate o (circuitValue variables left) (circuitValue variables right)
   circuitValue variables (Circuit.negation part) = negate (circuitValue variables part)
   circuitValue variables (Circuit.variable i) = plainNumber (contentAt variables i)
   circuitValue variables (Circuit.opened i) = openedNumber (contentAt variables i)
 
   abbrev pub claimHolds : List Content → Claim → Bool
-  claimHolds variables (equals i o circuit) = isContentOf (readerOf address o) (circuitValue variables circuit) (contentAt variables i)
+  claimHolds variables (equals i o circuit) =
+      isContentOf (readerOf address o) (circuitValue variables circuit) (contentAt variables i)
   claimHolds variables (opensForCaller i) = opensFor (address meName) (contentAt variables i)
 
   abbrev pub constraintHolds : List Content → Constraint → Bool
@@ -74,9 +85,11 @@ module _ (address : Name → ℕ) where
     contentOf s (BodyExpression.constant t v) = plain v
     contentOf s BodyExpression.me = plain (address meName)
     contentOf s (BodyExpression.field f) = contentAt (s .places) (position fields f 0)
-    contentOf s (BodyExpression.entry f key) = contentAt (s .places) (position fields f (plainNumber (contentOf s key)))
+    contentOf s (BodyExpression.entry f key) =
+        contentAt (s .places) (position fields f (plainNumber (contentOf s key)))
     contentOf s (BodyExpression.parameter k) = contentAt parameters k
-    contentOf s (BodyExpression.operator o left right) = plain (operate o (plainNumber (contentOf s left)) (plainNumber (contentOf s right)))
+    contentOf s (BodyExpression.operator o left right) =
+        plain (operate o (plainNumber (contentOf s left)) (plainNumber (contentOf s right)))
     contentOf s (BodyExpression.negation part) = plain (negate (plainNumber (contentOf s part)))
     contentOf s (BodyExpression.variable i) = contentAt (s .variables) i
 
@@ -86,52 +99,96 @@ module _ (address : Name → ℕ) where
     isWalked s (BodyExpression.field f) = true
     isWalked s (BodyExpression.entry f key) = isWalked s key
     isWalked s (BodyExpression.parameter k) = true
-    isWalked s (BodyExpression.operator o left right) = isWalked s left && isWalked s right && operates o (plainNumber (contentOf s right))
+    isWalked s (BodyExpression.operator o left right) =
+        isWalked s left
+        && isWalked s right
+        && operates o (plainNumber (contentOf s right))
     isWalked s (BodyExpression.negation part) = isWalked s part
     isWalked s (BodyExpression.variable i) = true
 
     unfoldable pub stateAfter : State → Command → State
     stateAfter s Command.skip = s
     stateAfter s (Command.sequence first second) = stateAfter (stateAfter s first) second
-    stateAfter s (Command.assignField f value) = record { places = set (s .places) (position fields f 0) (contentOf s value); variables = s .variables }
-    stateAfter s (Command.assignEntry f key value) =
-        record { places = set (s .places) (position fields f (plainNumber (contentOf s key))) (contentOf s value); variables = s .variables }
+    stateAfter s (Command.assignField f value) = record {
+      places = set (s .places) (position fields f 0) (contentOf s value);
+      variables = s .variables;
+    }
+    stateAfter s (Command.assignEntry f key value) = record {
+      places = set (s .places) (position fields f (plainNumber (contentOf s key))) (contentOf s value);
+      variables = s .variables;
+    }
     stateAfter s (Command.require condition) = s
-    stateAfter s (Command.conditional condition then else) = cond (isTrue (plainNumber (contentOf s condition))) (stateAfter s then) (stateAfter s else)
-    stateAfter s (Command.setVariable i value) = record { places = s .places; variables = set (s .variables) i (contentOf s value) }
+    stateAfter s (Command.conditional condition then else) =
+        cond (isTrue (plainNumber (contentOf s condition)))
+        (stateAfter s then)
+        (stateAfter s else)
+    stateAfter s (Command.setVariable i value) = record {
+      places = s .places;
+      variables = set (s .variables) i (contentOf s value);
+    }
     stateAfter s Command.verify = s
 
-    unfoldable pub walkCompletes : List Constraint → State → Command → Bool  -- "a false require, or a verify with a constraint that doesn't hold, fails it"
+    -- "a false require, or a verify with a constraint that doesn't hold, fails it"
+    unfoldable pub walkCompletes : List Constraint → State → Command → Bool
     walkCompletes constraints s Command.skip = true
-    walkCompletes constraints s (Command.sequence first second) = walkCompletes constraints s first && walkCompletes constraints (stateAfter s first) second
+    walkCompletes constraints s (Command.sequence first second) =
+        walkCompletes constraints s first
+        && walkCompletes constraints (stateAfter s first) second
     walkCompletes constraints s (Command.assignField f value) = isWalked s value
     walkCompletes constraints s (Command.assignEntry f key value) = isWalked s key && isWalked s value
-    walkCompletes constraints s (Command.require condition) = isWalked s condition && isTrue (plainNumber (contentOf s condition))
+    walkCompletes constraints s (Command.require condition) =
+        isWalked s condition && isTrue (plainNumber (contentOf s condition))
     walkCompletes constraints s (Command.conditional condition then else) =
-        isWalked s condition && cond (isTrue (plainNumber (contentOf s condition))) (walkCompletes constraints s then) (walkCompletes constraints s else)
+        isWalked s condition
+        && cond (isTrue (plainNumber (contentOf s condition)))
+        (walkCompletes constraints s then)
+        (walkCompletes constraints s else)
     walkCompletes constraints s (Command.setVariable i value) = isWalked s value
     walkCompletes constraints s Command.verify = all (constraintHolds (s .variables)) constraints
 
-abbrev pub finalsOff : List Field → List ℕ → Bool  -- "17. Deployment gives other than one address, 0 to 15, for each final."
-finalsOff fields addresses = not (eqb (length addresses) (countIf (λ d. isFinal (d .shape)) fields)) || any (ltb 15) addresses
+-- "17. Deployment gives other than one address, 0 to 15, for each final."
+abbrev pub finalsOff : List Field → List ℕ → Bool
+finalsOff fields addresses =
+    not (eqb (length addresses) (countIf (λ d. isFinal (d .shape)) fields))
+    || any (ltb 15) addresses
 
-unfoldable pub deployNumber : List ℕ → List ℕ → ℕ  -- "deployment 1 to 15 and 17"
-deployNumber file addresses = orElse (checkNumber file) (firstThatHolds 17 (finalsOff ((contractIn file) .fields) addresses ∷ []))
+-- "deployment 1 to 15 and 17"
+unfoldable pub deployNumber : List ℕ → List ℕ → ℕ
+deployNumber file addresses =
+    orElse (checkNumber file) (firstThatHolds 17 (finalsOff ((contractIn file) .fields) addresses ∷ []))
 
-unfoldable pub deployed : List ℕ → List ℕ → Ledger  -- "At deployment finals are given; all else is 0, private places being cells of serial 0, 0."
-deployed file addresses = let fields = (contractIn file) .fields in let numbers = deployedNumbers fields addresses in
+-- "At deployment finals are given; all else is 0, private places being cells of serial 0, 0."
+unfoldable pub deployed : List ℕ → List ℕ → Ledger
+deployed file addresses =
+    let fields = (contractIn file) .fields in
+    let numbers = deployedNumbers fields addresses in
     let places = zipWith (λ reader n. contentFor reader 0 0 n) (placeReaders fields numbers) numbers in
-    record { file = file; call = 0; function = 0; caller = 0; outcome = 0; parameters = []; variables = []; places = places }
+    record {
+      file = file;
+      call = 0;
+      function = 0;
+      caller = 0;
+      outcome = 0;
+      parameters = [];
+      variables = [];
+      places = places;
+    }
 
-pub record Form : Type 0 where  -- What the file asks of an item: its type, and plain or a cell of one address.
+-- What the file asks of an item: its type, and plain or a cell of one address.
+pub record Form : Type 0 where
   pub type : DataType
   pub reader : Reader
 
 abbrev pub fits : Form → Content → Bool
-fits form content = elim (form .reader) [ anyone ↦ elim content [ plain v ↦ true | cell c ↦ false ] | only x ↦ opensFor x content ]
+fits form content =
+    elim (form .reader) [
+      | anyone ↦ elim content [ plain v ↦ true | cell c ↦ false ]
+      | only x ↦ opensFor x content
+    ]
     && isOfType (form .type) (openedNumber content)
 
-abbrev pub isPlainZero : Content → Bool  -- "a variable may be plain 0"
+-- "a variable may be plain 0"
+abbrev pub isPlainZero : Content → Bool
 isPlainZero = elim [ plain v ↦ isZero v | cell c ↦ false ]
 
 unfoldable pub allFit : (Form → Content → Bool) → List Form → List Content → Bool
@@ -140,112 +197,195 @@ allFit test [] (c ∷ cs) = false
 allFit test (f ∷ fs) [] = false
 allFit test (f ∷ fs) (c ∷ cs) = test f c && allFit test fs cs
 
-abbrev pub variableType : Scope → Variable → DataType  -- A variable's type is that of the expression that it is supplied for or read from; a guard is a bool.
-variableType scope = elim [ supplied o e ↦ typeOf scope e | readFrom o e ↦ typeOf scope e | guard ↦ boolean ]
+-- A variable's type is that of the expression that it is supplied for or read from; a guard is a bool.
+abbrev pub variableType : Scope → Variable → DataType
+variableType scope = elim [
+  | supplied o e ↦ typeOf scope e
+  | readFrom o e ↦ typeOf scope e
+  | guard ↦ boolean
+]
 
 unfoldable pub publicOf : {A : Type 0} → List Parameter → List A → List A
 publicOf [] items = []
 publicOf (p ∷ ps) [] = []
-publicOf (p ∷ ps) (item ∷ items) = cond (p .private) (publicOf ps items) (item ∷ publicOf ps items)
+publicOf (p ∷ ps) (item ∷ items) =
+    cond (p .private)
+    (publicOf ps items)
+    (item ∷ publicOf ps items)
 
 abbrev pub parameterForm : ℕ → Parameter → Form
 parameterForm caller p = record { type = p .type; reader = cond (p .private) (only caller) anyone }
 
--- "18. The ledger isn't well formed (its own file passes 1 to 15, its finals 17; its last call is zero or a possible one; each item of
--- its view has the type, and is plain or a cell of the owner address, that the file asks; a variable may be plain 0)"
+-- "18. The ledger isn't well formed (its own file passes 1 to 15, its finals 17; its last call is zero or a possible one;
+-- each item of its view has the type, and is plain or a cell of the owner address, that the file asks; a variable may be plain 0)"
 module _ (l : Ledger) where
   abbrev pub functionOfLedger : ℕ → Function
   functionOfLedger f = functionAt ((contractIn (l .file)) .functions) f
 
-  abbrev pub lastAddress : Name → ℕ  -- The address of each name in the last call.
-  lastAddress = addressIn (scopeOf (contractIn (l .file)) (l .function)) (l .caller) (map plainNumber (l .parameters)) (map plainNumber (l .places))
+  -- The address of each name in the last call.
+  abbrev pub lastAddress : Name → ℕ
+  lastAddress =
+      addressIn (scopeOf (contractIn (l .file)) (l .function)) (l .caller)
+      (map plainNumber (l .parameters)) (map plainNumber (l .places))
 
-  abbrev pub isBeforeCalls : Bool  -- Before any call; after a done call; after a failed one, which "shows public parameters and no variables".
-  isBeforeCalls = isZero (l .call) && isZero (l .function) && isZero (l .caller) && isZero (l .outcome)
-      && allFit fits [] (l .parameters) && allFit fits [] (l .variables)
+  -- Before any call; after a done call; after a failed one, which "shows public parameters and no variables".
+  abbrev pub isBeforeCalls : Bool
+  isBeforeCalls =
+      isZero (l .call)
+      && isZero (l .function)
+      && isZero (l .caller)
+      && isZero (l .outcome)
+      && allFit fits [] (l .parameters)
+      && allFit fits [] (l .variables)
 
   abbrev pub isAfterDone : Bool
-  isAfterDone = let g = functionOfLedger (l .function) in let scope = scopeOf (contractIn (l .file)) (l .function) in
-      let form : Variable → Form = λ v. record { type = variableType scope v; reader = readerOf lastAddress (variableOwner v) } in
-      isZero (l .outcome) && allFit fits (map (parameterForm (l .caller)) (g .parameters)) (l .parameters)
-      && allFit (λ form c. isPlainZero c || fits form c) (map form ((rewriteFunction ((contractIn (l .file)) .fields) g) .variables)) (l .variables)
+  isAfterDone =
+      let g = functionOfLedger (l .function) in
+      let scope = scopeOf (contractIn (l .file)) (l .function) in
+      let form : Variable → Form = λ v. record {
+        type = variableType scope v;
+        reader = readerOf lastAddress (variableOwner v);
+      } in
+      isZero (l .outcome)
+      && allFit fits (map (parameterForm (l .caller)) (g .parameters)) (l .parameters)
+      && allFit (λ form c. isPlainZero c || fits form c)
+      (map form ((rewriteFunction ((contractIn (l .file)) .fields) g) .variables))
+      (l .variables)
 
   abbrev pub isAfterFailed : Bool
-  isAfterFailed = let parameters = (functionOfLedger (l .function)) .parameters in
-      eqb (l .outcome) 1 && allFit fits (publicOf parameters (map (parameterForm (l .caller)) parameters)) (l .parameters) && allFit fits [] (l .variables)
+  isAfterFailed =
+      let parameters = (functionOfLedger (l .function)) .parameters in
+      eqb (l .outcome) 1
+      && allFit fits (publicOf parameters (map (parameterForm (l .caller)) parameters)) (l .parameters)
+      && allFit fits [] (l .variables)
 
   abbrev pub isAfterCall : Bool
-  isAfterCall = ltb 0 (l .call) && leb (l .call) 65535 && ltb (l .function) (length ((contractIn (l .file)) .functions)) && leb (l .caller) 15
+  isAfterCall =
+      ltb 0 (l .call)
+      && leb (l .call) 65535
+      && ltb (l .function) (length ((contractIn (l .file)) .functions))
+      && leb (l .caller) 15
       && (isAfterDone || isAfterFailed)
 
   unfoldable pub isWellFormed : Bool
-  isWellFormed = let fields = (contractIn (l .file)) .fields in let readers = placeReaders fields (map plainNumber (l .places)) in
+  isWellFormed =
+      let fields = (contractIn (l .file)) .fields in
+      let readers = placeReaders fields (map plainNumber (l .places)) in
       let forms : List Form = zipWith (λ t r. record { type = t; reader = r }) (perPlace (λ d _. d .type) fields) readers in
-      isZero (checkNumber (l .file)) && (isBeforeCalls || isAfterCall) && allFit fits forms (l .places)
+      isZero (checkNumber (l .file))
+      && (isBeforeCalls || isAfterCall)
+      && allFit fits forms (l .places)
 
-module _ (l : Ledger) (function caller : ℕ) where  -- "or a caller is above 15, or the function doesn't exist"
+-- "or a caller is above 15, or the function doesn't exist"
+module _ (l : Ledger) (function caller : ℕ) where
   unfoldable pub notCallable : Bool
-  notCallable = not (isWellFormed l) || ltb 15 caller || leb (length ((contractIn (l .file)) .functions)) function
+  notCallable =
+      not (isWellFormed l)
+      || ltb 15 caller
+      || leb (length ((contractIn (l .file)) .functions)) function
 
-  unfoldable pub argumentsOff : List ℕ → Bool  -- "19. Arguments differ in number from the parameters, or one is outside its type."
-  argumentsOff arguments = not (eqb (length arguments) (length ((functionOfLedger l function) .parameters)))
+  -- "19. Arguments differ in number from the parameters, or one is outside its type."
+  unfoldable pub argumentsOff : List ℕ → Bool
+  argumentsOff arguments =
+      not (eqb (length arguments) (length ((functionOfLedger l function) .parameters)))
       || any not (zipWith (λ p v. isOfType (p .type) v) ((functionOfLedger l function) .parameters) arguments)
 
-  unfoldable pub callNumber : List ℕ → ℕ  -- "20. Call number 65,535 has been used."; "a call 18 to 20"
+  -- "20. Call number 65,535 has been used."; "a call 18 to 20"
+  unfoldable pub callNumber : List ℕ → ℕ
   callNumber arguments = firstThatHolds 18 (notCallable ∷ argumentsOff arguments ∷ leb 65535 (l .call) ∷ [])
 
   abbrev pub afterCall : ℕ → List Content → State → Ledger
-  afterCall outcome shown end =
-      record { file = l .file; call = suc (l .call); function = function; caller = caller; outcome = outcome; parameters = shown; variables = end .variables; places = end .places }
+  afterCall outcome shown end = record {
+    file = l .file;
+    call = suc (l .call);
+    function = function;
+    caller = caller;
+    outcome = outcome;
+    parameters = shown;
+    variables = end .variables;
+    places = end .places;
+  }
 
   -- A call with given parameters and supplied values: "A call walks the function's written body". "A failed call restores every place."
   unfoldable pub callWith : List Content → List Content → Ledger
-  callWith parameters variables = let fields = (contractIn (l .file)) .fields in let g = rewriteFunction fields (functionOfLedger l function) in
+  callWith parameters variables =
+      let fields = (contractIn (l .file)) .fields in
+      let g = rewriteFunction fields (functionOfLedger l function) in
       let address = addressIn (scopeOf (contractIn (l .file)) function) caller (map plainNumber parameters) (map plainNumber (l .places)) in
       let start : State = record { places = l .places; variables = variables } in
       cond (walkCompletes address fields parameters (g .constraints) start (g .body))
       (afterCall 0 parameters (stateAfter address fields parameters start (g .body)))
       (afterCall 1 (publicOf ((functionOfLedger l function) .parameters) parameters) (record { places = l .places; variables = [] }))
 
--- "An honest supplied variable holds what the original works out for its expression, as a cell of its owner if a cell; in an untaken branch it stays plain 0."
+-- "An honest supplied variable holds what the original works out for its expression, as a cell of its owner if a cell;
+-- in an untaken branch it stays plain 0."
 module _ (scope : Scope) (address : Name → ℕ) (call : ℕ) (arguments : List ℕ) where
-  abbrev pub honestContent : List ℕ → ℕ → Variable → Content  -- "A supplied cell's serial is the call and 8 + variable"
-  honestContent places i =
-      elim [ supplied o e ↦ contentFor (readerOf address o) call (8 + i) (value (scope .fields) address arguments places e) | readFrom o e ↦ plain 0 | guard ↦ plain 0 ]
+  -- "A supplied cell's serial is the call and 8 + variable"
+  abbrev pub honestContent : List ℕ → ℕ → Variable → Content
+  honestContent places i = elim [
+    | supplied o e ↦
+        contentFor (readerOf address o) call (8 + i) (value (scope .fields) address arguments places e)
+    | readFrom o e ↦ plain 0
+    | guard ↦ plain 0
+  ]
 
   unfoldable pub honestContents : List ℕ → ℕ → List Variable → List Content
   honestContents places i [] = []
   honestContents places i (v ∷ vs) = honestContent places i v ∷ honestContents places (suc i) vs
 
-  unfoldable pub honestVariables : Statement → List ℕ → Guard → ℕ → List Content  -- The variables of a statement that is worked out on these places, from number i on.
+  -- The variables of a statement that is worked out on these places, from number i on.
+  unfoldable pub honestVariables : Statement → List ℕ → Guard → ℕ → List Content
   honestVariables Statement.skip places g i = []
-  honestVariables (Statement.sequence first second) places g i = honestVariables first places g i
-      ++ honestVariables second (placesAfter (scope .fields) address arguments places first) g (i + length ((rewriteStatement scope first g i) .variables))
-  honestVariables (Statement.assignField f e) places g i = honestContents places i ((rewriteStatement scope (Statement.assignField f e) g i) .variables)
-  honestVariables (Statement.assignEntry f key e) places g i = honestContents places i ((rewriteStatement scope (Statement.assignEntry f key e) g i) .variables)
-  honestVariables (Statement.require condition) places g i = honestContents places i ((rewriteStatement scope (Statement.require condition) g i) .variables)
-  honestVariables (Statement.conditional condition then else) places g i = let c = inBody scope condition i in let j = i + length (c .variables) in
-      let a = inBranch (rewriteStatement scope then) j in let k = j + length (a .variables) in let b = inBranch (rewriteStatement scope else) k in
-      honestContents places i (c .variables) ++ cond (isTrue (value (scope .fields) address arguments places condition))
+  honestVariables (Statement.sequence first second) places g i =
+      honestVariables first places g i
+      ++ honestVariables second
+      (placesAfter (scope .fields) address arguments places first)
+      g
+      (i + length ((rewriteStatement scope first g i) .variables))
+  honestVariables (Statement.assignField f e) places g i =
+      honestContents places i ((rewriteStatement scope (Statement.assignField f e) g i) .variables)
+  honestVariables (Statement.assignEntry f key e) places g i =
+      honestContents places i ((rewriteStatement scope (Statement.assignEntry f key e) g i) .variables)
+  honestVariables (Statement.require condition) places g i =
+      honestContents places i ((rewriteStatement scope (Statement.require condition) g i) .variables)
+  honestVariables (Statement.conditional condition then else) places g i =
+      let c = inBody scope condition i in
+      let j = i + length (c .variables) in
+      let a = inBranch (rewriteStatement scope then) j in
+      let k = j + length (a .variables) in
+      let b = inBranch (rewriteStatement scope else) k in
+      honestContents places i (c .variables)
+      ++ cond (isTrue (value (scope .fields) address arguments places condition))
       (plain 0 ∷ honestVariables then places (under j) (suc j) ++ replicate (length (b .variables)) (plain 0))
       (replicate (length (a .variables)) (plain 0) ++ (plain 0 ∷ honestVariables else places (under k) (suc k)))
 
-unfoldable pub honestParameters : ℕ → ℕ → ℕ → List Parameter → List ℕ → List Content  -- "a private argument's is the call and parameter"
+-- "a private argument's is the call and parameter"
+unfoldable pub honestParameters : ℕ → ℕ → ℕ → List Parameter → List ℕ → List Content
 honestParameters caller call k [] arguments = []
 honestParameters caller call k (p ∷ ps) [] = []
 honestParameters caller call k (p ∷ ps) (v ∷ arguments) =
-    contentFor (cond (p .private) (only caller) anyone) call k v ∷ honestParameters caller call (suc k) ps arguments
+    contentFor (cond (p .private) (only caller) anyone) call k v
+    ∷ honestParameters caller call (suc k) ps arguments
 
 -- The honest call is the call with the honest parameters and supplied values; the original works on the places opened.
 module _ (l : Ledger) (function caller : ℕ) (arguments : List ℕ) where
   abbrev pub honestParametersOf : List Content
-  honestParametersOf = honestParameters caller (suc (l .call)) 0 ((functionOfLedger l function) .parameters) arguments
+  honestParametersOf =
+      honestParameters caller (suc (l .call)) 0 ((functionOfLedger l function) .parameters) arguments
 
   abbrev pub honestVariablesOf : List Content
-  honestVariablesOf = let scope = scopeOf (contractIn (l .file)) function in let places = map openedNumber (l .places) in
-      let address = addressIn scope caller arguments places in let opening = openings (privateParameters 0 (scope .parameters)) 0 in
+  honestVariablesOf =
+      let scope = scopeOf (contractIn (l .file)) function in
+      let places = map openedNumber (l .places) in
+      let address = addressIn scope caller arguments places in
+      let opening = openings (privateParameters 0 (scope .parameters)) 0 in
       honestContents scope address (suc (l .call)) arguments places 0 (opening .variables)
-      ++ honestVariables scope address (suc (l .call)) arguments ((functionOfLedger l function) .body) places always (length (opening .variables))
+      ++ honestVariables scope address (suc (l .call)) arguments
+      ((functionOfLedger l function) .body) places always (length (opening .variables))
 
-  unfoldable pub ledgerAfterCall : Ledger  -- "lent memory and ledger keep their contents": a refused call hands back the ledger that it was given.
-  ledgerAfterCall = cond (isZero (callNumber l function caller arguments)) (callWith l function caller honestParametersOf honestVariablesOf) l
+  -- "lent memory and ledger keep their contents": a refused call hands back the ledger that it was given.
+  unfoldable pub ledgerAfterCall : Ledger
+  ledgerAfterCall =
+      cond (isZero (callNumber l function caller arguments))
+      (callWith l function caller honestParametersOf honestVariablesOf)
+      l

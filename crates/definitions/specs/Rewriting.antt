@@ -1,10 +1,12 @@
--- 01, Rewriting (004, figure 5): the rewritten contract as trees, and of an accepted one; the written file, to the byte; what writing does with the lent output.
+-- 01, Rewriting (004, figure 5): the rewritten contract as trees, and of an accepted one; the written file, to the byte;
+-- what writing does with the lent output.
 use Rattle.definitions.specs.Basics.{cond, List, [], ℕ, _&&_, _∷_, _++_, map, none, suc, _+_, length, _-_, _/_, _%_, eqb, ltb, drop, any, flatMap, twoBytes, firstThatHolds}
 use Rattle.definitions.specs.ContractFile.{DataType, Owner, everyone, isEveryone, Operator, Expression, Parameter, Field, boolean, meName, ownedBy, Statement, Function, Contract, Scope, fieldAt, isDivision, dataTypeCode, shapeCode, operatorCode, NodeRecord, node, ownerCode, fieldOwnerCode, contractIn}
 use Rattle.definitions.specs.Owners.{nameOf, ownerOf, placeOwner, isPublic}
 use Rattle.definitions.specs.Numbers.{checkNumber, orElse}
 
-pub data BodyExpression : Type 0 where  -- An expression of a written body: "Nodes follow as in input, with 9 variable first".
+-- An expression of a written body: "Nodes follow as in input, with 9 variable first".
+pub data BodyExpression : Type 0 where
   constant : DataType → ℕ → BodyExpression
   me : BodyExpression
   field parameter variable : ℕ → BodyExpression
@@ -12,14 +14,16 @@ pub data BodyExpression : Type 0 where  -- An expression of a written body: "Nod
   operator : Operator → BodyExpression → BodyExpression → BodyExpression
   negation : BodyExpression → BodyExpression
 
-pub data Circuit : Type 0 where  -- "The circuit keeps constants, me, operators and not"; "10 variable first opened".
+-- "The circuit keeps constants, me, operators and not"; "10 variable first opened".
+pub data Circuit : Type 0 where
   constant : DataType → ℕ → Circuit
   me : Circuit
   operator : Operator → Circuit → Circuit → Circuit
   negation : Circuit → Circuit
   variable opened : ℕ → Circuit
 
-pub data Command : Type 0 where  -- A statement of a written body: ".. 22 variable first set to second, 23 verify".
+-- A statement of a written body: ".. 22 variable first set to second, 23 verify".
+pub data Command : Type 0 where
   skip verify : Command
   sequence : Command → Command → Command
   assignField : ℕ → BodyExpression → Command
@@ -33,11 +37,13 @@ pub data Variable : Type 0 where
   supplied readFrom : Owner → Expression → Variable
   guard : Variable
 
-pub data Claim : Type 0 where  -- What a constraint says: a variable, with its owner, is a circuit's value; or a variable opens for the caller.
+-- What a constraint says: a variable, with its owner, is a circuit's value; or a variable opens for the caller.
+pub data Claim : Type 0 where
   equals : ℕ → Owner → Circuit → Claim
   opensForCaller : ℕ → Claim
 
-pub data Guard : Type 0 where  -- "each guard (0, or 1 + variable)"
+-- "each guard (0, or 1 + variable)"
+pub data Guard : Type 0 where
   always : Guard
   under : ℕ → Guard
 
@@ -55,13 +61,19 @@ pub record WrittenContract : Type 0 where
   pub fields : List Field
   pub functions : List WrittenFunction
 
-abbrev pub origin : Variable → ℕ  -- A variable's origin, and its owner, which is everyone unless it holds a cell.
-origin = elim [ supplied o e ↦ cond (isEveryone o) 0 1 | readFrom o e ↦ cond (isEveryone o) 2 3 | guard ↦ 4 ]
+-- A variable's origin, and its owner, which is everyone unless it holds a cell.
+abbrev pub origin : Variable → ℕ
+origin = elim [
+  | supplied o e ↦ cond (isEveryone o) 0 1
+  | readFrom o e ↦ cond (isEveryone o) 2 3
+  | guard ↦ 4
+]
 
 abbrev pub variableOwner : Variable → Owner
 variableOwner = elim [ supplied o e ↦ o | readFrom o e ↦ o | guard ↦ everyone ]
 
-pub record Step : Type 0 where  -- "set on the ledger just before the statement"
+-- "set on the ledger just before the statement"
+pub record Step : Type 0 where
   pub variable : ℕ
   pub value : BodyExpression
 
@@ -73,143 +85,229 @@ pub record Piece (A : Type 0) : Type 0 where
   pub claims : List Claim
 
 abbrev pub piece : {A : Type 0} → List Variable → A → List Step → List Claim → Piece A
-piece variables form steps claims = record { variables = variables; form = form; steps = steps; claims = claims }
+piece variables form steps claims =
+    record { variables = variables; form = form; steps = steps; claims = claims }
 
-abbrev pub Generator : Type 0 → Type 0  -- "Each function has variables numbered from 0 as they are made": a piece, given the number of its first variable.
+-- "Each function has variables numbered from 0 as they are made": a piece, given the number of its first variable.
+abbrev pub Generator : Type 0 → Type 0
 Generator A = ℕ → Piece A
 
 unfoldable pub kept : {A : Type 0} → A → Generator A
 kept form i = piece [] form [] []
 
 unfoldable pub onePart : {A B : Type 0} → (A → B) → Generator A → Generator B
-onePart f part i = let a = part i in piece (a .variables) (f (a .form)) (a .steps) (a .claims)
+onePart f part i =
+    let a = part i in
+    piece (a .variables) (f (a .form)) (a .steps) (a .claims)
 
-unfoldable pub twoParts : {A B C : Type 0} → (A → B → C) → Generator A → Generator B → Generator C  -- "Parts are worked out and rewritten first, second, third."
-twoParts f first second i = let a = first i in let b = second (i + length (a .variables)) in
-    piece (a .variables ++ b .variables) (f (a .form) (b .form)) (a .steps ++ b .steps) (a .claims ++ b .claims)
+-- "Parts are worked out and rewritten first, second, third."
+unfoldable pub twoParts : {A B C : Type 0} → (A → B → C) → Generator A → Generator B → Generator C
+twoParts f first second i =
+    let a = first i in
+    let b = second (i + length (a .variables)) in
+    piece (a .variables ++ b .variables)
+    (f (a .form) (b .form))
+    (a .steps ++ b .steps)
+    (a .claims ++ b .claims)
 
 -- "Supplying makes the variable, then turns its expression into circuit form, then adds a constraint."
 unfoldable pub supplying : Owner → Expression → Generator Circuit → Generator BodyExpression
-supplying o e circuit i = let c = circuit (suc i) in
-    piece (supplied o e ∷ c .variables) (BodyExpression.variable i) (c .steps) (c .claims ++ (equals i o (c .form) ∷ []))
+supplying o e circuit i =
+    let c = circuit (suc i) in
+    piece (supplied o e ∷ c .variables)
+    (BodyExpression.variable i)
+    (c .steps)
+    (c .claims ++ (equals i o (c .form) ∷ []))
 
-abbrev pub readForm : Owner → ℕ → Circuit  -- A read variable in a circuit: as it stands where plain, opened where a cell.
+-- A read variable in a circuit: as it stands where plain, opened where a cell.
+abbrev pub readForm : Owner → ℕ → Circuit
 readForm o i = elim o [ everyone ↦ Circuit.variable i | ownedBy n ↦ Circuit.opened i ]
 
 -- "The read's own key or operands follow the body rule, and come before its variable."
 unfoldable pub reading : Owner → Expression → Generator BodyExpression → Generator Circuit
-reading o e value i = let v = value i in let j = i + length (v .variables) in
-    piece (v .variables ++ (readFrom o e ∷ [])) (readForm o j) (v .steps ++ (record { variable = j; value = v .form } ∷ [])) (v .claims)
+reading o e value i =
+    let v = value i in
+    let j = i + length (v .variables) in
+    piece (v .variables ++ (readFrom o e ∷ []))
+    (readForm o j)
+    (v .steps ++ (record { variable = j; value = v .form } ∷ []))
+    (v .claims)
 
 module _ (scope : Scope) where
   -- "The circuit keeps .. operators ..; replaces .. a public / or %, by a read variable"
-  abbrev pub operatorInCircuit : Operator → Expression → Expression → Generator BodyExpression → Generator BodyExpression → Generator Circuit → Generator Circuit → Generator Circuit
-  operatorInCircuit o left right leftBody rightBody leftCircuit rightCircuit = let e = Expression.operator o left right in
-      cond (isPublic scope e && isDivision o) (reading everyone e (twoParts (BodyExpression.operator o) leftBody rightBody))
+  abbrev pub operatorInCircuit : Operator → Expression → Expression
+      → Generator BodyExpression → Generator BodyExpression
+      → Generator Circuit → Generator Circuit
+      → Generator Circuit
+  operatorInCircuit o left right leftBody rightBody leftCircuit rightCircuit =
+      let e = Expression.operator o left right in
+      cond (isPublic scope e && isDivision o)
+      (reading everyone e (twoParts (BodyExpression.operator o) leftBody rightBody))
       (twoParts (Circuit.operator o) leftCircuit rightCircuit)
 
   unfoldable mutual
-    -- "In the body, public expressions stay, except that a reveal to all becomes a supplied variable. A private place stays a
-    -- place. A private operator or not is supplied as a cell of owner 1, a reveal as one of its target."
+    -- "In the body, public expressions stay, except that a reveal to all becomes a supplied variable. A private place
+    -- stays a place. A private operator or not is supplied as a cell of owner 1, a reveal as one of its target."
     pub inBody : Expression → Generator BodyExpression
     inBody (Expression.constant t v) = kept (BodyExpression.constant t v)
     inBody Expression.me = kept BodyExpression.me
     inBody (Expression.field f) = kept (BodyExpression.field f)
     inBody (Expression.entry f key) = onePart (BodyExpression.entry f) (inBody key)
     inBody (Expression.parameter k) = kept (BodyExpression.parameter k)
-    inBody (Expression.operator o left right) = let e = Expression.operator o left right in
-        cond (isPublic scope e) (twoParts (BodyExpression.operator o) (inBody left) (inBody right))
+    inBody (Expression.operator o left right) =
+        let e = Expression.operator o left right in
+        cond (isPublic scope e)
+        (twoParts (BodyExpression.operator o) (inBody left) (inBody right))
         (supplying (ownedBy meName) e (operatorInCircuit o left right (inBody left) (inBody right) (inCircuit left) (inCircuit right)))
-    inBody (Expression.negation part) = cond (isPublic scope (Expression.negation part)) (onePart BodyExpression.negation (inBody part))
+    inBody (Expression.negation part) =
+        cond (isPublic scope (Expression.negation part))
+        (onePart BodyExpression.negation (inBody part))
         (supplying (ownedBy meName) (Expression.negation part) (onePart Circuit.negation (inCircuit part)))
     inBody (Expression.reveal part o) = supplying o (Expression.reveal part o) (inCircuit part)
 
-    -- "The circuit keeps constants, me, operators and not; passes through reveals; replaces a place, or a public / or %, by a read
-    -- variable". "a read cell has its place's code".
+    -- "The circuit keeps constants, me, operators and not; passes through reveals;
+    -- replaces a place, or a public / or %, by a read variable". "a read cell has its place's code".
     pub inCircuit : Expression → Generator Circuit
     inCircuit (Expression.constant t v) = kept (Circuit.constant t v)
     inCircuit Expression.me = kept Circuit.me
-    inCircuit (Expression.field f) = reading (ownerOf scope (Expression.field f)) (Expression.field f) (kept (BodyExpression.field f))
-    inCircuit (Expression.entry f key) = reading (ownerOf scope (Expression.entry f key)) (Expression.entry f key) (onePart (BodyExpression.entry f) (inBody key))
-    inCircuit (Expression.parameter k) = reading (ownerOf scope (Expression.parameter k)) (Expression.parameter k) (kept (BodyExpression.parameter k))
-    inCircuit (Expression.operator o left right) = operatorInCircuit o left right (inBody left) (inBody right) (inCircuit left) (inCircuit right)
+    inCircuit (Expression.field f) =
+        reading (ownerOf scope (Expression.field f))
+        (Expression.field f)
+        (kept (BodyExpression.field f))
+    inCircuit (Expression.entry f key) =
+        reading (ownerOf scope (Expression.entry f key))
+        (Expression.entry f key)
+        (onePart (BodyExpression.entry f) (inBody key))
+    inCircuit (Expression.parameter k) =
+        reading (ownerOf scope (Expression.parameter k))
+        (Expression.parameter k)
+        (kept (BodyExpression.parameter k))
+    inCircuit (Expression.operator o left right) =
+        operatorInCircuit o left right (inBody left) (inBody right) (inCircuit left) (inCircuit right)
     inCircuit (Expression.negation part) = onePart Circuit.negation (inCircuit part)
     inCircuit (Expression.reveal part o) = inCircuit part
 
-  abbrev pub inPlace : Owner → Expression → Generator BodyExpression  -- "A public value put into a private place is supplied as a cell of that place's owner code."
+  -- "A public value put into a private place is supplied as a cell of that place's owner code."
+  abbrev pub inPlace : Owner → Expression → Generator BodyExpression
   inPlace everyone e = inBody e
   inPlace (ownedBy n) e = cond (isPublic scope e) (supplying (ownedBy n) e (inCircuit e)) (inBody e)
 
-unfoldable pub stepsBefore : List Step → Command → Command  -- "Steps nest rightwards: (step, rest)"
+-- "Steps nest rightwards: (step, rest)"
+unfoldable pub stepsBefore : List Step → Command → Command
 stepsBefore [] rest = rest
-stepsBefore (s ∷ steps) rest = Command.sequence (Command.setVariable (s .variable) (s .value)) (stepsBefore steps rest)
+stepsBefore (s ∷ steps) rest =
+    Command.sequence (Command.setVariable (s .variable) (s .value)) (stepsBefore steps rest)
 
 abbrev pub heldUnder : Guard → List Claim → List Constraint
 heldUnder g claims = map (λ c. record { guard = g; claim = c }) claims
 
-pub record Passage : Type 0 where  -- What rewriting a statement makes, given its innermost guard and the number of its first variable.
+-- What rewriting a statement makes, given its innermost guard and the number of its first variable.
+pub record Passage : Type 0 where
   pub variables : List Variable
   pub command : Command
   pub constraints : List Constraint
 
 abbrev pub passage : List Variable → Command → List Constraint → Passage
-passage variables command constraints = record { variables = variables; command = command; constraints = constraints }
+passage variables command constraints =
+    record { variables = variables; command = command; constraints = constraints }
 
 abbrev pub StatementGenerator : Type 0
 StatementGenerator = Guard → ℕ → Passage
 
 unfoldable pub single : Generator Command → StatementGenerator
-single m g i = let a = m i in passage (a .variables) (stepsBefore (a .steps) (a .form)) (heldUnder g (a .claims))
+single m g i =
+    let a = m i in
+    passage (a .variables)
+    (stepsBefore (a .steps) (a .form))
+    (heldUnder g (a .claims))
 
 unfoldable pub inSequence : StatementGenerator → StatementGenerator → StatementGenerator
-inSequence first second g i = let a = first g i in let b = second g (i + length (a .variables)) in
-    passage (a .variables ++ b .variables) (Command.sequence (a .command) (b .command)) (a .constraints ++ b .constraints)
+inSequence first second g i =
+    let a = first g i in
+    let b = second g (i + length (a .variables)) in
+    passage (a .variables ++ b .variables)
+    (Command.sequence (a .command) (b .command))
+    (a .constraints ++ b .constraints)
 
 -- "Each branch begins by setting a guard variable of its own to true; constraints inside hold under the innermost guard."
 unfoldable pub inBranch : StatementGenerator → ℕ → Passage
-inBranch inside i = let a = inside (under i) (suc i) in
-    passage (guard ∷ a .variables) (Command.sequence (Command.setVariable i (BodyExpression.constant boolean 1)) (a .command)) (a .constraints)
+inBranch inside i =
+    let a = inside (under i) (suc i) in
+    passage (guard ∷ a .variables)
+    (Command.sequence (Command.setVariable i (BodyExpression.constant boolean 1)) (a .command))
+    (a .constraints)
 
-unfoldable pub inBranches : Generator BodyExpression → StatementGenerator → StatementGenerator → StatementGenerator
-inBranches condition then else g i = let c = condition i in let j = i + length (c .variables) in let a = inBranch then j in
+unfoldable pub inBranches : Generator BodyExpression
+    → StatementGenerator → StatementGenerator → StatementGenerator
+inBranches condition then else g i =
+    let c = condition i in
+    let j = i + length (c .variables) in
+    let a = inBranch then j in
     let b = inBranch else (j + length (a .variables)) in
-    passage (c .variables ++ (a .variables ++ b .variables)) (stepsBefore (c .steps) (Command.conditional (c .form) (a .command) (b .command)))
+    passage (c .variables ++ (a .variables ++ b .variables))
+    (stepsBefore (c .steps) (Command.conditional (c .form) (a .command) (b .command)))
     (heldUnder g (c .claims) ++ (a .constraints ++ b .constraints))
 
 unfoldable pub rewriteStatement : Scope → Statement → StatementGenerator
 rewriteStatement scope Statement.skip = single (kept Command.skip)
-rewriteStatement scope (Statement.sequence first second) = inSequence (rewriteStatement scope first) (rewriteStatement scope second)
+rewriteStatement scope (Statement.sequence first second) =
+    inSequence (rewriteStatement scope first) (rewriteStatement scope second)
 rewriteStatement scope (Statement.assignField f value) =
     single (onePart (Command.assignField f) (inPlace scope (placeOwner ((fieldAt (scope .fields) f) .owner) none) value))
 rewriteStatement scope (Statement.assignEntry f key value) =
-    single (twoParts (Command.assignEntry f) (inBody scope key) (inPlace scope (placeOwner ((fieldAt (scope .fields) f) .owner) (nameOf scope key)) value))
+    single (twoParts (Command.assignEntry f)
+    (inBody scope key)
+    (inPlace scope (placeOwner ((fieldAt (scope .fields) f) .owner) (nameOf scope key)) value))
 rewriteStatement scope (Statement.require condition) = single (onePart Command.require (inBody scope condition))
-rewriteStatement scope (Statement.conditional condition then else) = inBranches (inBody scope condition) (rewriteStatement scope then) (rewriteStatement scope else)
+rewriteStatement scope (Statement.conditional condition then else) =
+    inBranches (inBody scope condition)
+    (rewriteStatement scope then)
+    (rewriteStatement scope else)
 
-unfoldable pub privateParameters : ℕ → List Parameter → List ℕ  -- The numbers of the private parameters, of those from number k on.
+-- The numbers of the private parameters, of those from number k on.
+unfoldable pub privateParameters : ℕ → List Parameter → List ℕ
 privateParameters k [] = []
-privateParameters k (p ∷ ps) = cond (p .private) (k ∷ privateParameters (suc k) ps) (privateParameters (suc k) ps)
+privateParameters k (p ∷ ps) =
+    cond (p .private)
+    (k ∷ privateParameters (suc k) ps)
+    (privateParameters (suc k) ps)
 
-unfoldable pub openings : List ℕ → Generator (Unit {0})  -- "First, each private parameter is read, with a constraint that it opens for the caller."
+-- "First, each private parameter is read, with a constraint that it opens for the caller."
+unfoldable pub openings : List ℕ → Generator (Unit {0})
 openings [] i = piece [] tt [] []
-openings (k ∷ ks) i = let r = openings ks (suc i) in
-    piece (readFrom (ownedBy meName) (Expression.parameter k) ∷ r .variables) tt (record { variable = i; value = BodyExpression.parameter k } ∷ r .steps)
+openings (k ∷ ks) i =
+    let r = openings ks (suc i) in
+    piece (readFrom (ownedBy meName) (Expression.parameter k) ∷ r .variables)
+    tt
+    (record { variable = i; value = BodyExpression.parameter k } ∷ r .steps)
     (opensForCaller i ∷ r .claims)
 
-abbrev pub withVerify : List Constraint → Command → Command  -- "A verify ends the body if any constraint exists."
+-- "A verify ends the body if any constraint exists."
+abbrev pub withVerify : List Constraint → Command → Command
 withVerify constraints body = elim constraints [ [] ↦ body | c ∷ cs ↦ Command.sequence body Command.verify ]
 
-unfoldable pub rewriteFunction : List Field → Function → WrittenFunction  -- ".. where the function's rest is (body, verify)"
-rewriteFunction fields g = let opening = openings (privateParameters 0 (g .parameters)) 0 in
+-- ".. where the function's rest is (body, verify)"
+unfoldable pub rewriteFunction : List Field → Function → WrittenFunction
+rewriteFunction fields g =
+    let opening = openings (privateParameters 0 (g .parameters)) 0 in
     let inside = rewriteStatement (record { fields = fields; parameters = g .parameters }) (g .body) always (length (opening .variables)) in
     let constraints = heldUnder always (opening .claims) ++ inside .constraints in
     let body = stepsBefore (opening .steps) (withVerify constraints (inside .command)) in
-    record { parameters = g .parameters; variables = opening .variables ++ inside .variables; constraints = constraints; body = body }
+    record {
+      parameters = g .parameters;
+      variables = opening .variables ++ inside .variables;
+      constraints = constraints;
+      body = body;
+    }
 
 unfoldable pub rewrite : Contract → WrittenContract
-rewrite c = record { fields = c .fields; functions = map (rewriteFunction (c .fields)) (c .functions) }
+rewrite c = record {
+  fields = c .fields;
+  functions = map (rewriteFunction (c .fields)) (c .functions);
+}
 
-pub data Tree : Type 0 where  -- A tree of nodes to be numbered: kind and arg, the parts that are numbers, the parts that are children.
+-- A tree of nodes to be numbered: kind and arg, the parts that are numbers, the parts that are children.
+pub data Tree : Type 0 where
   leaf : ℕ → ℕ → ℕ → ℕ → Tree
   oneChild : ℕ → ℕ → Tree → Tree
   twoChildren : ℕ → ℕ → Tree → Tree → Tree
@@ -227,9 +325,14 @@ size (setting i value) = size value + 1
 unfoldable pub numbered : ℕ → Tree → List NodeRecord
 numbered n (leaf kind arg first second) = node kind arg first second 0 ∷ []
 numbered n (oneChild kind arg first) = numbered n first ++ (node kind arg (n + size first - 1) 0 0 ∷ [])
-numbered n (twoChildren kind arg first second) = numbered n first ++ numbered (n + size first) second
+numbered n (twoChildren kind arg first second) =
+    numbered n first
+    ++ numbered (n + size first) second
     ++ (node kind arg (n + size first - 1) (n + size first + size second - 1) 0 ∷ [])
-numbered n (threeChildren kind first second third) = numbered n first ++ numbered (n + size first) second ++ numbered (n + size first + size second) third
+numbered n (threeChildren kind first second third) =
+    numbered n first
+    ++ numbered (n + size first) second
+    ++ numbered (n + size first + size second) third
     ++ (node kind 0 (n + size first - 1) (n + size first + size second - 1) (n + size first + size second + size third - 1) ∷ [])
 numbered n (setting i value) = numbered n value ++ (node 22 0 i (n + size value - 1) 0 ∷ [])
 
@@ -240,14 +343,16 @@ bodyTree BodyExpression.me = leaf 2 0 0 0
 bodyTree (BodyExpression.field f) = leaf 3 f 0 0
 bodyTree (BodyExpression.entry f key) = oneChild 4 f (bodyTree key)
 bodyTree (BodyExpression.parameter k) = leaf 5 k 0 0
-bodyTree (BodyExpression.operator o left right) = twoChildren 6 (operatorCode o) (bodyTree left) (bodyTree right)
+bodyTree (BodyExpression.operator o left right) =
+    twoChildren 6 (operatorCode o) (bodyTree left) (bodyTree right)
 bodyTree (BodyExpression.negation part) = oneChild 7 0 (bodyTree part)
 bodyTree (BodyExpression.variable i) = leaf 9 0 i 0
 
 unfoldable pub circuitTree : Circuit → Tree
 circuitTree (Circuit.constant t v) = leaf 1 (dataTypeCode t) (v % 65536) (v / 65536)
 circuitTree Circuit.me = leaf 2 0 0 0
-circuitTree (Circuit.operator o left right) = twoChildren 6 (operatorCode o) (circuitTree left) (circuitTree right)
+circuitTree (Circuit.operator o left right) =
+    twoChildren 6 (operatorCode o) (circuitTree left) (circuitTree right)
 circuitTree (Circuit.negation part) = oneChild 7 0 (circuitTree part)
 circuitTree (Circuit.variable i) = leaf 9 0 i 0
 circuitTree (Circuit.opened i) = leaf 10 0 i 0
@@ -258,15 +363,19 @@ commandTree (Command.sequence first second) = twoChildren 17 0 (commandTree firs
 commandTree (Command.assignField f value) = oneChild 18 f (bodyTree value)
 commandTree (Command.assignEntry f key value) = twoChildren 19 f (bodyTree key) (bodyTree value)
 commandTree (Command.require condition) = oneChild 20 0 (bodyTree condition)
-commandTree (Command.conditional condition then else) = threeChildren 21 (bodyTree condition) (commandTree then) (commandTree else)
+commandTree (Command.conditional condition then else) =
+    threeChildren 21 (bodyTree condition) (commandTree then) (commandTree else)
 commandTree (Command.setVariable i value) = setting i (bodyTree value)
 commandTree Command.verify = leaf 23 0 0 0
 
 abbrev pub claimTrees : Claim → List Tree
 claimTrees = elim [ equals i o circuit ↦ circuitTree circuit ∷ [] | opensForCaller i ↦ [] ]
 
-abbrev pub functionTrees : WrittenFunction → List Tree  -- "per function circuits, in constraint order, come before the body"
-functionTrees g = flatMap (λ c. claimTrees (c .claim)) (g .constraints) ++ (commandTree (g .body) ∷ [])
+-- "per function circuits, in constraint order, come before the body"
+abbrev pub functionTrees : WrittenFunction → List Tree
+functionTrees g =
+    flatMap (λ c. claimTrees (c .claim)) (g .constraints)
+    ++ (commandTree (g .body) ∷ [])
 
 unfoldable pub sizes : List Tree → ℕ
 sizes [] = 0
@@ -279,23 +388,38 @@ numberedAll n (t ∷ ts) = numbered n t ++ numberedAll (n + size t) ts
 abbrev pub nodeBytes : NodeRecord → List ℕ
 nodeBytes r = r .kind ∷ r .arg ∷ twoBytes (r .first) ++ twoBytes (r .second) ++ twoBytes (r .third)
 
-abbrev pub fieldBytes : Field → List ℕ  -- "Fields keep their layout; private ones get type 3 (cell), and so do private parameters."
-fieldBytes d = shapeCode (d .shape) ∷ cond (eqb (fieldOwnerCode (d .owner)) 0) (dataTypeCode (d .type)) 3 ∷ fieldOwnerCode (d .owner) ∷ []
+-- "Fields keep their layout; private ones get type 3 (cell), and so do private parameters."
+abbrev pub fieldBytes : Field → List ℕ
+fieldBytes d =
+    shapeCode (d .shape)
+    ∷ cond (eqb (fieldOwnerCode (d .owner)) 0) (dataTypeCode (d .type)) 3
+    ∷ fieldOwnerCode (d .owner)
+    ∷ []
 
 abbrev pub parameterBytes : Parameter → List ℕ
 parameterBytes p = cond (p .private) (3 ∷ 1 ∷ []) (dataTypeCode (p .type) ∷ 0 ∷ [])
 
-abbrev pub variableBytes : Variable → List ℕ  -- "each origin and owner code (0 unless a cell)"
+-- "each origin and owner code (0 unless a cell)"
+abbrev pub variableBytes : Variable → List ℕ
 variableBytes v = origin v ∷ ownerCode (variableOwner v) ∷ []
 
-abbrev pub keyOf : Variable → List ℕ  -- "owner codes needing keys (those of supplied cells), each once by first use"
-keyOf = elim [ supplied o e ↦ cond (isEveryone o) [] (ownerCode o ∷ []) | readFrom o e ↦ [] | guard ↦ [] ]
+-- "owner codes needing keys (those of supplied cells), each once by first use"
+abbrev pub keyOf : Variable → List ℕ
+keyOf = elim [
+  | supplied o e ↦ cond (isEveryone o) [] (ownerCode o ∷ [])
+  | readFrom o e ↦ []
+  | guard ↦ []
+]
 
 unfoldable pub eachOnce : List ℕ → List ℕ → List ℕ
 eachOnce seen [] = []
-eachOnce seen (k ∷ ks) = cond (any (eqb k) seen) (eachOnce seen ks) (k ∷ eachOnce (k ∷ seen) ks)
+eachOnce seen (k ∷ ks) =
+    cond (any (eqb k) seen)
+    (eachOnce seen ks)
+    (k ∷ eachOnce (k ∷ seen) ks)
 
-abbrev pub guardNumber : Guard → ℕ  -- "each guard (0, or 1 + variable), variable, root (65,535 for "opens"), two bytes each"
+-- "each guard (0, or 1 + variable), variable, root (65,535 for "opens"), two bytes each"
+abbrev pub guardNumber : Guard → ℕ
 guardNumber = elim [ always ↦ 0 | under i ↦ 1 + i ]
 
 abbrev pub claimBytes : ℕ → Claim → List ℕ
@@ -304,33 +428,52 @@ claimBytes n (opensForCaller i) = twoBytes i ++ twoBytes 65535
 
 unfoldable pub constraintBytes : ℕ → List Constraint → List ℕ
 constraintBytes n [] = []
-constraintBytes n (c ∷ cs) = twoBytes (guardNumber (c .guard)) ++ claimBytes n (c .claim) ++ constraintBytes (n + sizes (claimTrees (c .claim))) cs
+constraintBytes n (c ∷ cs) =
+    twoBytes (guardNumber (c .guard))
+    ++ claimBytes n (c .claim)
+    ++ constraintBytes (n + sizes (claimTrees (c .claim))) cs
 
--- "Written per function: parameters; two-byte count of variables ..; two-byte count of owner codes needing keys ..; two-byte
--- count of constraints ..; body root." The function's first node has number n.
+-- "Written per function: parameters; two-byte count of variables ..; two-byte count of owner codes needing keys ..;
+-- two-byte count of constraints ..; body root." The function's first node has number n.
 unfoldable pub functionBytes : ℕ → WrittenFunction → List ℕ
-functionBytes n g = let keys = eachOnce [] (flatMap keyOf (g .variables)) in
-    (length (g .parameters) ∷ flatMap parameterBytes (g .parameters)) ++ twoBytes (length (g .variables)) ++ flatMap variableBytes (g .variables)
-    ++ twoBytes (length keys) ++ keys ++ twoBytes (length (g .constraints)) ++ constraintBytes n (g .constraints) ++ twoBytes (n + sizes (functionTrees g) - 1)
+functionBytes n g =
+    let keys = eachOnce [] (flatMap keyOf (g .variables)) in
+    (length (g .parameters) ∷ flatMap parameterBytes (g .parameters))
+    ++ twoBytes (length (g .variables))
+    ++ flatMap variableBytes (g .variables)
+    ++ twoBytes (length keys)
+    ++ keys
+    ++ twoBytes (length (g .constraints))
+    ++ constraintBytes n (g .constraints)
+    ++ twoBytes (n + sizes (functionTrees g) - 1)
 
 unfoldable pub functionsBytes : ℕ → List WrittenFunction → List ℕ
 functionsBytes n [] = []
 functionsBytes n (g ∷ gs) = functionBytes n g ++ functionsBytes (n + sizes (functionTrees g)) gs
 
 unfoldable pub contractBytes : WrittenContract → List ℕ
-contractBytes c = let trees = flatMap functionTrees (c .functions) in
-    (length (c .fields) ∷ flatMap fieldBytes (c .fields)) ++ (length (c .functions) ∷ functionsBytes 0 (c .functions)) ++ twoBytes (sizes trees)
+contractBytes c =
+    let trees = flatMap functionTrees (c .functions) in
+    (length (c .fields) ∷ flatMap fieldBytes (c .fields))
+    ++ (length (c .functions) ∷ functionsBytes 0 (c .functions))
+    ++ twoBytes (sizes trees)
     ++ flatMap nodeBytes (numberedAll 0 trees)
 
 unfoldable pub writtenFile : List ℕ → List ℕ
 writtenFile file = contractBytes (rewrite (contractIn file))
 
-unfoldable pub writeNumber : List ℕ → ℕ → ℕ  -- "16. The lent output is too short"; "writing 1 to 16"
-writeNumber file room = orElse (checkNumber file) (firstThatHolds 16 (ltb room (length (writtenFile file)) ∷ []))
+-- "16. The lent output is too short"; "writing 1 to 16"
+unfoldable pub writeNumber : List ℕ → ℕ → ℕ
+writeNumber file room =
+    orElse (checkNumber file) (firstThatHolds 16 (ltb room (length (writtenFile file)) ∷ []))
 
--- "A refusal returns it with length 0 ..; lent memory .. keep their contents. An accepted request changes only the output bytes that its length covers"
+-- "A refusal returns it with length 0 ..; lent memory .. keep their contents.
+-- An accepted request changes only the output bytes that its length covers"
 unfoldable pub writtenLength : List ℕ → ℕ → ℕ
 writtenLength file room = cond (eqb (writeNumber file room) 0) (length (writtenFile file)) 0
 
 unfoldable pub outputAfterWriting : List ℕ → List ℕ → List ℕ
-outputAfterWriting file out = cond (eqb (writeNumber file (length out)) 0) (writtenFile file ++ drop (length (writtenFile file)) out) out
+outputAfterWriting file out =
+    cond (eqb (writeNumber file (length out)) 0)
+    (writtenFile file ++ drop (length (writtenFile file)) out)
+    out

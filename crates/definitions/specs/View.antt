@@ -1,83 +1,134 @@
--- 01, Runs and views: what a party sees, as items and as bytes; number 21; whole lists of calls beside the original, and when two are alike for a party.
+-- 01, Runs and views: what a party sees, as items and as bytes; number 21;
+-- whole lists of calls beside the original, and when two are alike for a party.
 use Rattle.definitions.specs.Basics.{_||_, cond, not, List, [], _∷_, _++_, map, ℕ, eqb, ltb, length, drop, flatMap, twoBytes, _%_, _/_, firstThatHolds, _≡_, Bool, true, false, getD, isZero}
 use Rattle.definitions.specs.Ledger.{Content, plain, cell, Ledger, isWellFormed, deployed, callNumber, ledgerAfterCall}
 use Rattle.definitions.specs.ContractFile.{Contract, functionAt, parameterAt, contractIn}
 use Rattle.definitions.specs.Original.{deployedNumbers, originalAfter, originalDiscloses}
 
-pub record Item : Type 0 where  -- "An item is mark, owner (an address), serial (2 + 2), value (4)."
+-- "An item is mark, owner (an address), serial (2 + 2), value (4)."
+pub record Item : Type 0 where
   pub mark : ℕ
   pub owner : ℕ
   pub call : ℕ
   pub index : ℕ
   pub value : ℕ
 
-unfoldable pub itemFor : ℕ → Content → Item  -- "Mark 0 plain has zero owner and serial; 1 opaque has value 0; 2 is a cell of the viewing party."
+-- "Mark 0 plain has zero owner and serial; 1 opaque has value 0; 2 is a cell of the viewing party."
+unfoldable pub itemFor : ℕ → Content → Item
 itemFor party (plain v) = record { mark = 0; owner = 0; call = 0; index = 0; value = v }
-itemFor party (cell c) =
-    record { mark = cond (eqb (c .owner) party) 2 1; owner = c .owner; call = c .call; index = c .index; value = cond (eqb (c .owner) party) (c .value) 0 }
+itemFor party (cell c) = record {
+  mark = cond (eqb (c .owner) party) 2 1;
+  owner = c .owner;
+  call = c .call;
+  index = c .index;
+  value = cond (eqb (c .owner) party) (c .value) 0;
+}
 
-unfoldable pub itemsFor : ℕ → Ledger → List Item  -- "then items: parameters, variables, places in field order"
+-- "then items: parameters, variables, places in field order"
+unfoldable pub itemsFor : ℕ → Ledger → List Item
 itemsFor party l = map (itemFor party) (l .parameters ++ l .variables ++ l .places)
 
 unfoldable pub itemBytes : Item → List ℕ
-itemBytes item = let v = item .value in
-    item .mark ∷ item .owner ∷ twoBytes (item .call) ++ twoBytes (item .index) ++ (v % 256 ∷ v / 256 % 256 ∷ v / 65536 % 256 ∷ v / 16777216 % 256 ∷ [])
+itemBytes item =
+    let v = item .value in
+    item .mark ∷ item .owner
+    ∷ twoBytes (item .call)
+    ++ twoBytes (item .index)
+    ++ (v % 256 ∷ v / 256 % 256 ∷ v / 65536 % 256 ∷ v / 16777216 % 256 ∷ [])
 
 -- "A view is call (2 bytes), function, caller, outcome (0 done, 1 failed), all zero before any call, when only places follow"
 unfoldable pub viewBytes : ℕ → Ledger → List ℕ
-viewBytes party l = twoBytes (l .call) ++ (l .function ∷ l .caller ∷ l .outcome ∷ flatMap itemBytes (itemsFor party l))
+viewBytes party l =
+    twoBytes (l .call)
+    ++ (l .function ∷ l .caller ∷ l .outcome ∷ flatMap itemBytes (itemsFor party l))
 
-unfoldable pub viewNumber : ℕ → Ledger → ℕ → ℕ  -- "21. A view's ledger isn't well formed, its party is above 15, or its output is too short."
-viewNumber party l room = firstThatHolds 21 ((not (isWellFormed l) || ltb 15 party || ltb room (length (viewBytes party l))) ∷ [])
+-- "21. A view's ledger isn't well formed, its party is above 15, or its output is too short."
+unfoldable pub viewNumber : ℕ → Ledger → ℕ → ℕ
+viewNumber party l room =
+    firstThatHolds 21 ((not (isWellFormed l)
+    || ltb 15 party
+    || ltb room (length (viewBytes party l))) ∷ [])
 
 unfoldable pub viewLength : ℕ → Ledger → ℕ → ℕ
 viewLength party l room = cond (eqb (viewNumber party l room) 0) (length (viewBytes party l)) 0
 
 unfoldable pub outputAfterView : ℕ → Ledger → List ℕ → List ℕ
-outputAfterView party l out = cond (eqb (viewNumber party l (length out)) 0) (viewBytes party l ++ drop (length (viewBytes party l)) out) out
+outputAfterView party l out =
+    cond (eqb (viewNumber party l (length out)) 0)
+    (viewBytes party l ++ drop (length (viewBytes party l)) out)
+    out
 
-pub record Request : Type 0 where  -- A call as it is asked for; it may be refused.
+-- A call as it is asked for; it may be refused.
+pub record Request : Type 0 where
   pub function : ℕ
   pub caller : ℕ
   pub arguments : List ℕ
 
-pub record Run : Type 0 where  -- A ledger, and the places of the original that is "fed with its run's calls alone".
+-- A ledger, and the places of the original that is "fed with its run's calls alone".
+pub record Run : Type 0 where
   pub ledger : Ledger
   pub original : List ℕ
 
-unfoldable pub runAtDeployment : List ℕ → List ℕ → Run  -- "Both start from the same accepted deployment request."
-runAtDeployment file addresses = record { ledger = deployed file addresses; original = deployedNumbers ((contractIn file) .fields) addresses }
+-- "Both start from the same accepted deployment request."
+unfoldable pub runAtDeployment : List ℕ → List ℕ → Run
+runAtDeployment file addresses = record {
+  ledger = deployed file addresses;
+  original = deployedNumbers ((contractIn file) .fields) addresses;
+}
 
 unfoldable pub isTaken : Run → Request → Bool
 isTaken run r = isZero (callNumber (run .ledger) (r .function) (r .caller) (r .arguments))
 
-unfoldable pub runAfter : Run → Request → Run  -- "A call gets the ledger that the one before returned, or left when refused."; "refused calls pass it by"
-runAfter run r = let original = originalAfter (contractIn ((run .ledger) .file)) (run .original) (r .function) (r .caller) (r .arguments) in
-    record { ledger = ledgerAfterCall (run .ledger) (r .function) (r .caller) (r .arguments); original = cond (isTaken run r) original (run .original) }
+-- "A call gets the ledger that the one before returned, or left when refused."; "refused calls pass it by"
+unfoldable pub runAfter : Run → Request → Run
+runAfter run r =
+    let original = originalAfter (contractIn ((run .ledger) .file)) (run .original) (r .function) (r .caller) (r .arguments) in
+    record {
+      ledger = ledgerAfterCall (run .ledger) (r .function) (r .caller) (r .arguments);
+      original = cond (isTaken run r) original (run .original);
+    }
 
-unfoldable pub disclosedIn : ℕ → Run → Request → List ℕ  -- What the call discloses to the party.
-disclosedIn party run r = cond (isTaken run r) (originalDiscloses (contractIn ((run .ledger) .file)) (run .original) (r .function) (r .caller) (r .arguments) party) []
+-- What the call discloses to the party.
+unfoldable pub disclosedIn : ℕ → Run → Request → List ℕ
+disclosedIn party run r =
+    cond (isTaken run r)
+    (originalDiscloses (contractIn ((run .ledger) .file)) (run .original) (r .function) (r .caller) (r .arguments) party)
+    []
 
-unfoldable pub viewsAfter : ℕ → Run → List Request → List (List ℕ)  -- After each call of a list: the party's view, and what that call disclosed to it.
+-- After each call of a list: the party's view, and what that call disclosed to it.
+unfoldable pub viewsAfter : ℕ → Run → List Request → List (List ℕ)
 viewsAfter party run [] = []
-viewsAfter party run (r ∷ rs) = viewBytes party ((runAfter run r) .ledger) ∷ viewsAfter party (runAfter run r) rs
+viewsAfter party run (r ∷ rs) =
+    viewBytes party ((runAfter run r) .ledger)
+    ∷ viewsAfter party (runAfter run r) rs
 
 unfoldable pub disclosures : ℕ → Run → List Request → List (List ℕ)
 disclosures party run [] = []
-disclosures party run (r ∷ rs) = disclosedIn party run r ∷ disclosures party (runAfter run r) rs
+disclosures party run (r ∷ rs) =
+    disclosedIn party run r
+    ∷ disclosures party (runAfter run r) rs
 
--- "alike for the party, an address: same function, caller, arguments for public parameters and, if the party is the caller, for private ones. Other arguments are free."
+-- "alike for the party, an address: same function, caller, arguments for public parameters and, if the party is the caller,
+-- for private ones. Other arguments are free."
 pub record AlikeFor (party : ℕ) (contract : Contract) (r r′ : Request) : Type 0 where
   pub function : r .function ≡ r′ .function
   pub caller : r .caller ≡ r′ .caller
-  pub arguments : (k : ℕ) → not ((parameterAt ((functionAt (contract .functions) (r .function)) .parameters) k) .private) || eqb (r .caller) party ≡ true
+  pub arguments : (k : ℕ)
+      → not ((parameterAt ((functionAt (contract .functions) (r .function)) .parameters) k) .private)
+      || eqb (r .caller) party ≡ true
       → getD (r .arguments) k 0 ≡ getD (r′ .arguments) k 0
 
 -- "Pair by pair, both calls are refused or both are taken (done or failed) and alike for the party"
 pub data Paired (party : ℕ) : Run → Run → List Request → List Request → Type 0 where
   finished : {run run′ : Run} → Paired party run run′ [] []
-  bothRefused : {run run′ : Run} {r r′ : Request} {rs rs′ : List Request} → isTaken run r ≡ false → isTaken run′ r′ ≡ false
-      → Paired party run run′ rs rs′ → Paired party run run′ (r ∷ rs) (r′ ∷ rs′)
-  bothTaken : {run run′ : Run} {r r′ : Request} {rs rs′ : List Request} → isTaken run r ≡ true → isTaken run′ r′ ≡ true
-      → AlikeFor party (contractIn ((run .ledger) .file)) r r′ → Paired party (runAfter run r) (runAfter run′ r′) rs rs′
+  bothRefused : {run run′ : Run} {r r′ : Request} {rs rs′ : List Request}
+      → isTaken run r ≡ false
+      → isTaken run′ r′ ≡ false
+      → Paired party run run′ rs rs′
+      → Paired party run run′ (r ∷ rs) (r′ ∷ rs′)
+  bothTaken : {run run′ : Run} {r r′ : Request} {rs rs′ : List Request}
+      → isTaken run r ≡ true
+      → isTaken run′ r′ ≡ true
+      → AlikeFor party (contractIn ((run .ledger) .file)) r r′
+      → Paired party (runAfter run r) (runAfter run′ r′) rs rs′
       → Paired party run run′ (r ∷ rs) (r′ ∷ rs′)

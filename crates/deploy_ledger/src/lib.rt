@@ -41,7 +41,8 @@ fn address_at(addresses: &[u8], a: usize) -> u32
 // The numbers of all places at deployment, and how many there are.
 fn put_numbers(file: &[u8], addresses: &[u8], numbers: &mut [u32]) -> usize
     requires { ⌜ (fieldCount (now file) ≤ 64) × (1024 ≤ length (now numbers)) ⌝ }
-    ensures { λ r. ⌜ Numbers (deployedNumbers (fieldsIn (now (file .entry))) (now (addresses .entry))) (now (numbers .entry)) (now (numbers .exit)) r ⌝ }
+    ensures { λ r. ⌜ Numbers (deployedNumbers (fieldsIn (now (file .entry))) (now (addresses .entry)))
+        (now (numbers .entry)) (now (numbers .exit)) r ⌝ }
 {
     let count = file_bytes::byte_at(file, 0);
     let mut f: usize = 0;

@@ -1,4 +1,5 @@
--- What code may rely on when it reads the nodes of a function in an accepted file. The function begins at a known place, and so do the nodes.
+-- What code may rely on when it reads the nodes of a function in an accepted file.
+-- The function begins at a known place, and so do the nodes.
 use mathlib.Core.Path.{_≡_}
 use mathlib.Core.Bool.{true}
 use mathlib.Core.List.{List, map}
@@ -38,5 +39,6 @@ pub record Context (file : List ℕ) (functionStart nodesStart : ℕ) : Type 0 w
   pub fieldListed : (f : ℕ) → f < fieldCount file → fieldInTables (fieldRecordAt file f) ≡ true
   pub nodeListed : (n : ℕ) → n < nodeCount file → nodeInTables (nodeRecord file (nodesStart + 2 + 8 * n)) ≡ true
   pub falling : Falling (nodesIn file)
-  pub expressionsDue : (n : ℕ) → all (λ child. isExpression (nodeAt (nodesIn file) child)) (expressionParts (nodeAt (nodesIn file) n)) ≡ true
+  pub expressionsDue : (n : ℕ)
+      → all (λ child. isExpression (nodeAt (nodesIn file) child)) (expressionParts (nodeAt (nodesIn file) n)) ≡ true
   pub statementsDue : (n : ℕ) → all (λ child. isStatement (nodeAt (nodesIn file) child)) (statementParts (nodeAt (nodesIn file) n)) ≡ true

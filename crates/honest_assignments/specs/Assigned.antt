@@ -12,12 +12,14 @@ use Rattle.honest_supplies.specs.Supplies.{Room, bodyIn}
 
 module _ (file : List ℕ) (functionStart f : ℕ) where
   abbrev pub fieldEvents : ℕ → Events
-  fieldEvents n = placeEvents (scopeIn file functionStart) always (placeOwner ((fieldAt (fieldsIn file) f) .owner) none) (nodeExpression file n)
+  fieldEvents n =
+      placeEvents (scopeIn file functionStart) always (placeOwner ((fieldAt (fieldsIn file) f) .owner) none) (nodeExpression file n)
 
   abbrev pub keyedEvents : ℕ → ℕ → Events
   keyedEvents key n =
       placeEvents (scopeIn file functionStart) always
-      (placeOwner ((fieldAt (fieldsIn file) f) .owner) (nameOf (scopeIn file functionStart) (nodeExpression file key))) (nodeExpression file n)
+      (placeOwner ((fieldAt (fieldsIn file) f) .owner) (nameOf (scopeIn file functionStart) (nodeExpression file key)))
+      (nodeExpression file n)
 
   abbrev pub entryEvents : ℕ → ℕ → Events
   entryEvents key n = inTurn (bodyIn file functionStart key) (keyedEvents key n)

@@ -39,7 +39,8 @@ fn is_private_field(file: &[u8], function_at: usize, nodes_at: usize, f: usize) 
 
 fn is_private_entry(file: &[u8], function_at: usize, nodes_at: usize, f: usize, key: usize) -> bool
     requires { ⌜ (f ≤ 255) × ((key < nodeCount (now file)) × (Context (now file) «function_at» «nodes_at»)) ⌝ }
-    ensures { λ r. ⌜ r ≡ not (isEveryone (placeOwner ((fieldAt (fieldsIn (now (file .entry))) f) .owner) (nameOf (scopeIn (now (file .entry)) «function_at») (nodeExpression (now (file .entry)) key)))) ⌝ }
+    ensures { λ r. ⌜ r ≡ not (isEveryone (placeOwner ((fieldAt (fieldsIn (now (file .entry))) f) .owner)
+        (nameOf (scopeIn (now (file .entry)) «function_at») (nodeExpression (now (file .entry)) key)))) ⌝ }
 {
     let owner = field_owner(file, f);
     place_code(owner, name_code(file, function_at, nodes_at, key)) != 0
@@ -60,7 +61,13 @@ pub fn field_slots(
     i: usize,
 ) -> usize
     requires { ⌜ FieldReady (now file) «function_at» «nodes_at» f n (now out) i ⌝ }
-    ensures { λ r. ⌜ (now (numbers .exit) ≡ cond live (set (now (numbers .entry)) (position (fieldsIn (now (file .entry))) f 0) (valueOf (now (file .entry)) (now (arguments .entry)) caller (now (numbers .entry)) (nodeExpression (now (file .entry)) n))) (now (numbers .entry))) × (Wrote (suppliedNumber (now (file .entry)) (now (arguments .entry)) caller live (now (numbers .entry))) (now (out .entry)) (now (out .exit)) i r (fieldEvents (now (file .entry)) «function_at» f n)) ⌝ }
+    ensures { λ r. ⌜ (now (numbers .exit) ≡ cond live
+        (set (now (numbers .entry))
+        (position (fieldsIn (now (file .entry))) f 0)
+        (valueOf (now (file .entry)) (now (arguments .entry)) caller (now (numbers .entry)) (nodeExpression (now (file .entry)) n)))
+        (now (numbers .entry)))
+        × (Wrote (suppliedNumber (now (file .entry)) (now (arguments .entry)) caller live (now (numbers .entry)))
+        (now (out .entry)) (now (out .exit)) i r (fieldEvents (now (file .entry)) «function_at» f n)) ⌝ }
 {
     let private = is_private_field(file, function_at, nodes_at, f);
     let end = place_slots(
@@ -98,7 +105,14 @@ pub fn entry_slots(
     i: usize,
 ) -> usize
     requires { ⌜ EntryReady (now file) «function_at» «nodes_at» f key n (now out) i ⌝ }
-    ensures { λ r. ⌜ (now (numbers .exit) ≡ cond live (set (now (numbers .entry)) (position (fieldsIn (now (file .entry))) f (valueOf (now (file .entry)) (now (arguments .entry)) caller (now (numbers .entry)) (nodeExpression (now (file .entry)) key))) (valueOf (now (file .entry)) (now (arguments .entry)) caller (now (numbers .entry)) (nodeExpression (now (file .entry)) n))) (now (numbers .entry))) × (Wrote (suppliedNumber (now (file .entry)) (now (arguments .entry)) caller live (now (numbers .entry))) (now (out .entry)) (now (out .exit)) i r (entryEvents (now (file .entry)) «function_at» f key n)) ⌝ }
+    ensures { λ r. ⌜ (now (numbers .exit) ≡ cond live
+        (set (now (numbers .entry))
+        (position (fieldsIn (now (file .entry))) f
+        (valueOf (now (file .entry)) (now (arguments .entry)) caller (now (numbers .entry)) (nodeExpression (now (file .entry)) key)))
+        (valueOf (now (file .entry)) (now (arguments .entry)) caller (now (numbers .entry)) (nodeExpression (now (file .entry)) n)))
+        (now (numbers .entry)))
+        × (Wrote (suppliedNumber (now (file .entry)) (now (arguments .entry)) caller live (now (numbers .entry)))
+        (now (out .entry)) (now (out .exit)) i r (entryEvents (now (file .entry)) «function_at» f key n)) ⌝ }
 {
     let private = is_private_entry(file, function_at, nodes_at, f, key);
     let j = body_slots(

@@ -38,7 +38,8 @@ pub fn put_parameters(
     flat: &mut [u32],
 )
     requires { ⌜ ParametersRoom (now file) «function_at» (now arguments) (now flat) ⌝ }
-    ensures { λ _. ⌜ contentsOf (now (flat .exit)) ≡ honestParameters caller call 0 (parametersIn (now (file .entry)) «function_at») (now (arguments .entry)) ⌝ }
+    ensures { λ _. ⌜ contentsOf (now (flat .exit))
+        ≡ honestParameters caller call 0 (parametersIn (now (file .entry)) «function_at») (now (arguments .entry)) ⌝ }
 {
     let count = arguments.len();
     let mut k = 0;
@@ -61,7 +62,8 @@ fn put_if_public(
     r: usize,
 ) -> usize
     requires { ⌜ (ParametersNear (now file) «function_at») × ((k < byteAt (now file) «function_at») × (r < length (now flat) / 5)) ⌝ }
-    ensures { λ next. ⌜ Picked (isPrivate (now (file .entry)) «function_at» k) (contentAt (contentsOf (now (parameters .entry))) k) (now (flat .entry)) (now (flat .exit)) r next ⌝ }
+    ensures { λ next. ⌜ Picked (isPrivate (now (file .entry)) «function_at» k) (contentAt (contentsOf (now (parameters .entry))) k)
+        (now (flat .entry)) (now (flat .exit)) r next ⌝ }
 {
     if byte_at(file, function_at + 1 + 2 * k + 1) == 0 {
         let content = content_at(parameters, k);

@@ -42,7 +42,8 @@ module _ (file : List ℕ) (functionStart : ℕ) (arguments : List ℕ) (caller 
   honestNumbers Statement.skip live numbers = λ (i : ℕ). []
   honestNumbers (Statement.sequence first second) live numbers =
       inOrder (honestNumbers first live numbers) (honestNumbers second live (afterIf live numbers first))
-  honestNumbers (Statement.assignField f e) live numbers = numbersFor (statementEvents (scopeIn file functionStart) (Statement.assignField f e) always) live numbers
+  honestNumbers (Statement.assignField f e) live numbers =
+      numbersFor (statementEvents (scopeIn file functionStart) (Statement.assignField f e) always) live numbers
   honestNumbers (Statement.assignEntry f key e) live numbers =
       numbersFor (statementEvents (scopeIn file functionStart) (Statement.assignEntry f key e) always) live numbers
   honestNumbers (Statement.require condition) live numbers =
@@ -84,15 +85,18 @@ pub record Startable (file : List ℕ) (functionStart nodesStart n : ℕ) (out :
   pub space : Space out i numbering
 
 -- What a statement leaves: the original's numbers, and those of its variables.
-pub record Honest (file : List ℕ) (functionStart : ℕ) (arguments : List ℕ) (caller : ℕ) (live : Bool) (s : Statement) (numbers numbers′ before after : List ℕ) (i next : ℕ) : Type 0 where
+pub record Honest (file : List ℕ) (functionStart : ℕ) (arguments : List ℕ) (caller : ℕ) (live : Bool) (s : Statement)
+    (numbers numbers′ before after : List ℕ) (i next : ℕ) : Type 0 where
   pub places : numbers′ ≡ afterIf file functionStart arguments caller live numbers s
   pub slots : Put before after i next (honestNumbers file functionStart arguments caller s live numbers)
 
-pub record BranchHonest (file : List ℕ) (functionStart : ℕ) (arguments : List ℕ) (caller : ℕ) (live : Bool) (s : Statement) (numbers numbers′ before after : List ℕ) (i next : ℕ) : Type 0 where
+pub record BranchHonest (file : List ℕ) (functionStart : ℕ) (arguments : List ℕ) (caller : ℕ) (live : Bool) (s : Statement)
+    (numbers numbers′ before after : List ℕ) (i next : ℕ) : Type 0 where
   pub places : numbers′ ≡ afterIf file functionStart arguments caller live numbers s
   pub slots : Put before after i next (branchNumbers (honestNumbers file functionStart arguments caller s live numbers))
 
-pub record BranchesHonest (file : List ℕ) (functionStart : ℕ) (arguments : List ℕ) (caller : ℕ) (live : Bool) (s : Statement) (numbers numbers′ before after : List ℕ) (i next : ℕ) : Type 0 where
+pub record BranchesHonest (file : List ℕ) (functionStart : ℕ) (arguments : List ℕ) (caller : ℕ) (live : Bool) (s : Statement)
+    (numbers numbers′ before after : List ℕ) (i next : ℕ) : Type 0 where
   pub places : numbers′ ≡ afterIf file functionStart arguments caller live numbers s
   pub slots : Put before after i next (branchesNumbers file functionStart arguments caller s live numbers)
 

@@ -38,7 +38,8 @@ fn is_taken(
     n: usize,
 ) -> bool
     requires { ⌜ (n < nodeCount (now file)) × (Context (now file) «function_at» «nodes_at») ⌝ }
-    ensures { λ r. ⌜ r ≡ isTaken (now (file .entry)) «function_at» (now (arguments .entry)) caller (now (numbers .entry)) (nodeExpression (now (file .entry)) n) ⌝ }
+    ensures { λ r. ⌜ r ≡ isTaken (now (file .entry)) «function_at» (now (arguments .entry)) caller (now (numbers .entry))
+        (nodeExpression (now (file .entry)) n) ⌝ }
 {
     value(file, function_at, nodes_at, numbers, arguments, caller, n) != 0
 }
@@ -56,8 +57,11 @@ fn simple_slots(
     out: &mut [u64],
     i: usize,
 ) -> usize
-    requires { ⌜ (SimpleKind (kindAt (now file) «nodes_at» n)) × (Startable (now file) «function_at» «nodes_at» n (now out) i (honestNumbers (now file) «function_at» (now arguments) caller (nodeStatement (now file) n) live (now numbers))) ⌝ }
-    ensures { λ r. ⌜ Honest (now (file .entry)) «function_at» (now (arguments .entry)) caller live (nodeStatement (now (file .entry)) n) (now (numbers .entry)) (now (numbers .exit)) (now (out .entry)) (now (out .exit)) i r ⌝ }
+    requires { ⌜ (SimpleKind (kindAt (now file) «nodes_at» n))
+        × (Startable (now file) «function_at» «nodes_at» n (now out) i
+        (honestNumbers (now file) «function_at» (now arguments) caller (nodeStatement (now file) n) live (now numbers))) ⌝ }
+    ensures { λ r. ⌜ Honest (now (file .entry)) «function_at» (now (arguments .entry)) caller live
+        (nodeStatement (now (file .entry)) n) (now (numbers .entry)) (now (numbers .exit)) (now (out .entry)) (now (out .exit)) i r ⌝ }
 {
     let node = node_at(file, nodes_at, n);
     let kind = node.kind;
@@ -118,8 +122,10 @@ pub fn statement_slots(
     out: &mut [u64],
     i: usize,
 ) -> usize
-    requires { ⌜ Startable (now file) «function_at» «nodes_at» n (now out) i (honestNumbers (now file) «function_at» (now arguments) caller (nodeStatement (now file) n) live (now numbers)) ⌝ }
-    ensures { λ r. ⌜ Honest (now (file .entry)) «function_at» (now (arguments .entry)) caller live (nodeStatement (now (file .entry)) n) (now (numbers .entry)) (now (numbers .exit)) (now (out .entry)) (now (out .exit)) i r ⌝ }
+    requires { ⌜ Startable (now file) «function_at» «nodes_at» n (now out) i
+        (honestNumbers (now file) «function_at» (now arguments) caller (nodeStatement (now file) n) live (now numbers)) ⌝ }
+    ensures { λ r. ⌜ Honest (now (file .entry)) «function_at» (now (arguments .entry)) caller live
+        (nodeStatement (now (file .entry)) n) (now (numbers .entry)) (now (numbers .exit)) (now (out .entry)) (now (out .exit)) i r ⌝ }
 {
     let kind = node_at(file, nodes_at, n).kind;
     match kind {
@@ -175,8 +181,11 @@ fn sequence_slots(
     out: &mut [u64],
     i: usize,
 ) -> usize
-    requires { ⌜ (kindAt (now file) «nodes_at» n ≡ 17) × (Startable (now file) «function_at» «nodes_at» n (now out) i (honestNumbers (now file) «function_at» (now arguments) caller (nodeStatement (now file) n) live (now numbers))) ⌝ }
-    ensures { λ r. ⌜ Honest (now (file .entry)) «function_at» (now (arguments .entry)) caller live (nodeStatement (now (file .entry)) n) (now (numbers .entry)) (now (numbers .exit)) (now (out .entry)) (now (out .exit)) i r ⌝ }
+    requires { ⌜ (kindAt (now file) «nodes_at» n ≡ 17)
+        × (Startable (now file) «function_at» «nodes_at» n (now out) i
+        (honestNumbers (now file) «function_at» (now arguments) caller (nodeStatement (now file) n) live (now numbers))) ⌝ }
+    ensures { λ r. ⌜ Honest (now (file .entry)) «function_at» (now (arguments .entry)) caller live
+        (nodeStatement (now (file .entry)) n) (now (numbers .entry)) (now (numbers .exit)) (now (out .entry)) (now (out .exit)) i r ⌝ }
 {
     let node = node_at(file, nodes_at, n);
     let j = statement_slots(
@@ -218,8 +227,11 @@ fn conditional_slots(
     out: &mut [u64],
     i: usize,
 ) -> usize
-    requires { ⌜ (kindAt (now file) «nodes_at» n ≡ 21) × (Startable (now file) «function_at» «nodes_at» n (now out) i (honestNumbers (now file) «function_at» (now arguments) caller (nodeStatement (now file) n) live (now numbers))) ⌝ }
-    ensures { λ r. ⌜ Honest (now (file .entry)) «function_at» (now (arguments .entry)) caller live (nodeStatement (now (file .entry)) n) (now (numbers .entry)) (now (numbers .exit)) (now (out .entry)) (now (out .exit)) i r ⌝ }
+    requires { ⌜ (kindAt (now file) «nodes_at» n ≡ 21)
+        × (Startable (now file) «function_at» «nodes_at» n (now out) i
+        (honestNumbers (now file) «function_at» (now arguments) caller (nodeStatement (now file) n) live (now numbers))) ⌝ }
+    ensures { λ r. ⌜ Honest (now (file .entry)) «function_at» (now (arguments .entry)) caller live
+        (nodeStatement (now (file .entry)) n) (now (numbers .entry)) (now (numbers .exit)) (now (out .entry)) (now (out .exit)) i r ⌝ }
 {
     let first = node_at(file, nodes_at, n).first;
     let j = body_slots(
@@ -261,8 +273,11 @@ fn branches_slots(
     out: &mut [u64],
     i: usize,
 ) -> usize
-    requires { ⌜ (kindAt (now file) «nodes_at» n ≡ 21) × (Startable (now file) «function_at» «nodes_at» n (now out) i (branchesNumbers (now file) «function_at» (now arguments) caller (nodeStatement (now file) n) live (now numbers))) ⌝ }
-    ensures { λ r. ⌜ BranchesHonest (now (file .entry)) «function_at» (now (arguments .entry)) caller live (nodeStatement (now (file .entry)) n) (now (numbers .entry)) (now (numbers .exit)) (now (out .entry)) (now (out .exit)) i r ⌝ }
+    requires { ⌜ (kindAt (now file) «nodes_at» n ≡ 21)
+        × (Startable (now file) «function_at» «nodes_at» n (now out) i
+        (branchesNumbers (now file) «function_at» (now arguments) caller (nodeStatement (now file) n) live (now numbers))) ⌝ }
+    ensures { λ r. ⌜ BranchesHonest (now (file .entry)) «function_at» (now (arguments .entry)) caller live
+        (nodeStatement (now (file .entry)) n) (now (numbers .entry)) (now (numbers .exit)) (now (out .entry)) (now (out .exit)) i r ⌝ }
 {
     let node = node_at(file, nodes_at, n);
     let taken = is_taken(
@@ -313,8 +328,10 @@ fn branch_slots(
     out: &mut [u64],
     i: usize,
 ) -> usize
-    requires { ⌜ Startable (now file) «function_at» «nodes_at» n (now out) i (branchNumbers (honestNumbers (now file) «function_at» (now arguments) caller (nodeStatement (now file) n) live (now numbers))) ⌝ }
-    ensures { λ r. ⌜ BranchHonest (now (file .entry)) «function_at» (now (arguments .entry)) caller live (nodeStatement (now (file .entry)) n) (now (numbers .entry)) (now (numbers .exit)) (now (out .entry)) (now (out .exit)) i r ⌝ }
+    requires { ⌜ Startable (now file) «function_at» «nodes_at» n (now out) i (branchNumbers
+        (honestNumbers (now file) «function_at» (now arguments) caller (nodeStatement (now file) n) live (now numbers))) ⌝ }
+    ensures { λ r. ⌜ BranchHonest (now (file .entry)) «function_at» (now (arguments .entry)) caller live
+        (nodeStatement (now (file .entry)) n) (now (numbers .entry)) (now (numbers .exit)) (now (out .entry)) (now (out .exit)) i r ⌝ }
 {
     put_slot(out, i, 0);
     statement_slots(

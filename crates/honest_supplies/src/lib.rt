@@ -36,7 +36,10 @@ fn supplied_number(
     n: usize,
 ) -> u64
     requires { ⌜ (n < nodeCount (now file)) × (Context (now file) «function_at» «nodes_at») ⌝ }
-    ensures { λ r. ⌜ r ≡ cond live (suc (valueOf (now (file .entry)) (now (arguments .entry)) caller (now (numbers .entry)) (nodeExpression (now (file .entry)) n))) 0 ⌝ }
+    ensures { λ r. ⌜ r ≡ cond live
+        (suc (valueOf (now (file .entry)) (now (arguments .entry)) caller (now (numbers .entry))
+        (nodeExpression (now (file .entry)) n)))
+        0 ⌝ }
 {
     if live {
         value(file, function_at, nodes_at, numbers, arguments, caller, n) as u64 + 1
@@ -59,7 +62,8 @@ pub fn body_slots(
     i: usize,
 ) -> usize
     requires { ⌜ Ready (now file) «function_at» «nodes_at» n (now out) i (bodyIn (now file) «function_at» n) ⌝ }
-    ensures { λ r. ⌜ Wrote (suppliedNumber (now (file .entry)) (now (arguments .entry)) caller live (now (numbers .entry))) (now (out .entry)) (now (out .exit)) i r (bodyIn (now (file .entry)) «function_at» n) ⌝ }
+    ensures { λ r. ⌜ Wrote (suppliedNumber (now (file .entry)) (now (arguments .entry)) caller live (now (numbers .entry)))
+        (now (out .entry)) (now (out .exit)) i r (bodyIn (now (file .entry)) «function_at» n) ⌝ }
 {
     if supplied_code(file, function_at, nodes_at, n) == 0 {
         body_parts(
@@ -104,7 +108,8 @@ pub fn supply_slots(
     i: usize,
 ) -> usize
     requires { ⌜ Ready (now file) «function_at» «nodes_at» n (now out) i (supplyIn (now file) «function_at» n) ⌝ }
-    ensures { λ r. ⌜ Wrote (suppliedNumber (now (file .entry)) (now (arguments .entry)) caller live (now (numbers .entry))) (now (out .entry)) (now (out .exit)) i r (supplyIn (now (file .entry)) «function_at» n) ⌝ }
+    ensures { λ r. ⌜ Wrote (suppliedNumber (now (file .entry)) (now (arguments .entry)) caller live (now (numbers .entry)))
+        (now (out .entry)) (now (out .exit)) i r (supplyIn (now (file .entry)) «function_at» n) ⌝ }
 {
     let number = supplied_number(
         file,
@@ -145,7 +150,8 @@ fn circuit_slots(
     i: usize,
 ) -> usize
     requires { ⌜ Ready (now file) «function_at» «nodes_at» n (now out) i (circuitIn (now file) «function_at» n) ⌝ }
-    ensures { λ r. ⌜ Wrote (suppliedNumber (now (file .entry)) (now (arguments .entry)) caller live (now (numbers .entry))) (now (out .entry)) (now (out .exit)) i r (circuitIn (now (file .entry)) «function_at» n) ⌝ }
+    ensures { λ r. ⌜ Wrote (suppliedNumber (now (file .entry)) (now (arguments .entry)) caller live (now (numbers .entry)))
+        (now (out .entry)) (now (out .exit)) i r (circuitIn (now (file .entry)) «function_at» n) ⌝ }
 {
     if read_code(file, function_at, nodes_at, n) == 0 {
         circuit_parts(
@@ -191,7 +197,8 @@ fn body_parts(
     i: usize,
 ) -> usize
     requires { ⌜ Ready (now file) «function_at» «nodes_at» n (now out) i (bodyPartsIn (now file) «function_at» n) ⌝ }
-    ensures { λ r. ⌜ Wrote (suppliedNumber (now (file .entry)) (now (arguments .entry)) caller live (now (numbers .entry))) (now (out .entry)) (now (out .exit)) i r (bodyPartsIn (now (file .entry)) «function_at» n) ⌝ }
+    ensures { λ r. ⌜ Wrote (suppliedNumber (now (file .entry)) (now (arguments .entry)) caller live (now (numbers .entry)))
+        (now (out .entry)) (now (out .exit)) i r (bodyPartsIn (now (file .entry)) «function_at» n) ⌝ }
 {
     let parts = parts_of(file, function_at, nodes_at, n);
     let count = parts.count;
@@ -251,7 +258,8 @@ fn circuit_parts(
     i: usize,
 ) -> usize
     requires { ⌜ Ready (now file) «function_at» «nodes_at» n (now out) i (circuitPartsIn (now file) «function_at» n) ⌝ }
-    ensures { λ r. ⌜ Wrote (suppliedNumber (now (file .entry)) (now (arguments .entry)) caller live (now (numbers .entry))) (now (out .entry)) (now (out .exit)) i r (circuitPartsIn (now (file .entry)) «function_at» n) ⌝ }
+    ensures { λ r. ⌜ Wrote (suppliedNumber (now (file .entry)) (now (arguments .entry)) caller live (now (numbers .entry)))
+        (now (out .entry)) (now (out .exit)) i r (circuitPartsIn (now (file .entry)) «function_at» n) ⌝ }
 {
     let parts = parts_of(file, function_at, nodes_at, n);
     let count = parts.count;
@@ -313,7 +321,8 @@ pub fn place_slots(
     i: usize,
 ) -> usize
     requires { ⌜ Ready (now file) «function_at» «nodes_at» n (now out) i (placedIn (now file) «function_at» n private) ⌝ }
-    ensures { λ r. ⌜ Wrote (suppliedNumber (now (file .entry)) (now (arguments .entry)) caller live (now (numbers .entry))) (now (out .entry)) (now (out .exit)) i r (placedIn (now (file .entry)) «function_at» n private) ⌝ }
+    ensures { λ r. ⌜ Wrote (suppliedNumber (now (file .entry)) (now (arguments .entry)) caller live (now (numbers .entry)))
+        (now (out .entry)) (now (out .exit)) i r (placedIn (now (file .entry)) «function_at» n private) ⌝ }
 {
     if private {
         if is_public(file, function_at, nodes_at, n) {

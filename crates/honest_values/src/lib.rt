@@ -30,7 +30,8 @@ pub fn value(
     n: usize,
 ) -> u32
     requires { ⌜ (n < nodeCount (now file)) × (Context (now file) «function_at» «nodes_at») ⌝ }
-    ensures { λ r. ⌜ r ≡ valueOf (now (file .entry)) (now (arguments .entry)) caller (now (numbers .entry)) (expressionIn (nodesIn (now (file .entry))) n) ⌝ }
+    ensures { λ r. ⌜ r ≡ valueOf (now (file .entry)) (now (arguments .entry)) caller (now (numbers .entry))
+        (expressionIn (nodesIn (now (file .entry))) n) ⌝ }
 {
     let node = node_at(file, nodes_at, n);
     let kind = node.kind;
@@ -65,7 +66,8 @@ fn entry_value(
     n: usize,
 ) -> u32
     requires { ⌜ (kindAt (now file) «nodes_at» n ≡ 4) × ((n < nodeCount (now file)) × (Context (now file) «function_at» «nodes_at»)) ⌝ }
-    ensures { λ r. ⌜ r ≡ valueOf (now (file .entry)) (now (arguments .entry)) caller (now (numbers .entry)) (expressionIn (nodesIn (now (file .entry))) n) ⌝ }
+    ensures { λ r. ⌜ r ≡ valueOf (now (file .entry)) (now (arguments .entry)) caller (now (numbers .entry))
+        (expressionIn (nodesIn (now (file .entry))) n) ⌝ }
 {
     let node = node_at(file, nodes_at, n);
     let key = value(
@@ -91,7 +93,8 @@ fn operator_value(
     n: usize,
 ) -> u32
     requires { ⌜ (kindAt (now file) «nodes_at» n ≡ 6) × ((n < nodeCount (now file)) × (Context (now file) «function_at» «nodes_at»)) ⌝ }
-    ensures { λ r. ⌜ r ≡ valueOf (now (file .entry)) (now (arguments .entry)) caller (now (numbers .entry)) (expressionIn (nodesIn (now (file .entry))) n) ⌝ }
+    ensures { λ r. ⌜ r ≡ valueOf (now (file .entry)) (now (arguments .entry)) caller (now (numbers .entry))
+        (expressionIn (nodesIn (now (file .entry))) n) ⌝ }
 {
     let node = node_at(file, nodes_at, n);
     let left = value(
@@ -126,7 +129,8 @@ fn negation_value(
     n: usize,
 ) -> u32
     requires { ⌜ (kindAt (now file) «nodes_at» n ≡ 7) × ((n < nodeCount (now file)) × (Context (now file) «function_at» «nodes_at»)) ⌝ }
-    ensures { λ r. ⌜ r ≡ valueOf (now (file .entry)) (now (arguments .entry)) caller (now (numbers .entry)) (expressionIn (nodesIn (now (file .entry))) n) ⌝ }
+    ensures { λ r. ⌜ r ≡ valueOf (now (file .entry)) (now (arguments .entry)) caller (now (numbers .entry))
+        (expressionIn (nodesIn (now (file .entry))) n) ⌝ }
 {
     let node = node_at(file, nodes_at, n);
     let part = value(

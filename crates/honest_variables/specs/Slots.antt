@@ -15,14 +15,16 @@ use Rattle.write_function_room.specs.Functions.{eventsIn, privateIn}
 unfoldable pub slotsOf : List ℕ → ℕ → List ℕ → ℕ → List ℕ → List ℕ
 slotsOf file functionStart arguments caller numbers =
     replicate (privateIn file functionStart) 0
-    ++ honestNumbers file functionStart arguments caller (nodeStatement file (rootAt file functionStart)) true numbers (privateIn file functionStart)
+    ++ honestNumbers file functionStart arguments caller (nodeStatement file (rootAt file functionStart)) true numbers
+    (privateIn file functionStart)
 
 pub record SlotsRoom (file : List ℕ) (functionStart nodesStart : ℕ) (slots : List ℕ) : Type 0 where
   pub context : Context file functionStart nodesStart
   pub root : rootAt file functionStart < nodeCount file
   pub room : privateIn file functionStart + variableCount (eventsIn file functionStart) ≤ length slots
 
-pub record SlotsPut (file : List ℕ) (functionStart : ℕ) (arguments : List ℕ) (caller : ℕ) (numbers before after : List ℕ) (r : ℕ) : Type 0 where
+pub record SlotsPut (file : List ℕ) (functionStart : ℕ) (arguments : List ℕ) (caller : ℕ) (numbers before after : List ℕ)
+    (r : ℕ) : Type 0 where
   pub slots : take r after ≡ slotsOf file functionStart arguments caller numbers
   pub count : r ≡ privateIn file functionStart + variableCount (eventsIn file functionStart)
   pub size : length after ≡ length before

@@ -28,7 +28,8 @@ contentOfSlot address call i o (suc x) = contentFor (readerOf address o) call (8
 unfoldable pub contentsOfCodes : (Name → ℕ) → ℕ → ℕ → List ℕ → List ℕ → List Content
 contentsOfCodes address call i [] slots = []
 contentsOfCodes address call i (code ∷ codes) [] = []
-contentsOfCodes address call i (code ∷ codes) (x ∷ slots) = contentOfSlot address call i (ownerOfCode code) x ∷ contentsOfCodes address call (suc i) codes slots
+contentsOfCodes address call i (code ∷ codes) (x ∷ slots) =
+    contentOfSlot address call i (ownerOfCode code) x ∷ contentsOfCodes address call (suc i) codes slots
 
 -- The address of an owner is a byte.
 abbrev pub NarrowReader : Reader → Type 0
@@ -71,5 +72,6 @@ pub record EntryReady (tag code : ℕ) (slots addresses : List ℕ) (n : ℕ) : 
 
 -- What was left with the entry's code is left without it.
 pub record EntryPut (call : ℕ) (slots addresses : List ℕ) (tag code : ℕ) (before after : List ℕ) (n next : ℕ) : Type 0 where
-  pub passes : (all : List Content) (codes : List ℕ) → Left (addressFrom addresses) call slots addresses all (codeOf tag 0 code 0 0 ++ codes) before n
+  pub passes : (all : List Content) (codes : List ℕ)
+      → Left (addressFrom addresses) call slots addresses all (codeOf tag 0 code 0 0 ++ codes) before n
       → Left (addressFrom addresses) call slots addresses all codes after next

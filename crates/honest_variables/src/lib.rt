@@ -41,7 +41,8 @@ pub fn honest_slots(
     slots: &mut [u64],
 ) -> usize
     requires { ⌜ SlotsRoom (now file) «function_at» «nodes_at» (now slots) ⌝ }
-    ensures { λ r. ⌜ SlotsPut (now (file .entry)) «function_at» (now (arguments .entry)) caller (now (numbers .entry)) (now (slots .entry)) (now (slots .exit)) r ⌝ }
+    ensures { λ r. ⌜ SlotsPut (now (file .entry)) «function_at» (now (arguments .entry)) caller (now (numbers .entry))
+        (now (slots .entry)) (now (slots .exit)) r ⌝ }
 {
     let count = byte_at(file, function_at);
     let private = count_private(file, function_at + 1, count);
@@ -126,7 +127,8 @@ fn put_entry(
     n: usize,
 ) -> usize
     requires { ⌜ EntryReady tag code (now slots) (now addresses) n ⌝ }
-    ensures { λ next. ⌜ EntryPut call (now (slots .entry)) (now (addresses .entry)) tag code (now (flat .entry)) (now (flat .exit)) n next ⌝ }
+    ensures { λ next. ⌜ EntryPut call (now (slots .entry)) (now (addresses .entry)) tag code
+        (now (flat .entry)) (now (flat .exit)) n next ⌝ }
 {
     if tag == 1 {
         n
@@ -148,7 +150,8 @@ pub fn put_variables(
     flat: &mut [u32],
 )
     requires { ⌜ VariablesRoom (now log) private (now slots) (now addresses) (now flat) ⌝ }
-    ensures { λ _. ⌜ contentsOf (now (flat .exit)) ≡ contentsOfCodes (addressFrom (now (addresses .entry))) call 0 (codesOf private (now (log .entry))) (now (slots .entry)) ⌝ }
+    ensures { λ _. ⌜ contentsOf (now (flat .exit))
+        ≡ contentsOfCodes (addressFrom (now (addresses .entry))) call 0 (codesOf private (now (log .entry))) (now (slots .entry)) ⌝ }
 {
     let mut n = 0;
     let mut left = private;

@@ -34,7 +34,8 @@ fn is_hidden(all: bool, owner: usize) -> bool
 // All parameters of the function that begins at a place, or the public ones alone.
 pub fn parameters_fit(file: &[u8], function_at: usize, caller: u8, all: bool, flat: &[u32]) -> bool
     requires { ⌜ («function_at» ≤ 200000) × (byteAt (now file) «function_at» ≤ 8) ⌝ }
-    ensures { λ r. ⌜ r ≡ allFit fits (formsOfParameters all caller (parametersIn (now (file .entry)) «function_at»)) (contentsOf (now (flat .entry))) ⌝ }
+    ensures { λ r. ⌜ r ≡ allFit fits (formsOfParameters all caller (parametersIn (now (file .entry)) «function_at»))
+        (contentsOf (now (flat .entry))) ⌝ }
 {
     let count = byte_at(file, function_at);
     let mut k: usize = 0;

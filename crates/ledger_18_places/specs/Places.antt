@@ -15,4 +15,5 @@ fieldForms fields numbers f key count = map (placeForm fields numbers (fieldAt f
 
 -- The forms of all places, as number 18 has them.
 abbrev pub formsOfPlaces : List Field → List ℕ → List Form
-formsOfPlaces fields numbers = zipWith (λ t r. record { type = t; reader = r }) (perPlace (λ d _. d .type) fields) (placeReaders fields numbers)
+formsOfPlaces fields numbers =
+    zipWith (λ t r. record { type = t; reader = r }) (perPlace (λ d _. d .type) fields) (placeReaders fields numbers)

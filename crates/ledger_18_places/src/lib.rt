@@ -13,7 +13,8 @@ ghost use Rattle.ledger_18_places.specs.Places.{fieldForms, formsOfPlace
 fn field_fits(file: &[u8], numbers: &[u32], f: usize, p: usize, count: usize, flat: &[u32]) -> bool
     requires { ⌜ (f < fieldCount (now file)) × (fieldCount (now file) ≤ 64) ⌝ }
     requires { ⌜ (p ≤ 2000) × (count ≤ 16) ⌝ }
-    ensures { λ r. ⌜ r ≡ frontFits fits (fieldForms (fieldsIn (now (file .entry))) (now (numbers .entry)) f 0 count) (drop p (contentsOf (now (flat .entry)))) ⌝ }
+    ensures { λ r. ⌜ r ≡ frontFits fits (fieldForms (fieldsIn (now (file .entry))) (now (numbers .entry)) f 0 count)
+        (drop p (contentsOf (now (flat .entry)))) ⌝ }
 {
     let code = ledger_types::field_type(file, f);
     let mut key: usize = 0;
@@ -31,7 +32,8 @@ fn field_fits(file: &[u8], numbers: &[u32], f: usize, p: usize, count: usize, fl
 // All places, whose plain numbers are given.
 pub fn places_fit(file: &[u8], numbers: &[u32], flat: &[u32]) -> bool
     requires { ⌜ fieldCount (now file) ≤ 64 ⌝ }
-    ensures { λ r. ⌜ r ≡ allFit fits (formsOfPlaces (fieldsIn (now (file .entry))) (now (numbers .entry))) (contentsOf (now (flat .entry))) ⌝ }
+    ensures { λ r. ⌜ r ≡ allFit fits (formsOfPlaces (fieldsIn (now (file .entry))) (now (numbers .entry)))
+        (contentsOf (now (flat .entry))) ⌝ }
 {
     let count = file_bytes::byte_at(file, 0);
     let mut f: usize = 0;

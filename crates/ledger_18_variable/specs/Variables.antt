@@ -29,8 +29,10 @@ codeReader addresses code = cond (eqb code 0) anyone (only (getD addresses code 
 
 -- Of an entry's tag, owner code and node.
 abbrev pub entryForm : List ℕ → ℕ → List ℕ → ℕ → ℕ → ℕ → Form
-entryForm file at addresses tag owner node =
-    record { type = cond (eqb tag 3) boolean (typeOf (scopeIn file at) (expressionIn (nodesIn file) node)); reader = codeReader addresses owner }
+entryForm file at addresses tag owner node = record {
+  type = cond (eqb tag 3) boolean (typeOf (scopeIn file at) (expressionIn (nodesIn file) node));
+  reader = codeReader addresses owner;
+}
 
 -- A claim makes no variable. A log ends where fewer than five numbers are left.
 unfoldable pub loggedForms : List ℕ → ℕ → List ℕ → List ℕ → List Form

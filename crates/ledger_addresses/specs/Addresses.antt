@@ -18,7 +18,9 @@ module _ (file : List ℕ) (functionStart caller : ℕ) (arguments places : List
   -- "1 me (the caller), .. 16+f final field f (f 0 to 63), 128+k parameter k (k 0 to 7)"; other codes stand for none.
   unfoldable pub addressOfCode : ℕ → ℕ
   addressOfCode code =
-      cond (eqb code 1) caller (cond (isFinalCode code) (named (finalName (code - 16))) (cond (isParameterCode code) (named (parameterName (code - 128))) 0))
+      cond (eqb code 1) caller
+      (cond (isFinalCode code) (named (finalName (code - 16)))
+      (cond (isParameterCode code) (named (parameterName (code - 128))) 0))
 
 pub record FewNames (file : List ℕ) (functionStart : ℕ) : Type 0 where
   pub fewFields : fieldCount file ≤ 64

@@ -83,7 +83,8 @@ fn final_of(code: usize) -> usize
 // The reader of field f's place at a key, where the places hold these numbers.
 pub fn place_reader(file: &[u8], f: usize, key: u32, numbers: &[u32]) -> Reader
     requires { ⌜ (f < fieldCount (now file)) × (fieldCount (now file) ≤ 64) ⌝ }
-    ensures { λ r. ⌜ readerOfCode r ≡ placeReader (finalAddress (fieldsIn (now (file .entry))) (now (numbers .entry))) ((fieldAt (fieldsIn (now (file .entry))) f) .owner) key ⌝ }
+    ensures { λ r. ⌜ readerOfCode r ≡ placeReader (finalAddress (fieldsIn (now (file .entry))) (now (numbers .entry)))
+        ((fieldAt (fieldsIn (now (file .entry))) f) .owner) key ⌝ }
 {
     let owner = file_bytes::byte_at(file, 1 + 3 * f + 2);
     if owner == 0 {

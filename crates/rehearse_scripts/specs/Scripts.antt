@@ -1,5 +1,5 @@
--- A rehearsal script: "length of a contract file (2 bytes), the file, count of addresses (1), the addresses, party (1), count of calls (1), then
--- each call: function (1), caller (1), count of arguments (1), each argument (4). Numbers are low byte first."
+-- A rehearsal script: "length of a contract file (2 bytes), the file, count of addresses (1), the addresses, party (1), count of calls (1),
+-- then each call: function (1), caller (1), count of arguments (1), each argument (4). Numbers are low byte first."
 use mathlib.Core.Bool.{Bool, cond}
 use mathlib.Core.List.{List, [], _∷_}
 use Prim.Native.Nat.{ℕ, zero, suc, _+_, _*_, _-_}

@@ -10,4 +10,5 @@ unfoldable pub reportedLength : List ℕ → ℕ → ℕ
 reportedLength file room = cond (ltb room (length (reportText file))) 0 (length (reportText file))
 
 unfoldable pub outputAfterReporting : List ℕ → List ℕ → List ℕ
-outputAfterReporting file out = cond (ltb (length out) (length (reportText file))) out (reportText file ++ drop (length (reportText file)) out)
+outputAfterReporting file out =
+    cond (ltb (length out) (length (reportText file))) out (reportText file ++ drop (length (reportText file)) out)

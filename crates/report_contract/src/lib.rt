@@ -47,7 +47,9 @@ pub struct Answer {
 
 // A wrong report that this rules out: one that writes a part of the text where the rest does not fit.
 pub fn report(file: &[u8], out: &mut [u8]) -> Answer
-    ensures { λ r. ⌜ (r .number ≡ checkNumber (now (file .entry))) × (r .length ≡ reportedLength (now (file .entry)) (length (now (out .entry)))) × (now (out .exit) ≡ outputAfterReporting (now (file .entry)) (now (out .entry))) ⌝ }
+    ensures { λ r. ⌜ (r .number ≡ checkNumber (now (file .entry)))
+        × (r .length ≡ reportedLength (now (file .entry)) (length (now (out .entry))))
+        × (now (out .exit) ≡ outputAfterReporting (now (file .entry)) (now (out .entry))) ⌝ }
 {
     let number = check(file);
     let mut text = text_room();

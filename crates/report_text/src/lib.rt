@@ -57,8 +57,10 @@ fn append_tally(function: u8, count: u16, out: &mut [u8], at: usize) -> usize
 
 // The lines of the functions that stand first in an order, one for each count.
 fn append_tallies(counts: &[u16], order: &[u8], out: &mut [u8], from: usize) -> usize
-    requires { ⌜ (length (now counts) ≤ length (now order)) × (from + length (flatMap tallyLine (orderedTallies (now counts) (length (now counts)) (now order))) ≤ length (now out)) ⌝ }
-    ensures { λ r. ⌜ Appended (now (out .entry)) (now (out .exit)) from (flatMap tallyLine (orderedTallies (now (counts .entry)) (length (now (counts .entry))) (now (order .entry)))) r ⌝ }
+    requires { ⌜ (length (now counts) ≤ length (now order))
+        × (from + length (flatMap tallyLine (orderedTallies (now counts) (length (now counts)) (now order))) ≤ length (now out)) ⌝ }
+    ensures { λ r. ⌜ Appended (now (out .entry)) (now (out .exit)) from
+        (flatMap tallyLine (orderedTallies (now (counts .entry)) (length (now (counts .entry))) (now (order .entry)))) r ⌝ }
 {
     let mut at = from;
     let mut i = 0;

@@ -21,7 +21,8 @@ pub fn body_log(
     p: Position,
 ) -> Position
     requires { ⌜ Ready (now file) «function_at» «nodes_at» n (now log) p (bodyOf (now file) «function_at» guard n) ⌝ }
-    ensures { λ r. ⌜ Logged (nodesIn (now (file .entry))) (now (log .entry)) (now (log .exit)) p r (bodyOf (now (file .entry)) «function_at» guard n (p .variable)) ⌝ }
+    ensures { λ r. ⌜ Logged (nodesIn (now (file .entry))) (now (log .entry)) (now (log .exit)) p r
+        (bodyOf (now (file .entry)) «function_at» guard n (p .variable)) ⌝ }
 {
     let code = supplied_code(file, function_at, nodes_at, n);
     if code == 0 {
@@ -42,7 +43,8 @@ fn body_parts_log(
     p: Position,
 ) -> Position
     requires { ⌜ Ready (now file) «function_at» «nodes_at» n (now log) p (bodyPartsOf (now file) «function_at» guard n) ⌝ }
-    ensures { λ r. ⌜ Logged (nodesIn (now (file .entry))) (now (log .entry)) (now (log .exit)) p r (bodyPartsOf (now (file .entry)) «function_at» guard n (p .variable)) ⌝ }
+    ensures { λ r. ⌜ Logged (nodesIn (now (file .entry))) (now (log .entry)) (now (log .exit)) p r
+        (bodyPartsOf (now (file .entry)) «function_at» guard n (p .variable)) ⌝ }
 {
     let parts = parts_of(file, function_at, nodes_at, n);
     if parts.count == 0 {
@@ -100,7 +102,8 @@ fn circuit_log(
     p: Position,
 ) -> Position
     requires { ⌜ Ready (now file) «function_at» «nodes_at» n (now log) p (circuitOf (now file) «function_at» guard n) ⌝ }
-    ensures { λ r. ⌜ Logged (nodesIn (now (file .entry))) (now (log .entry)) (now (log .exit)) p r (circuitOf (now (file .entry)) «function_at» guard n (p .variable)) ⌝ }
+    ensures { λ r. ⌜ Logged (nodesIn (now (file .entry))) (now (log .entry)) (now (log .exit)) p r
+        (circuitOf (now (file .entry)) «function_at» guard n (p .variable)) ⌝ }
 {
     let code = read_code(file, function_at, nodes_at, n);
     if code == 0 {
@@ -130,7 +133,8 @@ fn circuit_parts_log(
     p: Position,
 ) -> Position
     requires { ⌜ Ready (now file) «function_at» «nodes_at» n (now log) p (circuitPartsOf (now file) «function_at» guard n) ⌝ }
-    ensures { λ r. ⌜ Logged (nodesIn (now (file .entry))) (now (log .entry)) (now (log .exit)) p r (circuitPartsOf (now (file .entry)) «function_at» guard n (p .variable)) ⌝ }
+    ensures { λ r. ⌜ Logged (nodesIn (now (file .entry))) (now (log .entry)) (now (log .exit)) p r
+        (circuitPartsOf (now (file .entry)) «function_at» guard n (p .variable)) ⌝ }
 {
     let parts = parts_of(file, function_at, nodes_at, n);
     if parts.count == 0 {

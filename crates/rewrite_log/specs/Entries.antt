@@ -17,13 +17,18 @@ abbrev pub five : ℕ → ℕ → ℕ → ℕ → ℕ → List ℕ
 five tag variable owner node last = tag ∷ variable ∷ owner ∷ node ∷ last ∷ []
 
 pub data IsEntry (nodes : List Node) : Event → List ℕ → Type 0 where
-  suppliedEntry : (i : ℕ) (o : Owner) (n : ℕ) → n < length nodes → IsEntry nodes (suppliedEvent i o (expressionIn nodes n)) (five 0 i (ownerCode o) n 0)
-  claimedEntry : (g : Guard) (i : ℕ) (o : Owner) (n : ℕ) → n < length nodes → IsEntry nodes (claimedEvent g i o (expressionIn nodes n)) (five 1 i (ownerCode o) n (guardNumber g))
-  readEntry : (s j : ℕ) (o : Owner) (n : ℕ) → n < length nodes → IsEntry nodes (readEvent s j o (expressionIn nodes n)) (five 2 j (ownerCode o) n s)
+  suppliedEntry : (i : ℕ) (o : Owner) (n : ℕ) → n < length nodes
+      → IsEntry nodes (suppliedEvent i o (expressionIn nodes n)) (five 0 i (ownerCode o) n 0)
+  claimedEntry : (g : Guard) (i : ℕ) (o : Owner) (n : ℕ) → n < length nodes
+      → IsEntry nodes (claimedEvent g i o (expressionIn nodes n)) (five 1 i (ownerCode o) n (guardNumber g))
+  readEntry : (s j : ℕ) (o : Owner) (n : ℕ) → n < length nodes
+      → IsEntry nodes (readEvent s j o (expressionIn nodes n)) (five 2 j (ownerCode o) n s)
   guardEntry : (i : ℕ) → IsEntry nodes (guardEvent i) (five 3 i 0 0 0)
 
 -- The numbers of events, one entry after another.
 pub data Entries (nodes : List Node) : List Event → List ℕ → Type 0 where
   noEntry : Entries nodes [] []
-  entryThen : {event : Event} {entry : List ℕ} {events : List Event} {numbers : List ℕ} → IsEntry nodes event entry → Entries nodes events numbers
+  entryThen : {event : Event} {entry : List ℕ} {events : List Event} {numbers : List ℕ}
+      → IsEntry nodes event entry
+      → Entries nodes events numbers
       → Entries nodes (event ∷ events) (entry ++ numbers)

@@ -42,7 +42,9 @@ fn final_code(file: &[u8], f: usize) -> u8
 // The name code of parameter k: its own if it is a public address.
 fn address_code(file: &[u8], function_at: usize, k: usize) -> u8
     requires { ⌜ («function_at» ≤ 200000) × (byteAt (now file) «function_at» ≤ 8) ⌝ }
-    ensures { λ r. ⌜ r ≡ nameCode (cond (isPublicAddress (parameterAt (parametersIn (now (file .entry)) «function_at») k)) (some (parameterName k)) none) ⌝ }
+    ensures { λ r. ⌜ r ≡ nameCode (cond (isPublicAddress (parameterAt (parametersIn (now (file .entry)) «function_at») k))
+        (some (parameterName k))
+        none) ⌝ }
 {
     if k < byte_at(file, function_at) {
         let kind = byte_at(file, function_at + 1 + 2 * k);

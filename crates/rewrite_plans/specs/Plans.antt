@@ -32,6 +32,8 @@ pub record PartsOf (file : List ℕ) (n : ℕ) (parts : Parts) : Type 0 where
   pub first : 1 ≤ parts .count → parts .first < n
   pub second : 2 ≤ parts .count → parts .second < n
   pub none : parts .count ≡ 0 → (rule : Expression → Events) → eachPart rule (nodeExpression file n) ≡ noEvents
-  pub one : parts .count ≡ 1 → (rule : Expression → Events) → eachPart rule (nodeExpression file n) ≡ rule (nodeExpression file (parts .first))
+  pub one : parts .count ≡ 1 → (rule : Expression → Events)
+      → eachPart rule (nodeExpression file n) ≡ rule (nodeExpression file (parts .first))
   pub two : 2 ≤ parts .count → (rule : Expression → Events)
-      → eachPart rule (nodeExpression file n) ≡ inTurn (rule (nodeExpression file (parts .first))) (rule (nodeExpression file (parts .second)))
+      → eachPart rule (nodeExpression file n)
+      ≡ inTurn (rule (nodeExpression file (parts .first))) (rule (nodeExpression file (parts .second)))

@@ -24,7 +24,8 @@ abbrev pub functionFault : List ℕ → ℕ → ℕ
 functionFault file at = leastFault (functionFaults (fieldsOf file) (functionOf (nodesOf file) (functionRecord file at)))
 
 abbrev pub allFunctionsFault : List ℕ → ℕ
-allFunctionsFault file = leastFault (flatMap (functionFaults (fieldsOf file)) (map (functionOf (nodesOf file)) ((sectionsOf file) .functions)))
+allFunctionsFault file =
+    leastFault (flatMap (functionFaults (fieldsOf file)) (map (functionOf (nodesOf file)) ((sectionsOf file) .functions)))
 
 pub record FunctionReady (file : List ℕ) (nodesStart at : ℕ) : Type 0 where
   pub settled : Settled file

@@ -58,7 +58,8 @@ pub fn judge(file: &[u8], nodes_at: usize, p: Parameters, classes: Classes, n: u
 // "A completed require of name == name, or of an "and" tree holding such, links the two names"
 pub fn learn(file: &[u8], nodes_at: usize, p: Parameters, classes: Classes, n: usize) -> Classes
     requires { ⌜ (n < nodeCount (now file)) × (Ready (now file) «nodes_at» p) ⌝ }
-    ensures { λ r. ⌜ linkedBy (r .of) ≡ linksOfCondition (scopeAt (now (file .entry)) p) (expressionOn (nodesOf (now (file .entry))) n) (linkedBy (classes .of)) ⌝ }
+    ensures { λ r. ⌜ linkedBy (r .of) ≡ linksOfCondition (scopeAt (now (file .entry)) p)
+        (expressionOn (nodesOf (now (file .entry))) n) (linkedBy (classes .of)) ⌝ }
 {
     let node = node_at(file, nodes_at, n);
     let kind = node.kind;

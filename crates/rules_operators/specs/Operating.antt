@@ -11,9 +11,9 @@ use Rattle.rules_judgements.specs.declared.Judged.{Judged}
 module _ (linked : Links) where
   abbrev pub operatorFault : ℕ → Judged → Judged → ℕ
   operatorFault code left right =
-      min
-      (min
-      (min (min (min (left .fault) (right .fault)) (cond (not (fitCodes (operatorOf code) (left .kind) (right .kind))) 9 16)) (unreadFault linked (left .owner)))
+      min (min (min (min (min (left .fault) (right .fault))
+      (cond (not (fitCodes (operatorOf code) (left .kind) (right .kind))) 9 16))
+      (unreadFault linked (left .owner)))
       (unreadFault linked (right .owner)))
       (cond (isDivision (operatorOf code) && (not (eqb (left .owner) 0) || not (eqb (right .owner) 0))) 12 16)
 

@@ -10,7 +10,10 @@ use Rattle.theory_accepted.specs.Settled.{Settled}
 use Rattle.rules_scopes.specs.declared.Parameters.{Parameters}
 
 abbrev pub scopeAt : List ℕ → Parameters → Scope
-scopeAt file p = record { fields = map fieldOf ((sectionsOf file) .fields); parameters = map parameterOf (parameterRecords (p .count) file (p .at)) }
+scopeAt file p = record {
+  fields = map fieldOf ((sectionsOf file) .fields);
+  parameters = map parameterOf (parameterRecords (p .count) file (p .at));
+}
 
 pub record FieldAt (file : List ℕ) (f : ℕ) (r : Declared) : Type 0 where
   pub same : IsField (fieldAt (map fieldOf ((sectionsOf file) .fields)) f) r

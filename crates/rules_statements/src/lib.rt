@@ -44,7 +44,8 @@ fn field_takes(
     first: usize,
 ) -> u8
     requires { ⌜ (first < nodeCount (now file)) × (Ready (now file) «nodes_at» p) ⌝ }
-    ensures { λ r. ⌜ leastFault (statementFaults (scopeAt (now (file .entry)) p) (linkedBy (classes .of)) (assignField arg (expressionOn (nodesOf (now (file .entry))) first))) ≡ r ⌝ }
+    ensures { λ r. ⌜ leastFault (statementFaults (scopeAt (now (file .entry)) p) (linkedBy (classes .of))
+        (assignField arg (expressionOn (nodesOf (now (file .entry))) first))) ≡ r ⌝ }
 {
     let value = judge(file, nodes_at, p, classes, first);
     field_fault(classes, field_at(file, arg), value)
@@ -61,7 +62,10 @@ fn entry_takes(
     second: usize,
 ) -> u8
     requires { ⌜ (first < nodeCount (now file)) × (second < nodeCount (now file)) × (Ready (now file) «nodes_at» p) ⌝ }
-    ensures { λ r. ⌜ leastFault (statementFaults (scopeAt (now (file .entry)) p) (linkedBy (classes .of)) (assignEntry arg (expressionOn (nodesOf (now (file .entry))) first) (expressionOn (nodesOf (now (file .entry))) second))) ≡ r ⌝ }
+    ensures { λ r. ⌜ leastFault (statementFaults (scopeAt (now (file .entry)) p) (linkedBy (classes .of))
+        (assignEntry arg
+        (expressionOn (nodesOf (now (file .entry))) first)
+        (expressionOn (nodesOf (now (file .entry))) second))) ≡ r ⌝ }
 {
     let key = judge(file, nodes_at, p, classes, first);
     let value = judge(file, nodes_at, p, classes, second);
@@ -71,7 +75,8 @@ fn entry_takes(
 // The condition of node `first`.
 fn condition_is(file: &[u8], nodes_at: usize, p: Parameters, classes: Classes, first: usize) -> u8
     requires { ⌜ (first < nodeCount (now file)) × (Ready (now file) «nodes_at» p) ⌝ }
-    ensures { λ r. ⌜ leastFault (conditionFaults (scopeAt (now (file .entry)) p) (linkedBy (classes .of)) (expressionOn (nodesOf (now (file .entry))) first)) ≡ r ⌝ }
+    ensures { λ r. ⌜ leastFault (conditionFaults (scopeAt (now (file .entry)) p) (linkedBy (classes .of))
+        (expressionOn (nodesOf (now (file .entry))) first)) ≡ r ⌝ }
 {
     condition_fault(judge(file, nodes_at, p, classes, first))
 }

@@ -1,5 +1,6 @@
-// Deploys the contract on standard input, which is file A, with its final at address 5, and lets party 3 call it with 7. The ledger is then damaged by hand, each
-// kind of damage by itself, and a call and a view on it are asked for: they must be refused, 18 and 21, and taken where nothing is damaged.
+// Deploys the contract on standard input, which is file A, with its final at address 5, and lets party 3 call it with 7. The ledger is
+// then damaged by hand, each kind of damage by itself, and a call and a view on it are asked for: they must be refused, 18 and 21, and
+// taken where nothing is damaged.
 use call::call;
 use deploy::deploy;
 use ledger_contents::Cell;

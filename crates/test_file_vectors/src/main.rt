@@ -1,6 +1,6 @@
-// Checks, writes and reports on each contract on standard input, compares every number and byte with those recorded beside it, and prints how
-// many records were read and how many differ. A record is: length of the file (2), the file, its number (1), length of the written file (2), that
-// file, length of the report (2), the report.
+// Checks, writes and reports on each contract on standard input, compares every number and byte with those recorded beside it, and prints
+// how many records were read and how many differ. A record is: length of the file (2), the file, its number (1), length of the written
+// file (2), that file, length of the report (2), the report.
 use file_bytes::two_bytes_at;
 use libc::STDIN_FILENO;
 use libc::STDOUT_FILENO;

@@ -1,7 +1,7 @@
-// Runs each record on standard input and compares every number and every byte of every view with what is recorded, then prints how many
-// runs there were and how many differ. A record is: length of a contract file (2), the file, count of addresses (1), the addresses, party (1),
-// count of calls (1), length of the view after deployment (2), that view; then for each call: function (1), caller (1), count of arguments (1),
-// each argument (4), its number (1), length of the view that follows (2), that view.
+// Runs each record on standard input and compares every number and every byte of every view with what is recorded, then prints
+// how many runs there were and how many differ. A record is: length of a contract file (2), the file, count of addresses (1),
+// the addresses, party (1), count of calls (1), length of the view after deployment (2), that view; then for each call:
+// function (1), caller (1), count of arguments (1), each argument (4), its number (1), length of the view that follows (2), that view.
 use file_bytes::byte_at;
 use file_bytes::two_bytes_at;
 use ledger_struct::Ledger;

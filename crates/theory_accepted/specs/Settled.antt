@@ -10,7 +10,14 @@ use Rattle.definitions.specs.Numbers.{endsWrongly, countOffLimits, outsideTable
 abbrev pub sentences : List ℕ → List Bool
 sentences file =
     let s = sectionsOf file in
-    endsWrongly file ∷ countOffLimits file ∷ outsideTables s ∷ namesNothing s ∷ usedOtherThanOnce s ∷ tooDeep s ∷ wrongSort s ∷ contractSentences (contractOf s)
+    endsWrongly file
+    ∷ countOffLimits file
+    ∷ outsideTables s
+    ∷ namesNothing s
+    ∷ usedOtherThanOnce s
+    ∷ tooDeep s
+    ∷ wrongSort s
+    ∷ contractSentences (contractOf s)
 
 pub record Settled (file : List ℕ) : Type 0 where
   pub ends : endsWrongly file ≡ false

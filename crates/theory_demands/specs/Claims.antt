@@ -18,7 +18,8 @@ runAfterAll run (r ∷ rs) = runAfterAll (runAfter run r) rs
 
 -- "every place then stands for the same value": private ones as a cell of the right owner address, public ones plain.
 abbrev pub PlacesStand : Run → Type 0
-PlacesStand run = AllStand (placeReaders ((contractIn ((run .ledger) .file)) .fields) (run .original)) ((run .ledger) .places) (run .original)
+PlacesStand run =
+    AllStand (placeReaders ((contractIn ((run .ledger) .file)) .fields) (run .original)) ((run .ledger) .places) (run .original)
 
 -- "completes exactly the calls the original completes": a taken call is done where the original completes, and failed elsewhere;
 -- and where it is done every constraint holds of its variables.
@@ -26,10 +27,10 @@ pub record CallFaithful (run : Run) (r : Request) : Type 0 where
   pub outcome :
       ((runAfter run r) .ledger) .outcome
       ≡ cond (originalCompletes (contractIn ((run .ledger) .file)) (run .original) (r .function) (r .caller) (r .arguments)) 0 1
-  pub constraints :
-      ((runAfter run r) .ledger) .outcome ≡ 0
+  pub constraints : ((runAfter run r) .ledger) .outcome ≡ 0
       → all (constraintHolds (lastAddress ((runAfter run r) .ledger)) (((runAfter run r) .ledger) .variables))
-      ((rewriteFunction ((contractIn ((run .ledger) .file)) .fields) (functionOfLedger ((runAfter run r) .ledger) (((runAfter run r) .ledger) .function))) .constraints)
+      ((rewriteFunction ((contractIn ((run .ledger) .file)) .fields)
+      (functionOfLedger ((runAfter run r) .ledger) (((runAfter run r) .ledger) .function))) .constraints)
       ≡ true
 
 -- Every cell among the contents has a serial whose call is at most, or is, a number.

@@ -14,7 +14,8 @@ use Rattle.theory_relations.specs.Standing.{readersOf}
 -- A content as a party sees it: "1 opaque has value 0; 2 is a cell of the viewing party".
 unfoldable pub hidden : ℕ → Content → Content
 hidden party (plain v) = plain v
-hidden party (cell c) = cell (record { owner = c .owner; call = c .call; index = c .index; value = cond (eqb (c .owner) party) (c .value) 0 })
+hidden party (cell c) =
+    cell (record { owner = c .owner; call = c .call; index = c .index; value = cond (eqb (c .owner) party) (c .value) 0 })
 
 abbrev pub allHidden : ℕ → List Content → List Content
 allHidden party contents = map (hidden party) contents
@@ -27,5 +28,5 @@ pub record Agree (party : ℕ) (addressOf : Name → ℕ) (fields : List Field) 
   pub each : (p : ℕ) → mayRead party (getD (readersOf addressOf fields) p anyone) ≡ true → getD numbers p 0 ≡ getD numbers′ p 0
 
 pub record ArgumentsAgree (party : ℕ) (addressOf : Name → ℕ) (scope : Scope) (arguments arguments′ : List ℕ) : Type 0 where
-  pub each :
-      (k : ℕ) → mayRead party (readerOf addressOf (parameterOwner (parameterAt (scope .parameters) k))) ≡ true → getD arguments k 0 ≡ getD arguments′ k 0
+  pub each : (k : ℕ) → mayRead party (readerOf addressOf (parameterOwner (parameterAt (scope .parameters) k))) ≡ true
+      → getD arguments k 0 ≡ getD arguments′ k 0

@@ -87,7 +87,11 @@ pub fn both_walked(left: bool, right: bool) -> bool
 }
 
 fn combined(code: usize, left: Walked, right: Walked) -> Walked
-    ensures { λ r. ⌜ Gives (left .walked && right .walked && operates (operatorOf code) (plainNumber (contentOfCode (right .content)))) (plain (operate (operatorOf code) (plainNumber (contentOfCode (left .content))) (plainNumber (contentOfCode (right .content))))) r ⌝ }
+    ensures { λ r. ⌜ Gives
+        (left .walked && right .walked && operates (operatorOf code) (plainNumber (contentOfCode (right .content))))
+        (plain (operate (operatorOf code)
+        (plainNumber (contentOfCode (left .content)))
+        (plainNumber (contentOfCode (right .content))))) r ⌝ }
 {
     let first = number_of(left);
     let second = number_of(right);
@@ -120,7 +124,10 @@ pub fn evaluate(
     n: usize,
 ) -> Walked
     requires { ⌜ (n < countOf (now nodes)) × ((Readable (now nodes)) × (fieldCount (now file) ≤ 64)) ⌝ }
-    ensures { λ r. ⌜ Gives (walkedFrom (now (file .entry)) (now (addresses .entry)) (now (parameters .entry)) (stateOf (now (places .entry)) (now (variables .entry))) (bodyIn (tableOf (now (nodes .entry))) n)) (contentFrom (now (file .entry)) (now (addresses .entry)) (now (parameters .entry)) (stateOf (now (places .entry)) (now (variables .entry))) (bodyIn (tableOf (now (nodes .entry))) n)) r ⌝ }
+    ensures { λ r. ⌜ Gives (walkedFrom (now (file .entry)) (now (addresses .entry)) (now (parameters .entry))
+        (stateOf (now (places .entry)) (now (variables .entry))) (bodyIn (tableOf (now (nodes .entry))) n))
+        (contentFrom (now (file .entry)) (now (addresses .entry)) (now (parameters .entry))
+        (stateOf (now (places .entry)) (now (variables .entry))) (bodyIn (tableOf (now (nodes .entry))) n)) r ⌝ }
 {
     let node = read_node(nodes, 8 * n);
     let kind = node.kind;

@@ -31,7 +31,14 @@ fn run_last(
     variables: &mut [u32],
 ) -> bool
     requires { ⌜ LastReady (now nodes) count (now numbers) constraints (now file) ⌝ }
-    ensures { λ r. ⌜ Ran (completesFrom (now (file .entry)) (now (addresses .entry)) (now (parameters .entry)) (constraintsFrom (tableOf (take (8 * count) (now (nodes .entry)))) (take (4 * constraints) (now (numbers .entry)))) (stateOf (now (places .entry)) (now (variables .entry))) (commandIn (tableOf (take (8 * count) (now (nodes .entry)))) (count - 1))) (afterFrom (now (file .entry)) (now (addresses .entry)) (now (parameters .entry)) (stateOf (now (places .entry)) (now (variables .entry))) (commandIn (tableOf (take (8 * count) (now (nodes .entry)))) (count - 1))) (stateOf (now (places .exit)) (now (variables .exit))) r ⌝ }
+    ensures { λ r. ⌜ Ran (completesFrom (now (file .entry)) (now (addresses .entry)) (now (parameters .entry))
+        (constraintsFrom (tableOf (take (8 * count) (now (nodes .entry)))) (take (4 * constraints) (now (numbers .entry))))
+        (stateOf (now (places .entry)) (now (variables .entry)))
+        (commandIn (tableOf (take (8 * count) (now (nodes .entry)))) (count - 1)))
+        (afterFrom (now (file .entry)) (now (addresses .entry)) (now (parameters .entry))
+        (stateOf (now (places .entry)) (now (variables .entry)))
+        (commandIn (tableOf (take (8 * count) (now (nodes .entry)))) (count - 1)))
+        (stateOf (now (places .exit)) (now (variables .exit))) r ⌝ }
 {
     let end = 8 * count;
     let last = 4 * constraints;
@@ -63,7 +70,12 @@ pub fn walk_function(
     variables: &mut [u32],
 ) -> bool
     requires { ⌜ WalkReady (now file) «function_at» «nodes_at» (now log) (now numbers) (now scratch) (now roots) (now nodes) ⌝ }
-    ensures { λ r. ⌜ Ran (walkCompletes (addressFrom (now (addresses .entry))) (fieldsIn (now (file .entry))) (contentsOf (now (parameters .entry))) ((writtenIn (now (file .entry)) «function_at») .constraints) (stateOf (now (places .entry)) (now (variables .entry))) ((writtenIn (now (file .entry)) «function_at») .body)) (stateAfter (addressFrom (now (addresses .entry))) (fieldsIn (now (file .entry))) (contentsOf (now (parameters .entry))) (stateOf (now (places .entry)) (now (variables .entry))) ((writtenIn (now (file .entry)) «function_at») .body)) (stateOf (now (places .exit)) (now (variables .exit))) r ⌝ }
+    ensures { λ r. ⌜ Ran (walkCompletes (addressFrom (now (addresses .entry))) (fieldsIn (now (file .entry)))
+        (contentsOf (now (parameters .entry))) ((writtenIn (now (file .entry)) «function_at») .constraints)
+        (stateOf (now (places .entry)) (now (variables .entry))) ((writtenIn (now (file .entry)) «function_at») .body))
+        (stateAfter (addressFrom (now (addresses .entry))) (fieldsIn (now (file .entry))) (contentsOf (now (parameters .entry)))
+        (stateOf (now (places .entry)) (now (variables .entry))) ((writtenIn (now (file .entry)) «function_at») .body))
+        (stateOf (now (places .exit)) (now (variables .exit))) r ⌝ }
 {
     let count = byte_at(file, function_at);
     let private = count_private(file, function_at + 1, count);

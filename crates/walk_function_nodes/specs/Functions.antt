@@ -35,7 +35,8 @@ pub record FunctionLogged (file : List ℕ) (functionStart nodesStart : ℕ) (lo
   pub held : Holds log numbers 0
   pub count : entries ≡ length (eventsIn file functionStart)
 
-pub record ConstraintsReady (file : List ℕ) (functionStart nodesStart : ℕ) (log : List ℕ) (entries private : ℕ) (numbers out : List ℕ) : Type 0 where
+pub record ConstraintsReady (file : List ℕ) (functionStart nodesStart : ℕ) (log : List ℕ) (entries private : ℕ)
+    (numbers out : List ℕ) : Type 0 where
   pub logged : FunctionLogged file functionStart nodesStart log entries private
   pub space : 4 * (entries + 8) ≤ length numbers
   pub bytes : 8 * sizes (functionTrees (writtenIn file functionStart)) ≤ length out
@@ -47,7 +48,8 @@ pub record ConstraintsPut (w : WrittenFunction) (private : ℕ) (numbers numbers
   pub nodes : r .nodes ≡ sizes (circuitTrees w)
   pub count : private + r .count ≡ length (w .constraints)
 
-pub record FunctionReady (file : List ℕ) (functionStart nodesStart : ℕ) (log : List ℕ) (entries private : ℕ) (numbers scratch roots out : List ℕ) : Type 0 where
+pub record FunctionReady (file : List ℕ) (functionStart nodesStart : ℕ) (log : List ℕ) (entries private : ℕ)
+    (numbers scratch roots out : List ℕ) : Type 0 where
   pub constraints : ConstraintsReady file functionStart nodesStart log entries private numbers out
   pub scratchSpace : 5 * entries ≤ length scratch
   pub rootsSpace : entries + 8 ≤ length roots

@@ -16,7 +16,8 @@ pub struct Extent {
     pub constraints: usize,
 }
 
-// The constraints of so many private parameters, each ".. that it opens for the caller": no guard, the caller's owner code, 65,535 for "opens".
+// The constraints of so many private parameters, each ".. that it opens for the caller":
+// no guard, the caller's owner code, 65,535 for "opens".
 fn put_openings(numbers: &mut [u16], private: usize)
     requires { ⌜ (private ≤ 8) × (4 * private ≤ length (now numbers)) ⌝ }
     ensures { λ _. ⌜ now (numbers .exit) ≡ stored (now (numbers .entry)) 0 (openingNumbers 0 private) ⌝ }
@@ -40,7 +41,8 @@ fn put_constraints(
     out: &mut [u8],
 ) -> Circuits
     requires { ⌜ ConstraintsReady (now file) «function_at» «nodes_at» (now log) entries private (now numbers) (now out) ⌝ }
-    ensures { λ r. ⌜ ConstraintsPut (writtenIn (now (file .entry)) «function_at») private (now (numbers .entry)) (now (numbers .exit)) (now (out .entry)) (now (out .exit)) r ⌝ }
+    ensures { λ r. ⌜ ConstraintsPut (writtenIn (now (file .entry)) «function_at») private (now (numbers .entry)) (now (numbers .exit))
+        (now (out .entry)) (now (out .exit)) r ⌝ }
 {
     put_openings(numbers, private);
     put_circuits(
@@ -71,8 +73,10 @@ pub fn put_function(
     roots: &mut [u16],
     out: &mut [u8],
 ) -> Extent
-    requires { ⌜ FunctionReady (now file) «function_at» «nodes_at» (now log) entries private (now numbers) (now scratch) (now roots) (now out) ⌝ }
-    ensures { λ r. ⌜ FunctionPut (writtenIn (now (file .entry)) «function_at») (now (numbers .entry)) (now (numbers .exit)) (now (out .entry)) (now (out .exit)) r ⌝ }
+    requires { ⌜ FunctionReady (now file) «function_at» «nodes_at» (now log) entries private
+        (now numbers) (now scratch) (now roots) (now out) ⌝ }
+    ensures { λ r. ⌜ FunctionPut (writtenIn (now (file .entry)) «function_at») (now (numbers .entry)) (now (numbers .exit))
+        (now (out .entry)) (now (out .exit)) r ⌝ }
 {
     let circuits = put_constraints(
         file,

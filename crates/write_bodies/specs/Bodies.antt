@@ -54,13 +54,16 @@ pub record ConditionReady (file : List ℕ) (functionStart nodesStart n i : ℕ)
   pub enough : length (conditionSteps file functionStart n i) ≤ length roots
   pub then : Command
   pub else : Command
-  pub room : Room out at base
-      (commandTree (stepsBefore (conditionSteps file functionStart n i) (Command.conditional ((inBody (scopeIn file functionStart) (expressionIn (nodesIn file) n) i) .form) then else)))
+  pub room : Room out at base (commandTree (stepsBefore (conditionSteps file functionStart n i)
+      (Command.conditional ((inBody (scopeIn file functionStart) (expressionIn (nodesIn file) n) i) .form) then else)))
 
-pub record ConditionWritten (file : List ℕ) (functionStart n i : ℕ) (roots rootsAfter out after : List ℕ) (at base : ℕ) (r : Condition) : Type 0 where
+pub record ConditionWritten (file : List ℕ) (functionStart n i : ℕ) (roots rootsAfter out after : List ℕ) (at base : ℕ)
+    (r : Condition) : Type 0 where
   pub between : List ℕ
-  pub put : StepsPut out between roots rootsAfter at base 0 (conditionSteps file functionStart n i) (record { count = r .count; nodes = r .nodes })
-  pub written : Numbered between after (at + 8 * r .nodes) (base + r .nodes) (bodyForm (scopeIn file functionStart) (expressionIn (nodesIn file) n) i) (r .form)
+  pub put : StepsPut out between roots rootsAfter at base 0 (conditionSteps file functionStart n i)
+      (record { count = r .count; nodes = r .nodes })
+  pub written : Numbered between after (at + 8 * r .nodes) (base + r .nodes)
+      (bodyForm (scopeIn file functionStart) (expressionIn (nodesIn file) n) i) (r .form)
   pub next : r .next ≡ i + variableCount (conditionEvents file functionStart n i)
 
 -- The two branches of a conditional, whose node is a record, behind a condition of so many nodes; the first guard is variable j.
@@ -72,12 +75,15 @@ module _ (file : List ℕ) (functionStart : ℕ) (own : NodeRecord) (j : ℕ) wh
   branchesEvents = branchEvents file functionStart (own .second) j + branchEvents file functionStart (own .third) elseGuard
 
   abbrev pub branchesTree : Tree → Tree
-  branchesTree condition = threeChildren 21 condition (branchTree file functionStart (own .second) j) (branchTree file functionStart (own .third) elseGuard)
+  branchesTree condition =
+      threeChildren 21 condition (branchTree file functionStart (own .second) j)
+      (branchTree file functionStart (own .third) elseGuard)
 
   abbrev pub afterBranches : ℕ
   afterBranches = elseGuard + branchVariables file functionStart (own .third) elseGuard
 
-pub record BranchesReady (file : List ℕ) (functionStart nodesStart n : ℕ) (own : NodeRecord) (form j : ℕ) (scratch roots out : List ℕ) (at base : ℕ) : Type 0 where
+pub record BranchesReady (file : List ℕ) (functionStart nodesStart n : ℕ) (own : NodeRecord) (form j : ℕ)
+    (scratch roots out : List ℕ) (at base : ℕ) : Type 0 where
   pub inside : n < nodeCount file
   pub context : Context file functionStart nodesStart
   pub kind : own .kind ≡ 21
@@ -89,13 +95,16 @@ pub record BranchesReady (file : List ℕ) (functionStart nodesStart n : ℕ) (o
   pub room : Room held at base (branchesTree file functionStart own j condition)
   pub written : Numbered held out at base condition form
 
-pub record BranchesWritten (file : List ℕ) (functionStart : ℕ) (own : NodeRecord) (form j : ℕ) (out after : List ℕ) (at base : ℕ) (r : Extent) : Type 0 where
-  pub for : (held : List ℕ) (condition : Tree) → Room held at base (branchesTree file functionStart own j condition) → Numbered held out at base condition form
+pub record BranchesWritten (file : List ℕ) (functionStart : ℕ) (own : NodeRecord) (form j : ℕ) (out after : List ℕ)
+    (at base : ℕ) (r : Extent) : Type 0 where
+  pub for : (held : List ℕ) (condition : Tree) → Room held at base (branchesTree file functionStart own j condition)
+      → Numbered held out at base condition form
       → Numbered held after at base (branchesTree file functionStart own j condition) (r .nodes)
   pub next : r .next ≡ afterBranches file functionStart own j
 
 -- A function's root statement and its verify.
-pub record PassageReady (file : List ℕ) (functionStart nodesStart private : ℕ) (verified : Bool) (scratch roots out : List ℕ) (at base : ℕ) : Type 0 where
+pub record PassageReady (file : List ℕ) (functionStart nodesStart private : ℕ) (verified : Bool) (scratch roots out : List ℕ)
+    (at base : ℕ) : Type 0 where
   pub context : Context file functionStart nodesStart
   pub root : rootAt file functionStart < nodeCount file
   pub space : 5 * length (eventsAt file functionStart (rootAt file functionStart) private) ≤ length scratch
@@ -104,7 +113,8 @@ pub record PassageReady (file : List ℕ) (functionStart nodesStart private : �
   pub room : Room out at base (passageTree file functionStart private verified)
 
 -- A function's whole body.
-pub record BodyReady (file : List ℕ) (functionStart nodesStart private : ℕ) (verified : Bool) (scratch roots out : List ℕ) (at base : ℕ) : Type 0 where
+pub record BodyReady (file : List ℕ) (functionStart nodesStart private : ℕ) (verified : Bool) (scratch roots out : List ℕ)
+    (at base : ℕ) : Type 0 where
   pub context : Context file functionStart nodesStart
   pub root : rootAt file functionStart < nodeCount file
   pub privateIs : private ≡ privateIn file functionStart

@@ -1,4 +1,5 @@
--- The trees of a file's statements and branches as they are written, and how many events and variables they have. None of it depends on a guard.
+-- The trees of a file's statements and branches as they are written, and how many events and variables they have.
+-- None of it depends on a guard.
 use mathlib.Core.Bool.{Bool, cond}
 use mathlib.Core.List.{List, map}
 use Prim.Native.Nat.{ℕ, _+_, _*_}
@@ -55,7 +56,8 @@ module _ (file : List ℕ) (functionStart : ℕ) where
 abbrev pub recordAt : List ℕ → ℕ → ℕ → NodeRecord
 recordAt file nodesStart n = nodeRecord file (nodesStart + 2 + 8 * n)
 
--- The reads of the private ones among parameters that stand in a file from a place on, the first of them number k; the first variable is number i.
+-- The reads of the private ones among parameters that stand in a file from a place on, the first of them number k;
+-- the first variable is number i.
 abbrev pub openingSteps : List ℕ → ℕ → ℕ → ℕ → ℕ → List Step
 openingSteps file place left k i = (openings (privateParameters k (map parameterOf (parameterRecords left file place))) i) .steps
 

@@ -45,14 +45,20 @@ abbrev pub circuitAt : Scope → List Node → List ℕ → ℕ → Tree
 circuitAt scope nodes log from = circuitForm scope (expressionIn nodes (getD log (from + 3) 0)) (getD log (from + 1) 0 + 1)
 
 abbrev pub claimAt : Scope → List Node → List ℕ → ℕ → LoggedClaim
-claimAt scope nodes log from =
-    record { guard = getD log (from + 4) 0; variable = getD log (from + 1) 0; owner = getD log (from + 2) 0; tree = circuitAt scope nodes log from }
+claimAt scope nodes log from = record {
+  guard = getD log (from + 4) 0;
+  variable = getD log (from + 1) 0;
+  owner = getD log (from + 2) 0;
+  tree = circuitAt scope nodes log from;
+}
 
 -- The claims among so many entries of a log.
 unfoldable pub claimsAt : Scope → List Node → List ℕ → ℕ → ℕ → List LoggedClaim
 claimsAt scope nodes log from zero = []
 claimsAt scope nodes log from (suc left) =
-    cond (isClaimAt log from) (claimAt scope nodes log from ∷ claimsAt scope nodes log (from + 5) left) (claimsAt scope nodes log (from + 5) left)
+    cond (isClaimAt log from)
+    (claimAt scope nodes log from ∷ claimsAt scope nodes log (from + 5) left)
+    (claimsAt scope nodes log (from + 5) left)
 
 abbrev pub loggedClaims : Scope → List Node → ℕ → List ℕ → ℕ → ℕ → List ℕ
 loggedClaims scope nodes base log from left = foursOf base (claimsAt scope nodes log from left)
@@ -68,13 +74,15 @@ pub record Claimable (file : List ℕ) (functionStart : ℕ) (log : List ℕ) (f
   pub space : from + 5 * left ≤ length log
   pub inside : (k : ℕ) → k < left → getD log (from + 5 * k) 0 ≡ 1 → getD log (from + 5 * k + 3) 0 < nodeCount file
   pub few : (k : ℕ) → k < left → getD log (from + 5 * k) 0 ≡ 1
-      → getD log (from + 5 * k + 1) 0 + 1 + circuitCount (scopeIn file functionStart) (expressionIn (nodesIn file) (getD log (from + 5 * k + 3) 0)) ≤ 65535
+      → getD log (from + 5 * k + 1) 0 + 1
+      + circuitCount (scopeIn file functionStart) (expressionIn (nodesIn file) (getD log (from + 5 * k + 3) 0)) ≤ 65535
 
 -- The same of the one entry at a place.
 pub record EntryClaimable (file : List ℕ) (functionStart : ℕ) (log : List ℕ) (from : ℕ) : Type 0 where
   pub space : from + 5 ≤ length log
   pub inside : getD log (from + 3) 0 < nodeCount file
-  pub few : getD log (from + 1) 0 + 1 + circuitCount (scopeIn file functionStart) (expressionIn (nodesIn file) (getD log (from + 3) 0)) ≤ 65535
+  pub few : getD log (from + 1) 0 + 1
+      + circuitCount (scopeIn file functionStart) (expressionIn (nodesIn file) (getD log (from + 3) 0)) ≤ 65535
 
 -- There is room for the nodes of the circuits, and for four numbers a claim.
 pub record CircuitsRoom (out fours : List ℕ) (at base place : ℕ) (claims : List LoggedClaim) : Type 0 where

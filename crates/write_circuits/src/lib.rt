@@ -36,8 +36,11 @@ fn put_circuit(
     at: usize,
     base: usize,
 ) -> usize
-    requires { ⌜ (Context (now file) «function_at» «nodes_at») × ((EntryClaimable (now file) «function_at» (now log) from) × (Room (now out) at base (circuitAt (scopeIn (now file) «function_at») (nodesIn (now file)) (now log) from))) ⌝ }
-    ensures { λ r. ⌜ Numbered (now (out .entry)) (now (out .exit)) at base (circuitAt (scopeIn (now (file .entry)) «function_at») (nodesIn (now (file .entry))) (now (log .entry)) from) r ⌝ }
+    requires { ⌜ (Context (now file) «function_at» «nodes_at»)
+        × ((EntryClaimable (now file) «function_at» (now log) from)
+        × (Room (now out) at base (circuitAt (scopeIn (now file) «function_at») (nodesIn (now file)) (now log) from))) ⌝ }
+    ensures { λ r. ⌜ Numbered (now (out .entry)) (now (out .exit)) at base
+        (circuitAt (scopeIn (now (file .entry)) «function_at») (nodesIn (now (file .entry))) (now (log .entry)) from) r ⌝ }
 {
     let first = log[from + 1] as usize + 1;
     let n = log[from + 3] as usize;
@@ -47,7 +50,8 @@ fn put_circuit(
 // The numbers of one claim, whose circuit has this root.
 fn put_claim(log: &[u16], from: usize, root: u16, numbers: &mut [u16], noted: usize)
     requires { ⌜ (from + 5 ≤ length (now log)) × (noted + 4 ≤ length (now numbers)) ⌝ }
-    ensures { λ _. ⌜ now (numbers .exit) ≡ stored (now (numbers .entry)) noted (four (getD (now (log .entry)) (from + 4) 0) (getD (now (log .entry)) (from + 1) 0) (getD (now (log .entry)) (from + 2) 0) root) ⌝ }
+    ensures { λ _. ⌜ now (numbers .exit) ≡ stored (now (numbers .entry)) noted (four (getD (now (log .entry)) (from + 4) 0)
+        (getD (now (log .entry)) (from + 1) 0) (getD (now (log .entry)) (from + 2) 0) root) ⌝ }
 {
     put_four(
         numbers,
@@ -73,8 +77,11 @@ pub fn put_circuits(
     at: usize,
     base: usize,
 ) -> Circuits
-    requires { ⌜ (Context (now file) «function_at» «nodes_at») × ((Claimable (now file) «function_at» (now log) from left) × (CircuitsRoom (now out) (now numbers) at base noted (claimsIn (now file) «function_at» (now log) from left))) ⌝ }
-    ensures { λ r. ⌜ CircuitsPut (now (out .entry)) (now (out .exit)) (now (numbers .entry)) (now (numbers .exit)) at base noted (claimsIn (now (file .entry)) «function_at» (now (log .entry)) from left) r ⌝ }
+    requires { ⌜ (Context (now file) «function_at» «nodes_at»)
+        × ((Claimable (now file) «function_at» (now log) from left)
+        × (CircuitsRoom (now out) (now numbers) at base noted (claimsIn (now file) «function_at» (now log) from left))) ⌝ }
+    ensures { λ r. ⌜ CircuitsPut (now (out .entry)) (now (out .exit)) (now (numbers .entry)) (now (numbers .exit)) at base noted
+        (claimsIn (now (file .entry)) «function_at» (now (log .entry)) from left) r ⌝ }
 {
     if left == 0 {
         Circuits { count: 0, nodes: 0 }

@@ -19,7 +19,8 @@ fn written_type(kind: usize, owner: usize) -> usize
 }
 
 fn append_field(shape: usize, kind: usize, owner: usize, out: &mut [u8], at: usize) -> usize
-    requires { ⌜ (fieldInTables (fieldRead shape kind owner) ≡ true) × ((shape ≤ 255) × ((kind ≤ 255) × ((owner ≤ 255) × (at + 3 ≤ length (now out))))) ⌝ }
+    requires { ⌜ (fieldInTables (fieldRead shape kind owner) ≡ true)
+        × ((shape ≤ 255) × ((kind ≤ 255) × ((owner ≤ 255) × (at + 3 ≤ length (now out))))) ⌝ }
     ensures { λ r. ⌜ Appended (now (out .entry)) (now (out .exit)) at (writtenField (fieldRead shape kind owner)) r ⌝ }
 {
     let next = append_byte(shape as u8, out, at);

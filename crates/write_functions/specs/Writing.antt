@@ -45,14 +45,16 @@ pub record CircuitsWritten (file : List ℕ) (at : ℕ) (log numbers out after :
   pub contents : after ≡ stored out (8 * base) (flatMap nodeBytes (numberedAll base (circuitsIn file at)))
   pub nodes : r .nodes ≡ sizes (circuitsIn file at)
 
-pub record HeadingReady (file : List ℕ) (at : ℕ) (log numbers claims headings : List ℕ) (from : ℕ) (parts : Parts) (base total : ℕ) : Type 0 where
+pub record HeadingReady (file : List ℕ) (at : ℕ) (log numbers claims headings : List ℕ) (from : ℕ) (parts : Parts)
+    (base total : ℕ) : Type 0 where
   pub room : FunctionRoom file at from base
   pub told : Told file at base log numbers parts
   pub whole : total ≡ sizes (functionTrees (writtenIn file at))
   pub claimSpace : 9216 ≤ length claims
   pub headingSpace : 49152 ≤ length headings
 
-pub record FunctionReady (file : List ℕ) (at nodesStart : ℕ) (log scratch roots numbers claims headings : List ℕ) (from : ℕ) (nodes : List ℕ) (base : ℕ) : Type 0 where
+pub record FunctionReady (file : List ℕ) (at nodesStart : ℕ) (log scratch roots numbers claims headings : List ℕ) (from : ℕ)
+    (nodes : List ℕ) (base : ℕ) : Type 0 where
   pub room : FunctionRoom file at from base
   pub nodesPlace : nodesStart ≡ nodesAt file
   pub logSpace : 7680 ≤ length log
@@ -63,7 +65,8 @@ pub record FunctionReady (file : List ℕ) (at nodesStart : ℕ) (log scratch ro
   pub headingSpace : 49152 ≤ length headings
   pub nodeSpace : 49152 ≤ length nodes
 
-pub record FunctionWritten (file : List ℕ) (at : ℕ) (headings headingsAfter : List ℕ) (from : ℕ) (nodes nodesAfter : List ℕ) (base : ℕ) (r : Extent) : Type 0 where
+pub record FunctionWritten (file : List ℕ) (at : ℕ) (headings headingsAfter : List ℕ) (from : ℕ) (nodes nodesAfter : List ℕ)
+    (base : ℕ) (r : Extent) : Type 0 where
   pub heading : headingsAfter ≡ stored headings from (functionBytes base (writtenIn file at))
   pub end : r .end ≡ from + length (functionBytes base (writtenIn file at))
   pub contents : nodesAfter ≡ stored nodes (8 * base) (flatMap nodeBytes (numberedAll base (functionTrees (writtenIn file at))))

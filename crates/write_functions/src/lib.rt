@@ -37,7 +37,8 @@ fn write_circuits(
     base: usize,
 ) -> Parts
     requires { ⌜ CircuitsReady (now file) «function_at» «nodes_at» (now log) (now numbers) (now out) base ⌝ }
-    ensures { λ r. ⌜ CircuitsWritten (now (file .entry)) «function_at» (now (log .exit)) (now (numbers .exit)) (now (out .entry)) (now (out .exit)) base r ⌝ }
+    ensures { λ r. ⌜ CircuitsWritten (now (file .entry)) «function_at» (now (log .exit)) (now (numbers .exit))
+        (now (out .entry)) (now (out .exit)) base r ⌝ }
 {
     let parameters = byte_at(file, function_at);
     let private = count_private(file, function_at + 1, parameters);
@@ -78,7 +79,8 @@ fn write_heading(
     total: usize,
 ) -> usize
     requires { ⌜ HeadingReady (now file) «function_at» (now log) (now numbers) (now claims) (now headings) from parts base total ⌝ }
-    ensures { λ r. ⌜ Appended (now (headings .entry)) (now (headings .exit)) from (functionBytes base (writtenIn (now (file .entry)) «function_at»)) r ⌝ }
+    ensures { λ r. ⌜ Appended (now (headings .entry)) (now (headings .exit)) from
+        (functionBytes base (writtenIn (now (file .entry)) «function_at»)) r ⌝ }
 {
     let logged = parts.logged;
     let claimed = append_claims(numbers, parts.claims, claims, 0);
@@ -110,8 +112,10 @@ pub fn write_function(
     nodes: &mut [u8],
     base: usize,
 ) -> Extent
-    requires { ⌜ FunctionReady (now file) «function_at» «nodes_at» (now log) (now scratch) (now roots) (now numbers) (now claims) (now headings) from (now nodes) base ⌝ }
-    ensures { λ r. ⌜ FunctionWritten (now (file .entry)) «function_at» (now (headings .entry)) (now (headings .exit)) from (now (nodes .entry)) (now (nodes .exit)) base r ⌝ }
+    requires { ⌜ FunctionReady (now file) «function_at» «nodes_at» (now log) (now scratch) (now roots) (now numbers) (now claims)
+        (now headings) from (now nodes) base ⌝ }
+    ensures { λ r. ⌜ FunctionWritten (now (file .entry)) «function_at» (now (headings .entry)) (now (headings .exit)) from
+        (now (nodes .entry)) (now (nodes .exit)) base r ⌝ }
 {
     let parts = write_circuits(file, function_at, nodes_at, log, numbers, nodes, base);
     let constraints = parts.private + parts.claims;

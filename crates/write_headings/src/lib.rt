@@ -80,7 +80,8 @@ pub fn append_heading(
     from: usize,
 ) -> usize
     requires { ⌜ HeadingFits (now file) «function_at» made (now log) (now claims) root from (length (now out)) ⌝ }
-    ensures { λ r. ⌜ Appended (now (out .entry)) (now (out .exit)) from (headingParts (now (file .entry)) «function_at» made (now (log .entry)) (now (claims .entry)) root) r ⌝ }
+    ensures { λ r. ⌜ Appended (now (out .entry)) (now (out .exit)) from
+        (headingParts (now (file .entry)) «function_at» made (now (log .entry)) (now (claims .entry)) root) r ⌝ }
 {
     let private = private_of(file, function_at);
     let parameters = append_parameter_part(file, function_at, out, from);

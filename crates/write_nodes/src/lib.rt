@@ -47,7 +47,8 @@ pub fn put_above_one(
     base: usize,
 ) -> usize
     requires { ⌜ (1 ≤ nodes) × ((base + nodes ≤ 65535) × (at + 8 * nodes + 8 ≤ length (now out))) ⌝ }
-    ensures { λ r. ⌜ (now (out .exit) ≡ stored (now (out .entry)) (at + 8 * nodes) (nodeBytes (node kind arg (base + nodes - 1) 0 0))) × (r ≡ nodes + 1) ⌝ }
+    ensures { λ r. ⌜ (now (out .exit) ≡ stored (now (out .entry)) (at + 8 * nodes) (nodeBytes (node kind arg (base + nodes - 1) 0 0)))
+        × (r ≡ nodes + 1) ⌝ }
 {
     put_node(kind, arg, base + nodes - 1, 0, 0, out, at + 8 * nodes);
     nodes + 1
@@ -64,7 +65,9 @@ pub fn put_above_two(
     base: usize,
 ) -> usize
     requires { ⌜ (1 ≤ left) × ((base + left + right ≤ 65535) × (at + 8 * left + 8 * right + 8 ≤ length (now out))) ⌝ }
-    ensures { λ r. ⌜ (now (out .exit) ≡ stored (now (out .entry)) (at + 8 * left + 8 * right) (nodeBytes (node kind arg (base + left - 1) (base + left + right - 1) 0))) × (r ≡ left + right + 1) ⌝ }
+    ensures { λ r. ⌜ (now (out .exit) ≡ stored (now (out .entry)) (at + 8 * left + 8 * right)
+        (nodeBytes (node kind arg (base + left - 1) (base + left + right - 1) 0)))
+        × (r ≡ left + right + 1) ⌝ }
 {
     put_node(
         kind,
@@ -81,7 +84,9 @@ pub fn put_above_two(
 // "22 variable first set to second": the node above a value of so many nodes.
 pub fn put_setting(variable: usize, nodes: usize, out: &mut [u8], at: usize, base: usize) -> usize
     requires { ⌜ (1 ≤ nodes) × ((base + nodes ≤ 65535) × (at + 8 * nodes + 8 ≤ length (now out))) ⌝ }
-    ensures { λ r. ⌜ (now (out .exit) ≡ stored (now (out .entry)) (at + 8 * nodes) (nodeBytes (node 22 0 variable (base + nodes - 1) 0))) × (r ≡ nodes + 1) ⌝ }
+    ensures { λ r. ⌜ (now (out .exit) ≡ stored (now (out .entry)) (at + 8 * nodes)
+        (nodeBytes (node 22 0 variable (base + nodes - 1) 0)))
+        × (r ≡ nodes + 1) ⌝ }
 {
     put_node(22, 0, variable, base + nodes - 1, 0, out, at + 8 * nodes);
     nodes + 1
@@ -98,7 +103,9 @@ pub fn put_above_three(
     base: usize,
 ) -> usize
     requires { ⌜ (1 ≤ a) × ((base + a + b + c ≤ 65535) × (at + 8 * a + 8 * b + 8 * c + 8 ≤ length (now out))) ⌝ }
-    ensures { λ r. ⌜ (now (out .exit) ≡ stored (now (out .entry)) (at + 8 * a + 8 * b + 8 * c) (nodeBytes (node kind 0 (base + a - 1) (base + a + b - 1) (base + a + b + c - 1)))) × (r ≡ a + b + c + 1) ⌝ }
+    ensures { λ r. ⌜ (now (out .exit) ≡ stored (now (out .entry)) (at + 8 * a + 8 * b + 8 * c)
+        (nodeBytes (node kind 0 (base + a - 1) (base + a + b - 1) (base + a + b + c - 1))))
+        × (r ≡ a + b + c + 1) ⌝ }
 {
     put_node(
         kind,

@@ -23,8 +23,10 @@ fn write_functions(
     from: usize,
     nodes: &mut [u8],
 ) -> Extent
-    requires { ⌜ (FunctionsReady (now file) first count «nodes_at» from (now headings) (now nodes)) × (Scratch (now log) (now scratch) (now roots) (now numbers) (now claims)) ⌝ }
-    ensures { λ r. ⌜ FunctionsPut (now (file .entry)) (functionCount (now (file .entry))) from (now (headings .entry)) (now (headings .exit)) (now (nodes .entry)) (now (nodes .exit)) (r .end) (r .nodes) ⌝ }
+    requires { ⌜ (FunctionsReady (now file) first count «nodes_at» from (now headings) (now nodes))
+        × (Scratch (now log) (now scratch) (now roots) (now numbers) (now claims)) ⌝ }
+    ensures { λ r. ⌜ FunctionsPut (now (file .entry)) (functionCount (now (file .entry))) from
+        (now (headings .entry)) (now (headings .exit)) (now (nodes .entry)) (now (nodes .exit)) (r .end) (r .nodes) ⌝ }
 {
     let mut function_at = first;
     let mut f = 0;
@@ -59,7 +61,8 @@ fn write_functions(
 // The whole file: fields, count of functions, functions.
 pub fn write_parts(file: &[u8], headings: &mut [u8], nodes: &mut [u8]) -> Extent
     requires { ⌜ Ready (now file) (now headings) (now nodes) ⌝ }
-    ensures { λ r. ⌜ PartsPut (now (file .entry)) (now (headings .entry)) (now (headings .exit)) (now (nodes .entry)) (now (nodes .exit)) (r .end) (r .nodes) ⌝ }
+    ensures { λ r. ⌜ PartsPut (now (file .entry)) (now (headings .entry)) (now (headings .exit))
+        (now (nodes .entry)) (now (nodes .exit)) (r .end) (r .nodes) ⌝ }
 {
     let layout = read_layout(file);
     let fields = append_field_section(file, headings, 0);

@@ -12,9 +12,11 @@ use Rattle.write_simple_statements.specs.Places.{placedCount}
 unfoldable pub simple : Scope → Statement → Generator Command
 simple scope Statement.skip = kept Command.skip
 simple scope (Statement.sequence first second) = kept Command.skip
-simple scope (Statement.assignField f value) = onePart (Command.assignField f) (inPlace scope (placeOwner ((fieldAt (scope .fields) f) .owner) none) value)
+simple scope (Statement.assignField f value) =
+    onePart (Command.assignField f) (inPlace scope (placeOwner ((fieldAt (scope .fields) f) .owner) none) value)
 simple scope (Statement.assignEntry f key value) =
-    twoParts (Command.assignEntry f) (inBody scope key) (inPlace scope (placeOwner ((fieldAt (scope .fields) f) .owner) (nameOf scope key)) value)
+    twoParts (Command.assignEntry f) (inBody scope key)
+    (inPlace scope (placeOwner ((fieldAt (scope .fields) f) .owner) (nameOf scope key)) value)
 simple scope (Statement.require condition) = onePart Command.require (inBody scope condition)
 simple scope (Statement.conditional condition then else) = kept Command.skip
 
@@ -25,7 +27,8 @@ simpleForm scope s i = commandTree ((simple scope s i) .form)
 unfoldable pub simpleCount : Scope → Statement → ℕ
 simpleCount scope Statement.skip = 0
 simpleCount scope (Statement.sequence first second) = 0
-simpleCount scope (Statement.assignField f value) = placedCount scope (not (isEveryone (placeOwner ((fieldAt (scope .fields) f) .owner) none))) value
+simpleCount scope (Statement.assignField f value) =
+    placedCount scope (not (isEveryone (placeOwner ((fieldAt (scope .fields) f) .owner) none))) value
 simpleCount scope (Statement.assignEntry f key value) =
     bodyCount scope key + placedCount scope (not (isEveryone (placeOwner ((fieldAt (scope .fields) f) .owner) (nameOf scope key)))) value
 simpleCount scope (Statement.require condition) = bodyCount scope condition

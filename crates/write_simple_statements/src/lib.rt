@@ -35,7 +35,9 @@ pub fn placed_count(
     private: bool,
     n: usize,
 ) -> usize
-    requires { ⌜ (n < nodeCount (now file)) × ((Context (now file) «function_at» «nodes_at») × (placedCount (scopeIn (now file) «function_at») private (expressionIn (nodesIn (now file)) n) ≤ 65535)) ⌝ }
+    requires { ⌜ (n < nodeCount (now file))
+        × ((Context (now file) «function_at» «nodes_at»)
+        × (placedCount (scopeIn (now file) «function_at») private (expressionIn (nodesIn (now file)) n) ≤ 65535)) ⌝ }
     ensures { λ r. ⌜ r ≡ placedCount (scopeIn (now (file .entry)) «function_at») private (expressionIn (nodesIn (now (file .entry))) n) ⌝ }
 {
     if private {
@@ -61,8 +63,12 @@ pub fn write_placed_form(
     at: usize,
     base: usize,
 ) -> usize
-    requires { ⌜ (n < nodeCount (now file)) × ((Context (now file) «function_at» «nodes_at») × ((i + placedCount (scopeIn (now file) «function_at») private (expressionIn (nodesIn (now file)) n) ≤ 65535) × (Room (now out) at base (placedForm (scopeIn (now file) «function_at») private (expressionIn (nodesIn (now file)) n) i)))) ⌝ }
-    ensures { λ r. ⌜ Numbered (now (out .entry)) (now (out .exit)) at base (placedForm (scopeIn (now (file .entry)) «function_at») private (expressionIn (nodesIn (now (file .entry))) n) i) r ⌝ }
+    requires { ⌜ (n < nodeCount (now file))
+        × ((Context (now file) «function_at» «nodes_at»)
+        × ((i + placedCount (scopeIn (now file) «function_at») private (expressionIn (nodesIn (now file)) n) ≤ 65535)
+        × (Room (now out) at base (placedForm (scopeIn (now file) «function_at») private (expressionIn (nodesIn (now file)) n) i)))) ⌝ }
+    ensures { λ r. ⌜ Numbered (now (out .entry)) (now (out .exit)) at base
+        (placedForm (scopeIn (now (file .entry)) «function_at») private (expressionIn (nodesIn (now (file .entry))) n) i) r ⌝ }
 {
     if private {
         if is_public(file, function_at, nodes_at, n) {
@@ -77,7 +83,9 @@ pub fn write_placed_form(
 
 // How many variables node n makes, a statement that holds no other.
 pub fn statement_count(file: &[u8], function_at: usize, nodes_at: usize, n: usize) -> usize
-    requires { ⌜ (n < nodeCount (now file)) × ((Context (now file) «function_at» «nodes_at») × (simpleCount (scopeIn (now file) «function_at») (statementIn (nodesIn (now file)) n) ≤ 65535)) ⌝ }
+    requires { ⌜ (n < nodeCount (now file))
+        × ((Context (now file) «function_at» «nodes_at»)
+        × (simpleCount (scopeIn (now file) «function_at») (statementIn (nodesIn (now file)) n) ≤ 65535)) ⌝ }
     ensures { λ r. ⌜ r ≡ simpleCount (scopeIn (now (file .entry)) «function_at») (statementIn (nodesIn (now (file .entry))) n) ⌝ }
 {
     let node = node_at(file, nodes_at, n);
@@ -110,8 +118,13 @@ fn write_field_form(
     at: usize,
     base: usize,
 ) -> usize
-    requires { ⌜ (kindAt (now file) «nodes_at» n ≡ 18) × ((n < nodeCount (now file)) × ((Context (now file) «function_at» «nodes_at») × ((i + simpleCount (scopeIn (now file) «function_at») (statementIn (nodesIn (now file)) n) ≤ 65535) × (Room (now out) at base (simpleForm (scopeIn (now file) «function_at») (statementIn (nodesIn (now file)) n) i))))) ⌝ }
-    ensures { λ r. ⌜ Numbered (now (out .entry)) (now (out .exit)) at base (simpleForm (scopeIn (now (file .entry)) «function_at») (statementIn (nodesIn (now (file .entry))) n) i) r ⌝ }
+    requires { ⌜ (kindAt (now file) «nodes_at» n ≡ 18)
+        × ((n < nodeCount (now file))
+        × ((Context (now file) «function_at» «nodes_at»)
+        × ((i + simpleCount (scopeIn (now file) «function_at») (statementIn (nodesIn (now file)) n) ≤ 65535)
+        × (Room (now out) at base (simpleForm (scopeIn (now file) «function_at») (statementIn (nodesIn (now file)) n) i))))) ⌝ }
+    ensures { λ r. ⌜ Numbered (now (out .entry)) (now (out .exit)) at base
+        (simpleForm (scopeIn (now (file .entry)) «function_at») (statementIn (nodesIn (now (file .entry))) n) i) r ⌝ }
 {
     let node = node_at(file, nodes_at, n);
     let arg = node.arg as u8;
@@ -141,8 +154,13 @@ fn write_entry_form(
     at: usize,
     base: usize,
 ) -> usize
-    requires { ⌜ (kindAt (now file) «nodes_at» n ≡ 19) × ((n < nodeCount (now file)) × ((Context (now file) «function_at» «nodes_at») × ((i + simpleCount (scopeIn (now file) «function_at») (statementIn (nodesIn (now file)) n) ≤ 65535) × (Room (now out) at base (simpleForm (scopeIn (now file) «function_at») (statementIn (nodesIn (now file)) n) i))))) ⌝ }
-    ensures { λ r. ⌜ Numbered (now (out .entry)) (now (out .exit)) at base (simpleForm (scopeIn (now (file .entry)) «function_at») (statementIn (nodesIn (now (file .entry))) n) i) r ⌝ }
+    requires { ⌜ (kindAt (now file) «nodes_at» n ≡ 19)
+        × ((n < nodeCount (now file))
+        × ((Context (now file) «function_at» «nodes_at»)
+        × ((i + simpleCount (scopeIn (now file) «function_at») (statementIn (nodesIn (now file)) n) ≤ 65535)
+        × (Room (now out) at base (simpleForm (scopeIn (now file) «function_at») (statementIn (nodesIn (now file)) n) i))))) ⌝ }
+    ensures { λ r. ⌜ Numbered (now (out .entry)) (now (out .exit)) at base
+        (simpleForm (scopeIn (now (file .entry)) «function_at») (statementIn (nodesIn (now (file .entry))) n) i) r ⌝ }
 {
     let node = node_at(file, nodes_at, n);
     let arg = node.arg as u8;
@@ -176,8 +194,13 @@ fn write_require_form(
     at: usize,
     base: usize,
 ) -> usize
-    requires { ⌜ (kindAt (now file) «nodes_at» n ≡ 20) × ((n < nodeCount (now file)) × ((Context (now file) «function_at» «nodes_at») × ((i + simpleCount (scopeIn (now file) «function_at») (statementIn (nodesIn (now file)) n) ≤ 65535) × (Room (now out) at base (simpleForm (scopeIn (now file) «function_at») (statementIn (nodesIn (now file)) n) i))))) ⌝ }
-    ensures { λ r. ⌜ Numbered (now (out .entry)) (now (out .exit)) at base (simpleForm (scopeIn (now (file .entry)) «function_at») (statementIn (nodesIn (now (file .entry))) n) i) r ⌝ }
+    requires { ⌜ (kindAt (now file) «nodes_at» n ≡ 20)
+        × ((n < nodeCount (now file))
+        × ((Context (now file) «function_at» «nodes_at»)
+        × ((i + simpleCount (scopeIn (now file) «function_at») (statementIn (nodesIn (now file)) n) ≤ 65535)
+        × (Room (now out) at base (simpleForm (scopeIn (now file) «function_at») (statementIn (nodesIn (now file)) n) i))))) ⌝ }
+    ensures { λ r. ⌜ Numbered (now (out .entry)) (now (out .exit)) at base
+        (simpleForm (scopeIn (now (file .entry)) «function_at») (statementIn (nodesIn (now (file .entry))) n) i) r ⌝ }
 {
     let node = node_at(file, nodes_at, n);
     let condition = write_body_form(file, function_at, nodes_at, node.first, i, out, at, base);
@@ -195,8 +218,12 @@ pub fn write_statement_form(
     at: usize,
     base: usize,
 ) -> usize
-    requires { ⌜ (n < nodeCount (now file)) × ((Context (now file) «function_at» «nodes_at») × ((i + simpleCount (scopeIn (now file) «function_at») (statementIn (nodesIn (now file)) n) ≤ 65535) × (Room (now out) at base (simpleForm (scopeIn (now file) «function_at») (statementIn (nodesIn (now file)) n) i)))) ⌝ }
-    ensures { λ r. ⌜ Numbered (now (out .entry)) (now (out .exit)) at base (simpleForm (scopeIn (now (file .entry)) «function_at») (statementIn (nodesIn (now (file .entry))) n) i) r ⌝ }
+    requires { ⌜ (n < nodeCount (now file))
+        × ((Context (now file) «function_at» «nodes_at»)
+        × ((i + simpleCount (scopeIn (now file) «function_at») (statementIn (nodesIn (now file)) n) ≤ 65535)
+        × (Room (now out) at base (simpleForm (scopeIn (now file) «function_at») (statementIn (nodesIn (now file)) n) i)))) ⌝ }
+    ensures { λ r. ⌜ Numbered (now (out .entry)) (now (out .exit)) at base
+        (simpleForm (scopeIn (now (file .entry)) «function_at») (statementIn (nodesIn (now (file .entry))) n) i) r ⌝ }
 {
     let node = node_at(file, nodes_at, n);
     let kind = node.kind;

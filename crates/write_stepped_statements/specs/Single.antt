@@ -9,4 +9,5 @@ use Rattle.write_steps.specs.Steps.{stepsIn}
 
 abbrev pub singleTree : List ℕ → ℕ → List ℕ → ℕ → ℕ → ℕ → ℕ → Tree
 singleTree file functionStart log from left n i =
-    commandTree (stepsBefore (stepsIn file functionStart log from left) ((simple (scopeIn file functionStart) (statementIn (nodesIn file) n) i) .form))
+    commandTree (stepsBefore (stepsIn file functionStart log from left)
+    ((simple (scopeIn file functionStart) (statementIn (nodesIn file) n) i) .form))

@@ -27,8 +27,14 @@ pub fn write_single(
     at: usize,
     base: usize,
 ) -> usize
-    requires { ⌜ (n < nodeCount (now file)) × ((Context (now file) «function_at» «nodes_at») × ((i + simpleCount (scopeIn (now file) «function_at») (statementIn (nodesIn (now file)) n) ≤ 65535) × ((Readable (now file) «function_at» (now log) from left) × ((length (stepsIn (now file) «function_at» (now log) from left) ≤ length (now roots)) × (Room (now out) at base (singleTree (now file) «function_at» (now log) from left n i)))))) ⌝ }
-    ensures { λ r. ⌜ Numbered (now (out .entry)) (now (out .exit)) at base (singleTree (now (file .entry)) «function_at» (now (log .entry)) from left n i) r ⌝ }
+    requires { ⌜ (n < nodeCount (now file))
+        × ((Context (now file) «function_at» «nodes_at»)
+        × ((i + simpleCount (scopeIn (now file) «function_at») (statementIn (nodesIn (now file)) n) ≤ 65535)
+        × ((Readable (now file) «function_at» (now log) from left)
+        × ((length (stepsIn (now file) «function_at» (now log) from left) ≤ length (now roots))
+        × (Room (now out) at base (singleTree (now file) «function_at» (now log) from left n i)))))) ⌝ }
+    ensures { λ r. ⌜ Numbered (now (out .entry)) (now (out .exit)) at base
+        (singleTree (now (file .entry)) «function_at» (now (log .entry)) from left n i) r ⌝ }
 {
     let steps = put_steps(
         file,

@@ -1,4 +1,5 @@
--- 01, Rewriting: "Steps nest rightwards: (step, rest)". The nodes of the steps, then those of the rest, then a sequence for each step, the last one's first.
+-- 01, Rewriting: "Steps nest rightwards: (step, rest)".
+-- The nodes of the steps, then those of the rest, then a sequence for each step, the last one's first.
 use mathlib.Core.Path.{_≡_}
 use mathlib.Core.Bool.{Bool, cond}
 use mathlib.Core.List.{List, [], _∷_, _++_, map}
@@ -34,14 +35,18 @@ abbrev pub isReadAt : List ℕ → ℕ → Bool
 isReadAt log from = eqb (getD log from 0) 2
 
 abbrev pub stepAt : Scope → List Node → List ℕ → ℕ → Step
-stepAt scope nodes log from =
-    record { variable = getD log (from + 1) 0; value = (inBody scope (expressionIn nodes (getD log (from + 3) 0)) (getD log (from + 4) 0)) .form }
+stepAt scope nodes log from = record {
+  variable = getD log (from + 1) 0;
+  value = (inBody scope (expressionIn nodes (getD log (from + 3) 0)) (getD log (from + 4) 0)) .form;
+}
 
 -- The steps of the read variables among so many entries of a log.
 unfoldable pub loggedSteps : Scope → List Node → List ℕ → ℕ → ℕ → List Step
 loggedSteps scope nodes log from zero = []
 loggedSteps scope nodes log from (suc left) =
-    cond (isReadAt log from) (stepAt scope nodes log from ∷ loggedSteps scope nodes log (from + 5) left) (loggedSteps scope nodes log (from + 5) left)
+    cond (isReadAt log from)
+    (stepAt scope nodes log from ∷ loggedSteps scope nodes log (from + 5) left)
+    (loggedSteps scope nodes log (from + 5) left)
 
 abbrev pub stepsIn : List ℕ → ℕ → List ℕ → ℕ → ℕ → List Step
 stepsIn file functionStart log from left = loggedSteps (scopeIn file functionStart) (nodesIn file) log from left
@@ -51,7 +56,8 @@ pub record Readable (file : List ℕ) (functionStart : ℕ) (log : List ℕ) (fr
   pub space : from + 5 * left ≤ length log
   pub inside : (k : ℕ) → k < left → getD log (from + 5 * k) 0 ≡ 2 → getD log (from + 5 * k + 3) 0 < nodeCount file
   pub few : (k : ℕ) → k < left → getD log (from + 5 * k) 0 ≡ 2
-      → getD log (from + 5 * k + 4) 0 + bodyCount (scopeIn file functionStart) (expressionIn (nodesIn file) (getD log (from + 5 * k + 3) 0)) ≤ 65535
+      → getD log (from + 5 * k + 4) 0
+      + bodyCount (scopeIn file functionStart) (expressionIn (nodesIn file) (getD log (from + 5 * k + 3) 0)) ≤ 65535
 
 -- There is room for the nodes of the steps, and for their roots.
 pub record StepsRoom (out roots : List ℕ) (at base from : ℕ) (steps : List Step) : Type 0 where

@@ -34,8 +34,13 @@ pub fn put_step(
     at: usize,
     base: usize,
 ) -> usize
-    requires { ⌜ (n < nodeCount (now file)) × ((Context (now file) «function_at» «nodes_at») × ((i + bodyCount (scopeIn (now file) «function_at») (expressionIn (nodesIn (now file)) n) ≤ 65535) × (Room (now out) at base (setting variable (bodyForm (scopeIn (now file) «function_at») (expressionIn (nodesIn (now file)) n) i))))) ⌝ }
-    ensures { λ r. ⌜ Numbered (now (out .entry)) (now (out .exit)) at base (setting variable (bodyForm (scopeIn (now (file .entry)) «function_at») (expressionIn (nodesIn (now (file .entry))) n) i)) r ⌝ }
+    requires { ⌜ (n < nodeCount (now file))
+        × ((Context (now file) «function_at» «nodes_at»)
+        × ((i + bodyCount (scopeIn (now file) «function_at») (expressionIn (nodesIn (now file)) n) ≤ 65535)
+        × (Room (now out) at base
+        (setting variable (bodyForm (scopeIn (now file) «function_at») (expressionIn (nodesIn (now file)) n) i))))) ⌝ }
+    ensures { λ r. ⌜ Numbered (now (out .entry)) (now (out .exit)) at base
+        (setting variable (bodyForm (scopeIn (now (file .entry)) «function_at») (expressionIn (nodesIn (now (file .entry))) n) i)) r ⌝ }
 {
     let value = write_body_form(file, function_at, nodes_at, n, i, out, at, base);
     put_setting(variable, value, out, at, base)
@@ -55,8 +60,11 @@ pub fn put_steps(
     at: usize,
     base: usize,
 ) -> Steps
-    requires { ⌜ (Context (now file) «function_at» «nodes_at») × ((Readable (now file) «function_at» (now log) from left) × (StepsRoom (now out) (now roots) at base noted (stepsIn (now file) «function_at» (now log) from left))) ⌝ }
-    ensures { λ r. ⌜ StepsPut (now (out .entry)) (now (out .exit)) (now (roots .entry)) (now (roots .exit)) at base noted (stepsIn (now (file .entry)) «function_at» (now (log .entry)) from left) r ⌝ }
+    requires { ⌜ (Context (now file) «function_at» «nodes_at»)
+        × ((Readable (now file) «function_at» (now log) from left)
+        × (StepsRoom (now out) (now roots) at base noted (stepsIn (now file) «function_at» (now log) from left))) ⌝ }
+    ensures { λ r. ⌜ StepsPut (now (out .entry)) (now (out .exit)) (now (roots .entry)) (now (roots .exit)) at base noted
+        (stepsIn (now (file .entry)) «function_at» (now (log .entry)) from left) r ⌝ }
 {
     if left == 0 {
         Steps { count: 0, nodes: 0 }

@@ -11,4 +11,5 @@ claimNumbers n (opensForCaller i) = i ∷ 1 ∷ 65535 ∷ []
 -- The constraints' first node has number n.
 unfoldable pub constraintNumbers : ℕ → List Constraint → List ℕ
 constraintNumbers n [] = []
-constraintNumbers n (c ∷ cs) = (guardNumber (c .guard) ∷ claimNumbers n (c .claim)) ++ constraintNumbers (n + sizes (claimTrees (c .claim))) cs
+constraintNumbers n (c ∷ cs) =
+    (guardNumber (c .guard) ∷ claimNumbers n (c .claim)) ++ constraintNumbers (n + sizes (claimTrees (c .claim))) cs

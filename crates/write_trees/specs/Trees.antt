@@ -60,8 +60,10 @@ bodyOf (leaf kind arg first second) =
     (cond (eqb kind 3) (BodyExpression.field arg)
     (cond (eqb kind 5) (BodyExpression.parameter arg) (cond (eqb kind 9) (BodyExpression.variable first) BodyExpression.me)))
 bodyOf (oneChild kind arg first) =
-    cond (eqb kind 4) (BodyExpression.entry arg (bodyOf first)) (cond (eqb kind 7) (BodyExpression.negation (bodyOf first)) BodyExpression.me)
-bodyOf (twoChildren kind arg first second) = cond (eqb kind 6) (BodyExpression.operator (operatorOf arg) (bodyOf first) (bodyOf second)) BodyExpression.me
+    cond (eqb kind 4) (BodyExpression.entry arg (bodyOf first))
+    (cond (eqb kind 7) (BodyExpression.negation (bodyOf first)) BodyExpression.me)
+bodyOf (twoChildren kind arg first second) =
+    cond (eqb kind 6) (BodyExpression.operator (operatorOf arg) (bodyOf first) (bodyOf second)) BodyExpression.me
 bodyOf (threeChildren kind first second third) = BodyExpression.me
 bodyOf (setting variable value) = BodyExpression.me
 
@@ -70,7 +72,8 @@ circuitOf (leaf kind arg first second) =
     cond (eqb kind 1) (Circuit.constant (dataTypeOf arg) (first + 65536 * second))
     (cond (eqb kind 9) (Circuit.variable first) (cond (eqb kind 10) (Circuit.opened first) Circuit.me))
 circuitOf (oneChild kind arg first) = cond (eqb kind 7) (Circuit.negation (circuitOf first)) Circuit.me
-circuitOf (twoChildren kind arg first second) = cond (eqb kind 6) (Circuit.operator (operatorOf arg) (circuitOf first) (circuitOf second)) Circuit.me
+circuitOf (twoChildren kind arg first second) =
+    cond (eqb kind 6) (Circuit.operator (operatorOf arg) (circuitOf first) (circuitOf second)) Circuit.me
 circuitOf (threeChildren kind first second third) = Circuit.me
 circuitOf (setting variable value) = Circuit.me
 

@@ -7,7 +7,8 @@ use Rattle.definitions.specs.Owners.{isPublic}
 module _ (scope : Scope) where
   -- Of an operator in a circuit, from the counts of its parts.
   abbrev pub operatorCount : Bool → Operator → ℕ → ℕ → ℕ → ℕ → ℕ
-  operatorCount public o leftBody rightBody leftCircuit rightCircuit = cond (public && isDivision o) (leftBody + rightBody + 1) (leftCircuit + rightCircuit)
+  operatorCount public o leftBody rightBody leftCircuit rightCircuit =
+      cond (public && isDivision o) (leftBody + rightBody + 1) (leftCircuit + rightCircuit)
 
   unfoldable mutual
     pub bodyCount : Expression → ℕ
@@ -17,8 +18,10 @@ module _ (scope : Scope) where
     bodyCount (Expression.entry f key) = bodyCount key
     bodyCount (Expression.parameter k) = 0
     bodyCount (Expression.operator o left right) =
-        cond (isPublic scope (Expression.operator o left right)) (bodyCount left + bodyCount right)
-        (suc (operatorCount (isPublic scope (Expression.operator o left right)) o (bodyCount left) (bodyCount right) (circuitCount left) (circuitCount right)))
+        cond (isPublic scope (Expression.operator o left right))
+        (bodyCount left + bodyCount right)
+        (suc (operatorCount (isPublic scope (Expression.operator o left right)) o
+        (bodyCount left) (bodyCount right) (circuitCount left) (circuitCount right)))
     bodyCount (Expression.negation part) = cond (isPublic scope (Expression.negation part)) (bodyCount part) (suc (circuitCount part))
     bodyCount (Expression.reveal part o) = suc (circuitCount part)
 
@@ -29,6 +32,7 @@ module _ (scope : Scope) where
     circuitCount (Expression.entry f key) = bodyCount key + 1
     circuitCount (Expression.parameter k) = 1
     circuitCount (Expression.operator o left right) =
-        operatorCount (isPublic scope (Expression.operator o left right)) o (bodyCount left) (bodyCount right) (circuitCount left) (circuitCount right)
+        operatorCount (isPublic scope (Expression.operator o left right)) o
+        (bodyCount left) (bodyCount right) (circuitCount left) (circuitCount right)
     circuitCount (Expression.negation part) = circuitCount part
     circuitCount (Expression.reveal part o) = circuitCount part

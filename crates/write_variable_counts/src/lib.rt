@@ -19,7 +19,8 @@ pub fn is_public_division(
     code: usize,
 ) -> bool
     requires { ⌜ (n < nodeCount (now file)) × (Context (now file) «function_at» «nodes_at») ⌝ }
-    ensures { λ r. ⌜ r ≡ (isPublic (scopeIn (now (file .entry)) «function_at») (expressionIn (nodesIn (now (file .entry))) n) && isDivision (operatorOf code)) ⌝ }
+    ensures { λ r. ⌜ r ≡ (isPublic (scopeIn (now (file .entry)) «function_at») (expressionIn (nodesIn (now (file .entry))) n)
+        && isDivision (operatorOf code)) ⌝ }
 {
     match code {
         3 => is_public(file, function_at, nodes_at, n),
@@ -29,7 +30,9 @@ pub fn is_public_division(
 }
 
 pub fn body_count(file: &[u8], function_at: usize, nodes_at: usize, n: usize) -> usize
-    requires { ⌜ (n < nodeCount (now file)) × ((Context (now file) «function_at» «nodes_at») × (bodyCount (scopeIn (now file) «function_at») (expressionIn (nodesIn (now file)) n) ≤ 65535)) ⌝ }
+    requires { ⌜ (n < nodeCount (now file))
+        × ((Context (now file) «function_at» «nodes_at»)
+        × (bodyCount (scopeIn (now file) «function_at») (expressionIn (nodesIn (now file)) n) ≤ 65535)) ⌝ }
     ensures { λ r. ⌜ r ≡ bodyCount (scopeIn (now (file .entry)) «function_at») (expressionIn (nodesIn (now (file .entry))) n) ⌝ }
 {
     let node = node_at(file, nodes_at, n);
@@ -61,7 +64,9 @@ pub fn body_count(file: &[u8], function_at: usize, nodes_at: usize, n: usize) ->
 }
 
 pub fn circuit_count(file: &[u8], function_at: usize, nodes_at: usize, n: usize) -> usize
-    requires { ⌜ (n < nodeCount (now file)) × ((Context (now file) «function_at» «nodes_at») × (circuitCount (scopeIn (now file) «function_at») (expressionIn (nodesIn (now file)) n) ≤ 65535)) ⌝ }
+    requires { ⌜ (n < nodeCount (now file))
+        × ((Context (now file) «function_at» «nodes_at»)
+        × (circuitCount (scopeIn (now file) «function_at») (expressionIn (nodesIn (now file)) n) ≤ 65535)) ⌝ }
     ensures { λ r. ⌜ r ≡ circuitCount (scopeIn (now (file .entry)) «function_at») (expressionIn (nodesIn (now (file .entry))) n) ⌝ }
 {
     let node = node_at(file, nodes_at, n);

@@ -86,8 +86,10 @@ fn append_code(code: u8, table: &mut [u8], out: &mut [u8], at: usize) -> usize
 
 // An entry's key: a supplied cell has one.
 fn append_key(tag: u16, owner: u16, table: &mut [u8], out: &mut [u8], at: usize) -> usize
-    requires { ⌜ (length (now table) ≡ 256) × (at + length (onceUnseen (seenIn (now table)) (keyCode tag 0 owner 0 0)) ≤ length (now out)) ⌝ }
-    ensures { λ r. ⌜ KeysTaken (now (table .entry)) (now (table .exit)) (keyCode tag 0 owner 0 0) (now (out .entry)) (now (out .exit)) at r ⌝ }
+    requires { ⌜ (length (now table) ≡ 256)
+        × (at + length (onceUnseen (seenIn (now table)) (keyCode tag 0 owner 0 0)) ≤ length (now out)) ⌝ }
+    ensures { λ r. ⌜ KeysTaken (now (table .entry)) (now (table .exit)) (keyCode tag 0 owner 0 0)
+        (now (out .entry)) (now (out .exit)) at r ⌝ }
 {
     if tag == 0 {
         if owner == 0 {
