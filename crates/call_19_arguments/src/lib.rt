@@ -10,7 +10,8 @@ ghost use Rattle.ledger_struct.specs.Ledgers.{ledgerOf};
 ghost use Rattle.ledger_numbers.specs.Arguments.{argumentsOffFor};
 
 pub fn arguments_off_for(file: &[u8], function: u8, arguments: &[u32]) -> bool
-    ensures { λ r. ⌜ r ≡ argumentsOffFor (parametersIn (now (file .entry)) (functionStart (now (file .entry)) function)) (now (arguments .entry)) ⌝ }
+    ensures { λ r. ⌜ r ≡ argumentsOffFor (parametersIn (now (file .entry)) (functionStart (now (file .entry)) function))
+        (now (arguments .entry)) ⌝ }
 {
     let function_at = function_start(file, function);
     arguments_off(file, function_at, arguments)
@@ -18,7 +19,8 @@ pub fn arguments_off_for(file: &[u8], function: u8, arguments: &[u32]) -> bool
 
 // "19. Arguments differ in number from the parameters, or one is outside its type."
 pub fn are_arguments_off(l: Ledger, function: u8, arguments: &[u32]) -> bool
-    ensures { λ r. ⌜ r ≡ argumentsOffFor (parametersIn ((ledgerOf l) .file) (functionStart ((ledgerOf l) .file) function)) (now (arguments .entry)) ⌝ }
+    ensures { λ r. ⌜ r ≡ argumentsOffFor (parametersIn ((ledgerOf l) .file) (functionStart ((ledgerOf l) .file) function))
+        (now (arguments .entry)) ⌝ }
 {
     let length = at_most(l.file_length, 4596);
     let bytes = l.file;

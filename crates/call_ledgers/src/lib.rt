@@ -20,7 +20,8 @@ pub fn done_ledger(
     places: &[u32],
 ) -> Ledger
     requires { ⌜ (Held (ledgerOf l) (now parameters) (now variables)) × (length (now places) / 5 ≤ 1024) ⌝ }
-    ensures { λ r. ⌜ ledgerOf r ≡ doneLedger (ledgerOf l) function caller (contentsOf (now (parameters .entry))) (record { places = contentsOf (now (places .entry)); variables = contentsOf (now (variables .entry)) }) ⌝ }
+    ensures { λ r. ⌜ ledgerOf r ≡ doneLedger (ledgerOf l) function caller (contentsOf (now (parameters .entry)))
+        (record { places = contentsOf (now (places .entry)); variables = contentsOf (now (variables .entry)) }) ⌝ }
 {
     let next = l.call + 1;
     let shown = with_parameters(l, parameters);

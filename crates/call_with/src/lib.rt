@@ -35,8 +35,10 @@ fn call_addresses(
     places: &[u32],
     out: &mut [u32],
 )
-    requires { ⌜ (AddressRoom (now file) «function_at» (now out)) × ((length (now parameters) / 5 ≤ 8) × (length (now places) / 5 ≤ 1024)) ⌝ }
-    ensures { λ _. ⌜ Addressed (now (file .entry)) «function_at» caller (map plainNumber (contentsOf (now (parameters .entry)))) (map plainNumber (contentsOf (now (places .entry)))) (now (out .exit)) ⌝ }
+    requires { ⌜ (AddressRoom (now file) «function_at» (now out))
+        × ((length (now parameters) / 5 ≤ 8) × (length (now places) / 5 ≤ 1024)) ⌝ }
+    ensures { λ _. ⌜ Addressed (now (file .entry)) «function_at» caller (map plainNumber (contentsOf (now (parameters .entry))))
+        (map plainNumber (contentsOf (now (places .entry)))) (now (out .exit)) ⌝ }
 {
     let count = parameters.len() / 5;
     let many = places.len() / 5;
@@ -65,7 +67,8 @@ fn walk_called(
     variables: &mut [u32],
 ) -> bool
     requires { ⌜ («nodes_at» ≡ nodesAt (now file)) × (FunctionRoom (now file) «function_at» 0 0) ⌝ }
-    ensures { λ r. ⌜ Walked (now (file .entry)) «function_at» (now (addresses .entry)) (now (parameters .entry)) (stateOf (now (places .entry)) (now (variables .entry))) (stateOf (now (places .exit)) (now (variables .exit))) r ⌝ }
+    ensures { λ r. ⌜ Walked (now (file .entry)) «function_at» (now (addresses .entry)) (now (parameters .entry))
+        (stateOf (now (places .entry)) (now (variables .entry))) (stateOf (now (places .exit)) (now (variables .exit))) r ⌝ }
 {
     let mut log = [0u16; 7680];
     let mut numbers = [0u16; 6176];
@@ -98,7 +101,8 @@ fn failed_call(
     parameters: &[u32],
 ) -> Ledger
     requires { ⌜ (PublicRoom (now file) «function_at» (now parameters) (now parameters)) × ((ledgerOf l) .call < 65535) ⌝ }
-    ensures { λ r. ⌜ ledgerOf r ≡ failedLedger (ledgerOf l) function caller (publicOf (parametersIn (now (file .entry)) «function_at») (contentsOf (now (parameters .entry)))) ⌝ }
+    ensures { λ r. ⌜ ledgerOf r ≡ failedLedger (ledgerOf l) function caller
+        (publicOf (parametersIn (now (file .entry)) «function_at») (contentsOf (now (parameters .entry)))) ⌝ }
 {
     let mut shown = [0u32; 40];
     let count = put_public(file, function_at, parameters, &mut shown[..]);
@@ -116,8 +120,10 @@ fn call_on(
     variables: &mut [u32],
     places: &mut [u32],
 ) -> Ledger
-    requires { ⌜ ((now file ≡ (ledgerOf l) .file) × (Callable (ledgerOf l) function (now parameters) (now variables))) × (length (now places) ≡ 5 * min (l .«place_count») 1024) ⌝ }
-    ensures { λ r. ⌜ ledgerOf r ≡ callWith (ledgerOf l) function caller (contentsOf (now (parameters .entry))) (contentsOf (now (variables .entry))) ⌝ }
+    requires { ⌜ ((now file ≡ (ledgerOf l) .file) × (Callable (ledgerOf l) function (now parameters) (now variables)))
+        × (length (now places) ≡ 5 * min (l .«place_count») 1024) ⌝ }
+    ensures { λ r. ⌜ ledgerOf r ≡ callWith (ledgerOf l) function caller (contentsOf (now (parameters .entry)))
+        (contentsOf (now (variables .entry))) ⌝ }
 {
     let function_at = function_start(file, function);
     let layout = read_layout(file);
@@ -156,7 +162,8 @@ pub fn call_with(
     variables: &mut [u32],
 ) -> Ledger
     requires { ⌜ Callable (ledgerOf l) function (now parameters) (now variables) ⌝ }
-    ensures { λ r. ⌜ ledgerOf r ≡ callWith (ledgerOf l) function caller (contentsOf (now (parameters .entry))) (contentsOf (now (variables .entry))) ⌝ }
+    ensures { λ r. ⌜ ledgerOf r ≡ callWith (ledgerOf l) function caller (contentsOf (now (parameters .entry)))
+        (contentsOf (now (variables .entry))) ⌝ }
 {
     let bytes = l.file;
     let length = at_most(l.file_length, 4596);

@@ -3,7 +3,10 @@ use mathlib.Core.Bool.{Bool, _||_}
 use Prim.Native.Nat.{ℕ}
 use lib.Dec.{leb}
 use Rattle.definitions.specs.Basics.{any}
-use Rattle.definitions.specs.ContractFile.{FieldRecord, FunctionRecord, NodeRecord, fieldOf, Kind, constantKind, meKind, fieldKind, entryKind, parameterKind, operatorKind, negationKind, revealKind, skipKind, sequenceKind, assignFieldKind, assignEntryKind, requireKind, conditionalKind, noKind, kindOf, nodeOf, fieldsNamed, children}
+use Rattle.definitions.specs.ContractFile.{FieldRecord, FunctionRecord, NodeRecord, fieldOf, Kind, constantKind, meKind, fieldKind}
+use Rattle.definitions.specs.ContractFile.{entryKind, parameterKind, operatorKind, negationKind, revealKind, skipKind, sequenceKind}
+use Rattle.definitions.specs.ContractFile.{assignFieldKind, assignEntryKind, requireKind, conditionalKind, noKind, kindOf, nodeOf}
+use Rattle.definitions.specs.ContractFile.{fieldsNamed, children}
 use Rattle.definitions.specs.Numbers.{fieldOfDeclaredOwner}
 
 abbrev pub ownerNamesNothing : ℕ → FieldRecord → Bool

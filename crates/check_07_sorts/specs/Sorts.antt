@@ -3,7 +3,8 @@ use mathlib.Core.Bool.{Bool, cond, not, _||_}
 use mathlib.Core.List.{List, map}
 use Prim.Native.Nat.{ℕ, _+_, _≤_}
 use Rattle.definitions.specs.Basics.{any}
-use Rattle.definitions.specs.ContractFile.{FunctionRecord, nodeRecords, Node, nodeOf, nodeAt, isExpression, isStatement, expressionParts, statementParts}
+use Rattle.definitions.specs.ContractFile.{FunctionRecord, nodeRecords, Node, nodeOf, nodeAt, isExpression, isStatement, expressionParts}
+use Rattle.definitions.specs.ContractFile.{statementParts}
 
 pub record InReach (nodesStart nodes : ℕ) : Type 0 where
   pub near : nodesStart ≤ 200000

@@ -1,6 +1,7 @@
 -- 01, The contract file: what a file says, as trees; its sections as they lie in the bytes; the codes;
 -- the trees that its nodes make; data types.
-use Rattle.definitions.specs.Basics.{Bool, true, false, _||_, List, [], ℕ, eqb, getD, _&&_, cond, not, _∷_, zero, suc, _+_, _*_, _-_, leb, ltb, drop, slice, force, _++_, map, largest}
+use Rattle.definitions.specs.Basics.{Bool, true, false, _||_, List, [], ℕ, eqb, getD, _&&_, cond, not, _∷_, zero, suc, _+_, _*_, _-_}
+use Rattle.definitions.specs.Basics.{leb, ltb, drop, slice, force, _++_, map, largest}
 
 -- "type (0 bool, 1 uint, 2 address)"
 pub data DataType : Type 0 where

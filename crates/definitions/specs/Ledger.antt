@@ -1,9 +1,14 @@
 -- 01, Runs and views: plain values and cells, the ledger, the walk of a written body on it; deployment;
 -- calls with supplied values, and honest ones; numbers 17 to 20.
-use Rattle.definitions.specs.Basics.{Bool, true, false, _&&_, _||_, cond, not, List, [], ℕ, eqb, getD, set, all, isTrue, _∷_, _++_, map, zipWith, suc, _+_, leb, ltb, length, replicate, any, countIf, isZero, firstThatHolds}
-use Rattle.definitions.specs.ContractFile.{Name, meName, Field, DataType, boolean, Statement, Parameter, Function, Scope, functionAt, scopeOf, isFinal, isOfType, typeOf, contractIn}
-use Rattle.definitions.specs.Original.{position, Reader, anyone, only, readerOf, operate, operates, negate, perPlace, addressIn, placeReaders, deployedNumbers, value, placesAfter}
-use Rattle.definitions.specs.Rewriting.{BodyExpression, Circuit, Command, Claim, equals, opensForCaller, Guard, always, under, Constraint, Variable, supplied, readFrom, guard, variableOwner, inBody, inBranch, rewriteStatement, openings, privateParameters, rewriteFunction}
+use Rattle.definitions.specs.Basics.{Bool, true, false, _&&_, _||_, cond, not, List, [], ℕ, eqb, getD, set, all, isTrue, _∷_, _++_}
+use Rattle.definitions.specs.Basics.{map, zipWith, suc, _+_, leb, ltb, length, replicate, any, countIf, isZero, firstThatHolds}
+use Rattle.definitions.specs.ContractFile.{Name, meName, Field, DataType, boolean, Statement, Parameter, Function, Scope, functionAt}
+use Rattle.definitions.specs.ContractFile.{scopeOf, isFinal, isOfType, typeOf, contractIn}
+use Rattle.definitions.specs.Original.{position, Reader, anyone, only, readerOf, operate, operates, negate, perPlace, addressIn}
+use Rattle.definitions.specs.Original.{placeReaders, deployedNumbers, value, placesAfter}
+use Rattle.definitions.specs.Rewriting.{BodyExpression, Circuit, Command, Claim, equals, opensForCaller, Guard, always, under}
+use Rattle.definitions.specs.Rewriting.{Constraint, Variable, supplied, readFrom, guard, variableOwner, inBody, inBranch}
+use Rattle.definitions.specs.Rewriting.{rewriteStatement, openings, privateParameters, rewriteFunction}
 use Rattle.definitions.specs.Numbers.{checkNumber, orElse}
 
 -- "A supplied cell's serial is the call and 8 + variable; a private argument's is the call and parameter."

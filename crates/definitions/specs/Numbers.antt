@@ -1,6 +1,17 @@
 -- 01, Numbers given for a bad request: the sentences 1 to 15 of a contract file, and the number of a check and of a section.
-use Rattle.definitions.specs.Basics.{Bool, true, false, _&&_, _||_, cond, not, List, [], _∷_, _++_, map, Option, none, some, ℕ, zero, suc, eqb, leb, ltb, length, any, anyNumbered, countIf, flatMap, isZero, firstThatHolds}
-use Rattle.definitions.specs.ContractFile.{boolean, address, Name, meName, finalName, parameterName, Owner, everyone, ownedBy, FieldOwner, toEveryone, toKey, toFinal, Expression, constant, me, field, entry, parameter, operator, negation, reveal, Statement, skip, sequence, assignField, assignEntry, require, conditional, Field, Function, Contract, Scope, fieldAt, parameterAt, sameType, shapeCode, isFinal, isMapping, isDivision, FieldRecord, ParameterRecord, NodeRecord, Sections, fieldCount, functionCount, nodeCount, fileEnd, sectionsOf, sectionPart, isFinalCode, isParameterCode, dataTypeOf, fieldOf, Kind, constantKind, meKind, fieldKind, entryKind, parameterKind, operatorKind, negationKind, revealKind, skipKind, sequenceKind, assignFieldKind, assignEntryKind, requireKind, conditionalKind, noKind, kindOf, nodeOf, nodeAt, constantValue, expressionParts, statementParts, children, isExpression, isStatement, fieldsNamed, chainLength, contractOf, isOfType, operandsFit, typeOf}
+use Rattle.definitions.specs.Basics.{Bool, true, false, _&&_, _||_, cond, not, List, [], _∷_, _++_, map, Option, none, some, ℕ, zero}
+use Rattle.definitions.specs.Basics.{suc, eqb, leb, ltb, length, any, anyNumbered, countIf, flatMap, isZero, firstThatHolds}
+use Rattle.definitions.specs.ContractFile.{boolean, address, Name, meName, finalName, parameterName, Owner, everyone, ownedBy}
+use Rattle.definitions.specs.ContractFile.{FieldOwner, toEveryone, toKey, toFinal, Expression, constant, me, field, entry, parameter}
+use Rattle.definitions.specs.ContractFile.{operator, negation, reveal, Statement, skip, sequence, assignField, assignEntry, require}
+use Rattle.definitions.specs.ContractFile.{conditional, Field, Function, Contract, Scope, fieldAt, parameterAt, sameType, shapeCode}
+use Rattle.definitions.specs.ContractFile.{isFinal, isMapping, isDivision, FieldRecord, ParameterRecord, NodeRecord, Sections}
+use Rattle.definitions.specs.ContractFile.{fieldCount, functionCount, nodeCount, fileEnd, sectionsOf, sectionPart, isFinalCode}
+use Rattle.definitions.specs.ContractFile.{isParameterCode, dataTypeOf, fieldOf, Kind, constantKind, meKind, fieldKind, entryKind}
+use Rattle.definitions.specs.ContractFile.{parameterKind, operatorKind, negationKind, revealKind, skipKind, sequenceKind}
+use Rattle.definitions.specs.ContractFile.{assignFieldKind, assignEntryKind, requireKind, conditionalKind, noKind, kindOf, nodeOf}
+use Rattle.definitions.specs.ContractFile.{nodeAt, constantValue, expressionParts, statementParts, children, isExpression}
+use Rattle.definitions.specs.ContractFile.{isStatement, fieldsNamed, chainLength, contractOf, isOfType, operandsFit, typeOf}
 use Rattle.definitions.specs.Owners.{Links, noLinks, isReader, isPublicAddress, placeOwner, nameOf, ownerOf, isPublic, linksAfter}
 
 -- "1. The file ends too early for its counts, or bytes remain."

@@ -1,7 +1,13 @@
 -- 01, Runs and views: the places of a contract, the addresses of names, and "The original is the contract as filed,
 -- with a plain value in every place".
-use Rattle.definitions.specs.Basics.{Bool, true, cond, List, [], _∷_, _++_, map, ℕ, zero, suc, _+_, eqb, getD, drop, replicate, _&&_, _||_, not, _*_, _-_, _/_, _%_, leb, ltb, set, bit, isZero, isTrue}
-use Rattle.definitions.specs.ContractFile.{Name, meName, finalName, parameterName, Owner, everyone, ownedBy, FieldOwner, toEveryone, toKey, toFinal, Field, Scope, fieldAt, parameterAt, isFinal, isMapping, Operator, plus, minus, times, divide, remainder, less, lessOrEqual, equal, unequal, conjunction, disjunction, Expression, constant, me, field, entry, parameter, operator, negation, reveal, Statement, skip, sequence, assignField, assignEntry, require, conditional, Contract, isDivision, functionAt, scopeOf}
+use Rattle.definitions.specs.Basics.{Bool, true, cond, List, [], _∷_, _++_, map, ℕ, zero, suc, _+_, eqb, getD, drop, replicate, _&&_}
+use Rattle.definitions.specs.Basics.{_||_, not, _*_, _-_, _/_, _%_, leb, ltb, set, bit, isZero, isTrue}
+use Rattle.definitions.specs.ContractFile.{Name, meName, finalName, parameterName, Owner, everyone, ownedBy, FieldOwner, toEveryone}
+use Rattle.definitions.specs.ContractFile.{toKey, toFinal, Field, Scope, fieldAt, parameterAt, isFinal, isMapping, Operator, plus}
+use Rattle.definitions.specs.ContractFile.{minus, times, divide, remainder, less, lessOrEqual, equal, unequal, conjunction}
+use Rattle.definitions.specs.ContractFile.{disjunction, Expression, constant, me, field, entry, parameter, operator, negation, reveal}
+use Rattle.definitions.specs.ContractFile.{Statement, skip, sequence, assignField, assignEntry, require, conditional, Contract}
+use Rattle.definitions.specs.ContractFile.{isDivision, functionAt, scopeOf}
 
 -- The numbers from n on, as many as told.
 unfoldable pub numbersFrom : ℕ → ℕ → List ℕ

@@ -1,6 +1,10 @@
 -- 01, Owners: names, links, and what each expression belongs to.
 use Rattle.definitions.specs.Basics.{Bool, true, _&&_, _||_, cond, not, Option, none, some}
-use Rattle.definitions.specs.ContractFile.{address, Name, meName, finalName, parameterName, Owner, everyone, ownedBy, FieldOwner, toEveryone, toKey, toFinal, equal, conjunction, Expression, constant, me, field, entry, parameter, operator, negation, reveal, Statement, skip, sequence, assignField, assignEntry, require, conditional, Scope, Parameter, fieldAt, parameterAt, sameType, sameName, isEveryone, isFinal, isOperator}
+use Rattle.definitions.specs.ContractFile.{address, Name, meName, finalName, parameterName, Owner, everyone, ownedBy, FieldOwner}
+use Rattle.definitions.specs.ContractFile.{toEveryone, toKey, toFinal, equal, conjunction, Expression, constant, me, field, entry}
+use Rattle.definitions.specs.ContractFile.{parameter, operator, negation, reveal, Statement, skip, sequence, assignField, assignEntry}
+use Rattle.definitions.specs.ContractFile.{require, conditional, Scope, Parameter, fieldAt, parameterAt, sameType, sameName}
+use Rattle.definitions.specs.ContractFile.{isEveryone, isFinal, isOperator}
 
 -- Which names are linked.
 abbrev pub Links : Type 0

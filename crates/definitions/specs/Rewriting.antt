@@ -1,7 +1,10 @@
 -- 01, Rewriting (004, figure 5): the rewritten contract as trees, and of an accepted one; the written file, to the byte;
 -- what writing does with the lent output.
-use Rattle.definitions.specs.Basics.{cond, List, [], ℕ, _&&_, _∷_, _++_, map, none, suc, _+_, length, _-_, _/_, _%_, eqb, ltb, drop, any, flatMap, twoBytes, firstThatHolds}
-use Rattle.definitions.specs.ContractFile.{DataType, Owner, everyone, isEveryone, Operator, Expression, Parameter, Field, boolean, meName, ownedBy, Statement, Function, Contract, Scope, fieldAt, isDivision, dataTypeCode, shapeCode, operatorCode, NodeRecord, node, ownerCode, fieldOwnerCode, contractIn}
+use Rattle.definitions.specs.Basics.{cond, List, [], ℕ, _&&_, _∷_, _++_, map, none, suc, _+_, length, _-_, _/_, _%_, eqb, ltb, drop}
+use Rattle.definitions.specs.Basics.{any, flatMap, twoBytes, firstThatHolds}
+use Rattle.definitions.specs.ContractFile.{DataType, Owner, everyone, isEveryone, Operator, Expression, Parameter, Field, boolean}
+use Rattle.definitions.specs.ContractFile.{meName, ownedBy, Statement, Function, Contract, Scope, fieldAt, isDivision, dataTypeCode}
+use Rattle.definitions.specs.ContractFile.{shapeCode, operatorCode, NodeRecord, node, ownerCode, fieldOwnerCode, contractIn}
 use Rattle.definitions.specs.Owners.{nameOf, ownerOf, placeOwner, isPublic}
 use Rattle.definitions.specs.Numbers.{checkNumber, orElse}
 

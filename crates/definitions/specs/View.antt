@@ -1,6 +1,7 @@
 -- 01, Runs and views: what a party sees, as items and as bytes; number 21;
 -- whole lists of calls beside the original, and when two are alike for a party.
-use Rattle.definitions.specs.Basics.{_||_, cond, not, List, [], _∷_, _++_, map, ℕ, eqb, ltb, length, drop, flatMap, twoBytes, _%_, _/_, firstThatHolds, _≡_, Bool, true, false, getD, isZero}
+use Rattle.definitions.specs.Basics.{_||_, cond, not, List, [], _∷_, _++_, map, ℕ, eqb, ltb, length, drop, flatMap, twoBytes, _%_}
+use Rattle.definitions.specs.Basics.{_/_, firstThatHolds, _≡_, Bool, true, false, getD, isZero}
 use Rattle.definitions.specs.Ledger.{Content, plain, cell, Ledger, isWellFormed, deployed, callNumber, ledgerAfterCall}
 use Rattle.definitions.specs.ContractFile.{Contract, functionAt, parameterAt, contractIn}
 use Rattle.definitions.specs.Original.{deployedNumbers, originalAfter, originalDiscloses}

@@ -6,7 +6,6 @@ use Prim.Native.Nat.{ℕ, _<_, _≤_}
 use native.Mathlib.Omega.{arith}
 use borrow.Author.Tests.{eq-eqb, ne-eqb}
 use Rattle.definitions.specs.Basics.{isZero}
-use Rattle.definitions.specs.Ledger as ledger
 use Rattle.definitions.specs.Ledger.{deployNumber, deployed}
 use Rattle.ledger_struct.specs.declared.Ledger.{Ledger}
 use Rattle.ledger_struct.specs.Ledgers.{ledgerOf}

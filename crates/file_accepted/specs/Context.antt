@@ -5,7 +5,9 @@ use mathlib.Core.Bool.{true}
 use mathlib.Core.List.{List, map}
 use Prim.Native.Nat.{ℕ, _+_, _*_, _<_, _≤_}
 use Rattle.definitions.specs.Basics.{all}
-use Rattle.definitions.specs.ContractFile.{Field, Parameter, Scope, FieldRecord, ParameterRecord, byteAt, fieldCount, nodesAt, nodeCount, nodeRecord, parameterRecords, sectionsOf, fieldOf, parameterOf, Node, nodeOf, nodeAt, isExpression, isStatement, expressionParts, statementParts}
+use Rattle.definitions.specs.ContractFile.{Field, Parameter, Scope, FieldRecord, ParameterRecord, byteAt, fieldCount, nodesAt, nodeCount}
+use Rattle.definitions.specs.ContractFile.{nodeRecord, parameterRecords, sectionsOf, fieldOf, parameterOf, Node, nodeOf, nodeAt}
+use Rattle.definitions.specs.ContractFile.{isExpression, isStatement, expressionParts, statementParts}
 use Rattle.definitions.specs.Numbers.{fieldInTables, nodeInTables}
 use Rattle.theory_trees.specs.Trees.{Falling}
 

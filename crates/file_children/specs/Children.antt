@@ -3,7 +3,9 @@ use mathlib.Core.Bool.{Bool, _&&_}
 use mathlib.Core.List.{List, [], _∷_}
 use Prim.Native.Nat.{ℕ}
 use lib.Dec.{leb}
-use Rattle.definitions.specs.ContractFile.{NodeRecord, Kind, constantKind, meKind, fieldKind, entryKind, parameterKind, operatorKind, negationKind, revealKind, skipKind, sequenceKind, assignFieldKind, assignEntryKind, requireKind, conditionalKind, noKind, kindOf}
+use Rattle.definitions.specs.ContractFile.{NodeRecord, Kind, constantKind, meKind, fieldKind, entryKind, parameterKind, operatorKind}
+use Rattle.definitions.specs.ContractFile.{negationKind, revealKind, skipKind, sequenceKind, assignFieldKind, assignEntryKind, requireKind}
+use Rattle.definitions.specs.ContractFile.{conditionalKind, noKind, kindOf}
 
 abbrev pub childrenOfKind : Kind → ℕ
 childrenOfKind constantKind = 0

@@ -13,7 +13,8 @@ ghost use Rattle.definitions.specs.Ledger.{contentAt, honestParameters};
 ghost use Rattle.file_accepted.specs.Context.{parametersIn};
 ghost use Rattle.ledger_contents.specs.Contents.{contentsOf};
 ghost use Rattle.ledger_readers.specs.Readers.{readerOfCode, Short};
-ghost use Rattle.honest_parameters.specs.Parameters.{ParametersNear, ParametersRoom, PublicRoom, PublicPut, Picked, isPrivate, readerFor};
+ghost use Rattle.honest_parameters.specs.Parameters.{ParametersNear, ParametersRoom, PublicRoom, PublicPut, Picked, isPrivate};
+ghost use Rattle.honest_parameters.specs.Parameters.{readerFor};
 
 // The caller for a private parameter, all for a public one.
 fn parameter_reader(file: &[u8], function_at: usize, k: usize, caller: u8) -> Reader

@@ -13,7 +13,8 @@ ghost use Rattle.definitions.specs.ContractFile.{nodeCount};
 ghost use Rattle.file_accepted.specs.Context.{Context};
 ghost use Rattle.rewrite_plans.specs.Plans.{nodeExpression};
 ghost use Rattle.honest_values.specs.Values.{kindAt};
-ghost use Rattle.honest_statements.specs.Honest.{isTaken, branchNumbers, honestNumbers, branchesNumbers, nodeStatement, SimpleKind, Startable, Honest, BranchHonest, BranchesHonest};
+ghost use Rattle.honest_statements.specs.Honest.{isTaken, branchNumbers, honestNumbers, branchesNumbers, nodeStatement, SimpleKind};
+ghost use Rattle.honest_statements.specs.Honest.{Startable, Honest, BranchHonest, BranchesHonest};
 
 fn both(live: bool, taken: bool) -> bool
     ensures { λ r. ⌜ r ≡ (live && taken) ⌝ }

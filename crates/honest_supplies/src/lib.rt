@@ -15,7 +15,8 @@ ghost use Rattle.memory_buffer.specs.Buffer.{stored};
 ghost use Rattle.file_accepted.specs.Context.{Context};
 ghost use Rattle.rewrite_plans.specs.Plans.{nodeExpression};
 ghost use Rattle.honest_values.specs.Values.{valueOf};
-ghost use Rattle.honest_supplies.specs.Supplies.{Ready, Wrote, suppliedNumber, bodyIn, circuitIn, supplyIn, bodyPartsIn, circuitPartsIn, placedIn};
+ghost use Rattle.honest_supplies.specs.Supplies.{Ready, Wrote, suppliedNumber, bodyIn, circuitIn, supplyIn, bodyPartsIn};
+ghost use Rattle.honest_supplies.specs.Supplies.{circuitPartsIn, placedIn};
 
 pub fn put_slot(out: &mut [u64], i: usize, value: u64)
     requires { ⌜ i < length (now out) ⌝ }

@@ -20,7 +20,8 @@ ghost use Rattle.ledger_contents.specs.Contents.{contentsOf, contentOfCode};
 ghost use Rattle.ledger_readers.specs.Readers.{readerOfCode};
 ghost use Rattle.ledger_circuits.specs.Circuits.{addressFrom};
 ghost use Rattle.honest_variables.specs.Slots.{SlotsRoom, SlotsPut};
-ghost use Rattle.honest_variables.specs.Variables.{codesOf, contentOfSlot, contentsOfCodes, VariablesRoom, AddressPlace, SlotReady, EntryReady, EntryPut};
+ghost use Rattle.honest_variables.specs.Variables.{codesOf, contentOfSlot, contentsOfCodes, VariablesRoom, AddressPlace, SlotReady};
+ghost use Rattle.honest_variables.specs.Variables.{EntryReady, EntryPut};
 
 // The root of the function that begins at a place.
 fn root_at(file: &[u8], function_at: usize) -> usize

@@ -35,7 +35,12 @@ pub fn done_variables_fit(
 ) -> bool
     requires { ⌜ (FunctionRoom (now file) «function_at» 0 0) × («nodes_at» ≡ nodesAt (now file)) ⌝ }
     requires { ⌜ length (now parameters) ≤ 40 ⌝ }
-    ensures { λ r. ⌜ r ≡ allFit fitsOrZero (map (variableForm (scopeIn (now (file .entry)) «function_at») (addressIn (scopeIn (now (file .entry)) «function_at») caller (map plainNumber (contentsOf (now (parameters .entry)))) (now (numbers .entry)))) ((writtenIn (now (file .entry)) «function_at») .variables)) (contentsOf (now (variables .entry))) ⌝ }
+    ensures { λ r. ⌜ r ≡ allFit fitsOrZero
+        (map (variableForm (scopeIn (now (file .entry)) «function_at»)
+        (addressIn (scopeIn (now (file .entry)) «function_at») caller
+        (map plainNumber (contentsOf (now (parameters .entry)))) (now (numbers .entry))))
+        ((writtenIn (now (file .entry)) «function_at») .variables))
+        (contentsOf (now (variables .entry))) ⌝ }
 {
     let count = parameters.len() / 5;
     let mut arguments = [0u32; 8];

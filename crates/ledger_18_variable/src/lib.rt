@@ -25,7 +25,9 @@ pub fn code_reader(addresses: &[u32], code: usize) -> Reader
 // The type code of an entry's variable: a guard is a bool.
 pub fn entry_type(file: &[u8], function_at: usize, nodes_at: usize, tag: u16, node: usize) -> usize
     requires { ⌜ Context (now file) «function_at» «nodes_at» ⌝ }
-    ensures { λ r. ⌜ dataTypeOf r ≡ cond (eqb tag 3) boolean (typeOf (scopeIn (now (file .entry)) «function_at») (expressionIn (nodesIn (now (file .entry))) node)) ⌝ }
+    ensures { λ r. ⌜ dataTypeOf r ≡ cond (eqb tag 3)
+        boolean
+        (typeOf (scopeIn (now (file .entry)) «function_at») (expressionIn (nodesIn (now (file .entry))) node)) ⌝ }
 {
     if tag == 3 {
         return 0;

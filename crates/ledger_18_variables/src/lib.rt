@@ -22,7 +22,9 @@ ghost use Rattle.ledger_18_variable.specs.Variables.{openingForms, loggedForms,
 // "First, each private parameter is read": cells of the caller's.
 fn openings_fit(file: &[u8], function_at: usize, addresses: &[u32], flat: &[u32]) -> bool
     requires { ⌜ («function_at» ≤ 200000) × (byteAt (now file) «function_at» ≤ 8) ⌝ }
-    ensures { λ r. ⌜ r ≡ frontFits fitsOrZero (openingForms (parametersIn (now (file .entry)) «function_at») (getD (now (addresses .entry)) 1 0) 0) (contentsOf (now (flat .entry))) ⌝ }
+    ensures { λ r. ⌜ r ≡ frontFits fitsOrZero
+        (openingForms (parametersIn (now (file .entry)) «function_at») (getD (now (addresses .entry)) 1 0) 0)
+        (contentsOf (now (flat .entry))) ⌝ }
 {
     let count = byte_at(file, function_at);
     let mut k: usize = 0;
@@ -56,7 +58,8 @@ fn log_fits(
 ) -> bool
     requires { ⌜ Context (now file) «function_at» «nodes_at» ⌝ }
     requires { ⌜ (from ≤ 1024) × (length (now log) ≤ 7680) ⌝ }
-    ensures { λ r. ⌜ r ≡ allFit fitsOrZero (loggedForms (now (file .entry)) «function_at» (now (addresses .entry)) (now (log .entry))) (drop from (contentsOf (now (flat .entry)))) ⌝ }
+    ensures { λ r. ⌜ r ≡ allFit fitsOrZero (loggedForms (now (file .entry)) «function_at» (now (addresses .entry)) (now (log .entry)))
+        (drop from (contentsOf (now (flat .entry)))) ⌝ }
 {
     let mut i: usize = 0;
     let mut p = from;
@@ -94,7 +97,10 @@ pub fn variables_fit(
     flat: &[u32],
 ) -> bool
     requires { ⌜ (FunctionRoom (now file) «function_at» 0 0) × («nodes_at» ≡ nodesAt (now file)) ⌝ }
-    ensures { λ r. ⌜ r ≡ allFit fitsOrZero (map (variableForm (scopeIn (now (file .entry)) «function_at») (addressFrom (now (addresses .entry)))) ((writtenIn (now (file .entry)) «function_at») .variables)) (contentsOf (now (flat .entry))) ⌝ }
+    ensures { λ r. ⌜ r ≡ allFit fitsOrZero
+        (map (variableForm (scopeIn (now (file .entry)) «function_at») (addressFrom (now (addresses .entry))))
+        ((writtenIn (now (file .entry)) «function_at») .variables))
+        (contentsOf (now (flat .entry))) ⌝ }
 {
     if openings_fit(file, function_at, addresses, flat) {
         let count = byte_at(file, function_at);

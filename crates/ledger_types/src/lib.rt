@@ -3,7 +3,8 @@ use file_bytes::byte_at;
 use file_bytes::node_at;
 ghost use mathlib.Core.Path.{_≡_};
 ghost use Prim.Native.Nat.{_<_, _≤_};
-ghost use Rattle.definitions.specs.ContractFile.{fieldAt, parameterAt, byteAt, fieldCount, nodeCount, dataTypeOf, operatorOf, resultType, typeOf};
+ghost use Rattle.definitions.specs.ContractFile.{fieldAt, parameterAt, byteAt, fieldCount, nodeCount, dataTypeOf, operatorOf, resultType};
+ghost use Rattle.definitions.specs.ContractFile.{typeOf};
 ghost use Rattle.theory_trees.specs.Trees.{expressionIn};
 ghost use Rattle.file_accepted.specs.Context.{Context, nodesIn, fieldsIn, parametersIn, scopeIn};
 

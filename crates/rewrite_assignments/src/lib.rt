@@ -47,8 +47,10 @@ pub fn assign_field_log(
     log: &mut [u16],
     p: Position,
 ) -> Position
-    requires { ⌜ (f ≤ 255) × (Ready (now file) «function_at» «nodes_at» n (now log) p (assignFieldOf (now file) «function_at» guard f n)) ⌝ }
-    ensures { λ r. ⌜ Logged (nodesIn (now (file .entry))) (now (log .entry)) (now (log .exit)) p r (assignFieldOf (now (file .entry)) «function_at» guard f n (p .variable)) ⌝ }
+    requires { ⌜ (f ≤ 255)
+        × (Ready (now file) «function_at» «nodes_at» n (now log) p (assignFieldOf (now file) «function_at» guard f n)) ⌝ }
+    ensures { λ r. ⌜ Logged (nodesIn (now (file .entry))) (now (log .entry)) (now (log .exit)) p r
+        (assignFieldOf (now (file .entry)) «function_at» guard f n (p .variable)) ⌝ }
 {
     let owner = place_code(field_owner(file, f), 0) as usize;
     place_log(file, function_at, nodes_at, n, owner, guard, log, p)
@@ -66,8 +68,10 @@ pub fn assign_entry_log(
     log: &mut [u16],
     p: Position,
 ) -> Position
-    requires { ⌜ ((f ≤ 255) × (value < nodeCount (now file))) × (Ready (now file) «function_at» «nodes_at» key (now log) p (assignEntryOf (now file) «function_at» guard f key value)) ⌝ }
-    ensures { λ r. ⌜ Logged (nodesIn (now (file .entry))) (now (log .entry)) (now (log .exit)) p r (assignEntryOf (now (file .entry)) «function_at» guard f key value (p .variable)) ⌝ }
+    requires { ⌜ ((f ≤ 255) × (value < nodeCount (now file)))
+        × (Ready (now file) «function_at» «nodes_at» key (now log) p (assignEntryOf (now file) «function_at» guard f key value)) ⌝ }
+    ensures { λ r. ⌜ Logged (nodesIn (now (file .entry))) (now (log .entry)) (now (log .exit)) p r
+        (assignEntryOf (now (file .entry)) «function_at» guard f key value (p .variable)) ⌝ }
 {
     let declared = field_owner(file, f);
     let name = name_code(file, function_at, nodes_at, key);

@@ -8,7 +8,8 @@ use rewrite_plans::read_code;
 use rewrite_plans::supplied_code;
 ghost use Rattle.file_accepted.specs.Context.{nodesIn};
 ghost use Rattle.rewrite_log.specs.Logs.{Logged};
-ghost use Rattle.rewrite_expressions.specs.Translations.{bodyOf, circuitOf, bodyPartsOf, circuitPartsOf, Ready, ReadyToSupply, Supplied};
+ghost use Rattle.rewrite_expressions.specs.Translations.{bodyOf, circuitOf, bodyPartsOf, circuitPartsOf, Ready, ReadyToSupply};
+ghost use Rattle.rewrite_expressions.specs.Translations.{Supplied};
 
 // "In the body, public expressions stay .."; what is private, and a reveal, is supplied.
 pub fn body_log(

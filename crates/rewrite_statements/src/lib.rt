@@ -24,7 +24,8 @@ pub fn branch_log(
     p: Position,
 ) -> Position
     requires { ⌜ Ready (now file) «function_at» «nodes_at» n (now log) p (branchOf (now file) «function_at» n) ⌝ }
-    ensures { λ r. ⌜ Logged (nodesIn (now (file .entry))) (now (log .entry)) (now (log .exit)) p r (branchOf (now (file .entry)) «function_at» n (p .variable)) ⌝ }
+    ensures { λ r. ⌜ Logged (nodesIn (now (file .entry))) (now (log .entry)) (now (log .exit)) p r
+        (branchOf (now (file .entry)) «function_at» n (p .variable)) ⌝ }
 {
     let variable = p.variable;
     let entry = Entry {
@@ -56,7 +57,8 @@ pub fn statement_log(
     p: Position,
 ) -> Position
     requires { ⌜ Ready (now file) «function_at» «nodes_at» n (now log) p (statementOf (now file) «function_at» guard n) ⌝ }
-    ensures { λ r. ⌜ Logged (nodesIn (now (file .entry))) (now (log .entry)) (now (log .exit)) p r (statementOf (now (file .entry)) «function_at» guard n (p .variable)) ⌝ }
+    ensures { λ r. ⌜ Logged (nodesIn (now (file .entry))) (now (log .entry)) (now (log .exit)) p r
+        (statementOf (now (file .entry)) «function_at» guard n (p .variable)) ⌝ }
 {
     let node = node_at(file, nodes_at, n);
     let kind = node.kind;
@@ -104,8 +106,10 @@ pub fn function_log(
     first: usize,
     log: &mut [u16],
 ) -> Position
-    requires { ⌜ Ready (now file) «function_at» «nodes_at» (rootAt (now file) «function_at») (now log) (startingAt first) (statementOf (now file) «function_at» 0 (rootAt (now file) «function_at»)) ⌝ }
-    ensures { λ r. ⌜ Logged (nodesIn (now (file .entry))) (now (log .entry)) (now (log .exit)) (startingAt first) r (statementOf (now (file .entry)) «function_at» 0 (rootAt (now (file .entry)) «function_at») first) ⌝ }
+    requires { ⌜ Ready (now file) «function_at» «nodes_at» (rootAt (now file) «function_at») (now log) (startingAt first)
+        (statementOf (now file) «function_at» 0 (rootAt (now file) «function_at»)) ⌝ }
+    ensures { λ r. ⌜ Logged (nodesIn (now (file .entry))) (now (log .entry)) (now (log .exit)) (startingAt first) r
+        (statementOf (now (file .entry)) «function_at» 0 (rootAt (now (file .entry)) «function_at») first) ⌝ }
 {
     let root = two_bytes_at(file, function_end(file, function_at) - 2);
     let start = Position {

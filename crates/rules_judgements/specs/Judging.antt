@@ -3,7 +3,8 @@ use mathlib.Core.Path.{_≡_}
 use mathlib.Core.Bool.{true, not, cond, _&&_, _||_}
 use Prim.Native.Nat.{ℕ, _+_, _<_, min}
 use lib.Dec.{eqb, leb}
-use Rattle.definitions.specs.ContractFile.{Expression, Field, Parameter, Scope, dataTypeCode, shapeCode, ownerOfCode, fieldOwnerOfCode, dataTypeOf, typeOf}
+use Rattle.definitions.specs.ContractFile.{Expression, Field, Parameter, Scope, dataTypeCode, shapeCode, ownerOfCode, fieldOwnerOfCode}
+use Rattle.definitions.specs.ContractFile.{dataTypeOf, typeOf}
 use Rattle.definitions.specs.Owners.{Links, ownerOf, nameOf, isReader}
 use Rattle.definitions.specs.Numbers.{targetInTables, expressionFaults, fault}
 use Rattle.rules_faults.specs.Faults.{leastFault}

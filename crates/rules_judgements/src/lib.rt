@@ -10,7 +10,8 @@ ghost use mathlib.Core.Path.{_≡_};
 ghost use mathlib.Core.Bool.{true};
 ghost use Rattle.rules_links.specs.Names.{linkedBy};
 ghost use Rattle.rules_codes.specs.Codes.{isFieldCode};
-ghost use Rattle.rules_judgements.specs.Judging.{Present, Final, constantJudged, meJudged, finalNameCode, fieldJudged, argumentName, parameterJudged};
+ghost use Rattle.rules_judgements.specs.Judging.{Present, Final, constantJudged, meJudged, finalNameCode, fieldJudged, argumentName};
+ghost use Rattle.rules_judgements.specs.Judging.{parameterJudged};
 
 // Owner as its code; name as the name's owner code, 0 for none; least fault, 16 for none.
 pub struct Judged {

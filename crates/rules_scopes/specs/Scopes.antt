@@ -2,7 +2,8 @@
 use mathlib.Core.Path.{_≡_}
 use mathlib.Core.List.{List, map}
 use Prim.Native.Nat.{ℕ, _≤_}
-use Rattle.definitions.specs.ContractFile.{Scope, fieldAt, parameterAt, sectionsOf, fieldOf, parameterOf, parameterRecords, nodesAt, nodeCount}
+use Rattle.definitions.specs.ContractFile.{Scope, fieldAt, parameterAt, sectionsOf, fieldOf, parameterOf, parameterRecords, nodesAt}
+use Rattle.definitions.specs.ContractFile.{nodeCount}
 use Rattle.rules_judgements.specs.Judging.{IsField, IsParameter, Present, Final}
 use Rattle.rules_judgements.specs.declared.Declared.{Declared}
 use Rattle.rules_judgements.specs.declared.Given.{Given}

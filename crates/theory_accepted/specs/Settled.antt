@@ -4,7 +4,8 @@ use mathlib.Core.Bool.{Bool, false}
 use mathlib.Core.List.{List, _∷_}
 use Prim.Native.Nat.{ℕ}
 use Rattle.definitions.specs.ContractFile.{sectionsOf, contractOf}
-use Rattle.definitions.specs.Numbers.{endsWrongly, countOffLimits, outsideTables, namesNothing, usedOtherThanOnce, tooDeep, wrongSort, contractSentences}
+use Rattle.definitions.specs.Numbers.{endsWrongly, countOffLimits, outsideTables, namesNothing, usedOtherThanOnce, tooDeep, wrongSort}
+use Rattle.definitions.specs.Numbers.{contractSentences}
 
 -- Number n stands at n - 1.
 abbrev pub sentences : List ℕ → List Bool

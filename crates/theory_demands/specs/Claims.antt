@@ -6,7 +6,8 @@ use Prim.Native.Nat.{ℕ, suc, _≤_}
 use Rattle.definitions.specs.Basics.{all}
 use Rattle.definitions.specs.ContractFile.{contractIn}
 use Rattle.definitions.specs.Original.{placeReaders, originalCompletes}
-use Rattle.definitions.specs.Ledger.{Content, plain, cell, Ledger, contentAt, constraintHolds, lastAddress, functionOfLedger, honestParametersOf, honestVariablesOf}
+use Rattle.definitions.specs.Ledger.{Content, plain, cell, Ledger, contentAt, constraintHolds, lastAddress, functionOfLedger}
+use Rattle.definitions.specs.Ledger.{honestParametersOf, honestVariablesOf}
 use Rattle.definitions.specs.Rewriting.{rewriteFunction}
 use Rattle.definitions.specs.View.{Request, Run, runAfter}
 use Rattle.theory_relations.specs.Standing.{AllStand}

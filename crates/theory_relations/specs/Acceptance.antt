@@ -3,7 +3,9 @@ use mathlib.Core.Path.{_≡_}
 use mathlib.Core.Bool.{Bool, true, _&&_}
 use mathlib.Core.List.{List, []}
 use Prim.Native.Nat.{ℕ}
-use Rattle.definitions.specs.ContractFile.{DataType, address, toEveryone, toFinal, Expression, constant, me, field, entry, parameter, operator, negation, reveal, Statement, skip, sequence, assignField, assignEntry, require, conditional, Field, Scope, fieldAt, isFinal, isMapping, isOfType}
+use Rattle.definitions.specs.ContractFile.{DataType, address, toEveryone, toFinal, Expression, constant, me, field, entry, parameter}
+use Rattle.definitions.specs.ContractFile.{operator, negation, reveal, Statement, skip, sequence, assignField, assignEntry, require}
+use Rattle.definitions.specs.ContractFile.{conditional, Field, Scope, fieldAt, isFinal, isMapping, isOfType}
 use Rattle.definitions.specs.Owners.{noLinks}
 use Rattle.definitions.specs.Numbers.{statementFaults, isTagged}
 

@@ -4,7 +4,8 @@ use mathlib.Core.Bool.{true}
 use mathlib.Core.List.{List}
 use Prim.Native.Nat.{ℕ}
 use lib.ListN.{length, getD}
-use Rattle.definitions.specs.ContractFile.{DataType, boolean, address, Name, meName, finalName, parameterName, Field, Scope, fieldAt, parameterAt, isFinal, isOfType}
+use Rattle.definitions.specs.ContractFile.{DataType, boolean, address, Name, meName, finalName, parameterName, Field, Scope, fieldAt}
+use Rattle.definitions.specs.ContractFile.{parameterAt, isFinal, isOfType}
 use Rattle.definitions.specs.Owners.{isPublicAddress}
 use Rattle.definitions.specs.Original.{position, perPlace}
 

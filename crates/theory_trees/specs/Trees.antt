@@ -5,7 +5,8 @@ use mathlib.Core.List.{List}
 use Prim.Native.Nat.{ℕ, suc}
 use lib.Dec.{ltb}
 use Rattle.definitions.specs.Basics.{all}
-use Rattle.definitions.specs.ContractFile.{Expression, Statement, NodeRecord, Node, nodeOf, nodeAt, children, expressionOf, expressionAt, statementOf, statementAt}
+use Rattle.definitions.specs.ContractFile.{Expression, Statement, NodeRecord, Node, nodeOf, nodeAt, children, expressionOf, expressionAt}
+use Rattle.definitions.specs.ContractFile.{statementOf, statementAt}
 
 abbrev pub expressionIn : List Node → ℕ → Expression
 expressionIn nodes n = expressionAt (suc n) nodes n

@@ -52,7 +52,9 @@ pub fn equals_value(
     root: usize,
 ) -> bool
     requires { ⌜ Readable (now nodes) ⌝ }
-    ensures { λ r. ⌜ r ≡ isContentOf (readerOf (addressFrom (now (addresses .entry))) (ownerOfCode owner)) (valueFrom (now (addresses .entry)) (now (variables .entry)) (circuitIn (tableOf (now (nodes .entry))) root)) (contentAt (contentsOf (now (variables .entry))) i) ⌝ }
+    ensures { λ r. ⌜ r ≡ isContentOf (readerOf (addressFrom (now (addresses .entry))) (ownerOfCode owner))
+        (valueFrom (now (addresses .entry)) (now (variables .entry)) (circuitIn (tableOf (now (nodes .entry))) root))
+        (contentAt (contentsOf (now (variables .entry))) i) ⌝ }
 {
     let value = root_value(nodes, addresses, variables, root);
     let content = content_at(variables, i);
@@ -72,7 +74,8 @@ pub fn claim_holds(
     root: usize,
 ) -> bool
     requires { ⌜ Readable (now nodes) ⌝ }
-    ensures { λ r. ⌜ r ≡ claimHolds (addressFrom (now (addresses .entry))) (contentsOf (now (variables .entry))) (claimFrom (tableOf (now (nodes .entry))) i owner root) ⌝ }
+    ensures { λ r. ⌜ r ≡ claimHolds (addressFrom (now (addresses .entry))) (contentsOf (now (variables .entry)))
+        (claimFrom (tableOf (now (nodes .entry))) i owner root) ⌝ }
 {
     if root == 65535 {
         let content = content_at(variables, i);

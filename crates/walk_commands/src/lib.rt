@@ -53,7 +53,12 @@ pub fn run(
     n: usize,
 ) -> bool
     requires { ⌜ (n < countOf (now nodes)) × ((Readable (now nodes)) × (fieldCount (now file) ≤ 64)) ⌝ }
-    ensures { λ r. ⌜ Ran (completesFrom (now (file .entry)) (now (addresses .entry)) (now (parameters .entry)) (constraintsFrom (tableOf (now (nodes .entry))) (now (constraints .entry))) (stateOf (now (places .entry)) (now (variables .entry))) (commandIn (tableOf (now (nodes .entry))) n)) (afterFrom (now (file .entry)) (now (addresses .entry)) (now (parameters .entry)) (stateOf (now (places .entry)) (now (variables .entry))) (commandIn (tableOf (now (nodes .entry))) n)) (stateOf (now (places .exit)) (now (variables .exit))) r ⌝ }
+    ensures { λ r. ⌜ Ran (completesFrom (now (file .entry)) (now (addresses .entry)) (now (parameters .entry))
+        (constraintsFrom (tableOf (now (nodes .entry))) (now (constraints .entry)))
+        (stateOf (now (places .entry)) (now (variables .entry))) (commandIn (tableOf (now (nodes .entry))) n))
+        (afterFrom (now (file .entry)) (now (addresses .entry)) (now (parameters .entry))
+        (stateOf (now (places .entry)) (now (variables .entry))) (commandIn (tableOf (now (nodes .entry))) n))
+        (stateOf (now (places .exit)) (now (variables .exit))) r ⌝ }
 {
     let mut at = n;
     while hands_on(nodes, at) {

@@ -29,7 +29,8 @@ pub fn constraint_holds(
     at: usize,
 ) -> bool
     requires { ⌜ (at + 4 ≤ length (now constraints)) × (Readable (now nodes)) ⌝ }
-    ensures { λ r. ⌜ r ≡ holdsFrom (now (addresses .entry)) (now (variables .entry)) (constraintFrom (tableOf (now (nodes .entry))) (now (constraints .entry)) at) ⌝ }
+    ensures { λ r. ⌜ r ≡ holdsFrom (now (addresses .entry)) (now (variables .entry))
+        (constraintFrom (tableOf (now (nodes .entry))) (now (constraints .entry)) at) ⌝ }
 {
     let guard = constraints[at] as usize;
     let i = constraints[at + 1] as usize;

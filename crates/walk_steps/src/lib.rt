@@ -26,7 +26,8 @@ ghost use Rattle.walk_steps.specs.Walk.{afterFrom, completesFrom, Ran, h
 // Field f's place at a key takes a content. "Copies keep serials."
 pub fn assign(file: &[u8], places: &mut [u32], f: usize, key: u32, value: Walked)
     requires { ⌜ fieldCount (now file) ≤ 64 ⌝ }
-    ensures { λ _. ⌜ contentsOf (now (places .exit)) ≡ set (contentsOf (now (places .entry))) (position (fieldsIn (now (file .entry))) f key) (contentOfCode (value .content)) ⌝ }
+    ensures { λ _. ⌜ contentsOf (now (places .exit))
+        ≡ set (contentsOf (now (places .entry))) (position (fieldsIn (now (file .entry))) f key) (contentOfCode (value .content)) ⌝ }
 {
     let content = value.content;
     put_content(places, position(file, f, key as usize), content);
@@ -49,8 +50,14 @@ pub fn step(
     variables: &mut [u32],
     n: usize,
 ) -> bool
-    requires { ⌜ (n < countOf (now nodes)) × ((Readable (now nodes)) × ((fieldCount (now file) ≤ 64) × (handsOn ((recordAt (tableOf (now nodes)) n) .kind) ≡ false))) ⌝ }
-    ensures { λ r. ⌜ Ran (completesFrom (now (file .entry)) (now (addresses .entry)) (now (parameters .entry)) (constraintsFrom (tableOf (now (nodes .entry))) (now (constraints .entry))) (stateOf (now (places .entry)) (now (variables .entry))) (commandIn (tableOf (now (nodes .entry))) n)) (afterFrom (now (file .entry)) (now (addresses .entry)) (now (parameters .entry)) (stateOf (now (places .entry)) (now (variables .entry))) (commandIn (tableOf (now (nodes .entry))) n)) (stateOf (now (places .exit)) (now (variables .exit))) r ⌝ }
+    requires { ⌜ (n < countOf (now nodes))
+        × ((Readable (now nodes)) × ((fieldCount (now file) ≤ 64) × (handsOn ((recordAt (tableOf (now nodes)) n) .kind) ≡ false))) ⌝ }
+    ensures { λ r. ⌜ Ran (completesFrom (now (file .entry)) (now (addresses .entry)) (now (parameters .entry))
+        (constraintsFrom (tableOf (now (nodes .entry))) (now (constraints .entry)))
+        (stateOf (now (places .entry)) (now (variables .entry))) (commandIn (tableOf (now (nodes .entry))) n))
+        (afterFrom (now (file .entry)) (now (addresses .entry)) (now (parameters .entry))
+        (stateOf (now (places .entry)) (now (variables .entry))) (commandIn (tableOf (now (nodes .entry))) n))
+        (stateOf (now (places .exit)) (now (variables .exit))) r ⌝ }
 {
     let node = read_node(nodes, 8 * n);
     let kind = node.kind;

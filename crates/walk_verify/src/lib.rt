@@ -8,7 +8,8 @@ ghost use Rattle.ledger_circuits.specs.Circuits.{constraintsFrom, allHold};
 // All constraints of a function hold.
 pub fn verify(nodes: &[u8], constraints: &[u16], addresses: &[u32], variables: &[u32]) -> bool
     requires { ⌜ Readable (now nodes) ⌝ }
-    ensures { λ r. ⌜ r ≡ allHold (now (addresses .entry)) (now (variables .entry)) (constraintsFrom (tableOf (now (nodes .entry))) (now (constraints .entry))) ⌝ }
+    ensures { λ r. ⌜ r ≡ allHold (now (addresses .entry)) (now (variables .entry))
+        (constraintsFrom (tableOf (now (nodes .entry))) (now (constraints .entry))) ⌝ }
 {
     let mut left = constraints.len() / 4;
     let mut at = 0;

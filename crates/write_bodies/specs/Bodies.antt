@@ -17,7 +17,8 @@ use Rattle.write_steps.specs.Steps.{StepsPut}
 use Rattle.write_function_room.specs.Functions.{writtenIn, privateIn, eventsIn}
 use Rattle.write_bodies.specs.declared.Extent.{Extent}
 use Rattle.write_bodies.specs.declared.Condition.{Condition}
-use Rattle.write_bodies.specs.Parts.{statementTree, eventsAt, branchTree, branchEvents, branchVariables, conditionEvents, conditionSteps, passageTree}
+use Rattle.write_bodies.specs.Parts.{statementTree, eventsAt, branchTree, branchEvents, branchVariables, conditionEvents}
+use Rattle.write_bodies.specs.Parts.{conditionSteps, passageTree}
 
 -- A statement: node n, whose first variable is number i.
 pub record StatementReady (file : List ℕ) (functionStart nodesStart n i : ℕ) (scratch roots out : List ℕ) (at base : ℕ) : Type 0 where

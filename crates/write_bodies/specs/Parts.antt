@@ -5,7 +5,8 @@ use mathlib.Core.List.{List, map}
 use Prim.Native.Nat.{ℕ, _+_, _*_}
 use lib.ListN.{length}
 use Rattle.definitions.specs.ContractFile.{boolean, Statement, Scope, NodeRecord, nodeRecord, parameterRecords, parameterOf}
-use Rattle.definitions.specs.Rewriting.{BodyExpression, Command, always, Step, privateParameters, openings, rewriteStatement, Tree, leaf, twoChildren, commandTree}
+use Rattle.definitions.specs.Rewriting.{BodyExpression, Command, always, Step, privateParameters, openings, rewriteStatement, Tree, leaf}
+use Rattle.definitions.specs.Rewriting.{twoChildren, commandTree}
 use Rattle.theory_trees.specs.Trees.{expressionIn, statementIn}
 use Rattle.file_accepted.specs.Context.{nodesIn, scopeIn}
 use Rattle.file_accepted.specs.Functions.{rootAt}

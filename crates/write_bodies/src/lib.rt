@@ -17,7 +17,8 @@ ghost use Prim.Native.Nat.{_+_, _*_};
 ghost use Rattle.theory_trees.specs.Trees.{statementIn};
 ghost use Rattle.file_accepted.specs.Context.{nodesIn};
 ghost use Rattle.write_stepped_statements.proofs.Rewritten.{isSimple};
-ghost use Rattle.write_bodies.specs.Bodies.{StatementReady, StatementWritten, BranchReady, BranchWritten, ConditionReady, ConditionWritten, BranchesReady, BranchesWritten};
+ghost use Rattle.write_bodies.specs.Bodies.{StatementReady, StatementWritten, BranchReady, BranchWritten, ConditionReady};
+ghost use Rattle.write_bodies.specs.Bodies.{ConditionWritten, BranchesReady, BranchesWritten};
 ghost use Rattle.write_bodies.specs.Parts.{recordAt};
 
 // How many nodes were written, and the number of the next variable.
@@ -47,7 +48,8 @@ fn write_simple(
     at: usize,
     base: usize,
 ) -> Extent
-    requires { ⌜ (isSimple (statementIn (nodesIn (now file)) n) ≡ true) × (StatementReady (now file) «function_at» «nodes_at» n i (now scratch) (now roots) (now out) at base) ⌝ }
+    requires { ⌜ (isSimple (statementIn (nodesIn (now file)) n) ≡ true)
+        × (StatementReady (now file) «function_at» «nodes_at» n i (now scratch) (now roots) (now out) at base) ⌝ }
     ensures { λ r. ⌜ StatementWritten (now (file .entry)) «function_at» n i (now (out .entry)) (now (out .exit)) at base r ⌝ }
 {
     let start = Position { at: 0, variable: i };
@@ -87,7 +89,8 @@ fn write_condition(
     base: usize,
 ) -> Condition
     requires { ⌜ ConditionReady (now file) «function_at» «nodes_at» n i (now scratch) (now roots) (now out) at base ⌝ }
-    ensures { λ r. ⌜ ConditionWritten (now (file .entry)) «function_at» n i (now (roots .entry)) (now (roots .exit)) (now (out .entry)) (now (out .exit)) at base r ⌝ }
+    ensures { λ r. ⌜ ConditionWritten (now (file .entry)) «function_at» n i (now (roots .entry)) (now (roots .exit))
+        (now (out .entry)) (now (out .exit)) at base r ⌝ }
 {
     let start = Position { at: 0, variable: i };
     let end = body_log(file, function_at, nodes_at, n, 0, scratch, start);
@@ -167,8 +170,10 @@ fn write_branches(
     at: usize,
     base: usize,
 ) -> Extent
-    requires { ⌜ BranchesReady (now file) «function_at» «nodes_at» n (recordAt (now file) «nodes_at» n) form j (now scratch) (now roots) (now out) at base ⌝ }
-    ensures { λ r. ⌜ BranchesWritten (now (file .entry)) «function_at» (recordAt (now (file .entry)) «nodes_at» n) form j (now (out .entry)) (now (out .exit)) at base r ⌝ }
+    requires { ⌜ BranchesReady (now file) «function_at» «nodes_at» n (recordAt (now file) «nodes_at» n) form j (now scratch)
+        (now roots) (now out) at base ⌝ }
+    ensures { λ r. ⌜ BranchesWritten (now (file .entry)) «function_at» (recordAt (now (file .entry)) «nodes_at» n) form j
+        (now (out .entry)) (now (out .exit)) at base r ⌝ }
 {
     let node = node_at(file, nodes_at, n);
     let a = at + 8 * form;
@@ -220,7 +225,8 @@ fn write_conditional(
     at: usize,
     base: usize,
 ) -> Extent
-    requires { ⌜ ((recordAt (now file) «nodes_at» n) .kind ≡ 21) × (StatementReady (now file) «function_at» «nodes_at» n i (now scratch) (now roots) (now out) at base) ⌝ }
+    requires { ⌜ ((recordAt (now file) «nodes_at» n) .kind ≡ 21)
+        × (StatementReady (now file) «function_at» «nodes_at» n i (now scratch) (now roots) (now out) at base) ⌝ }
     ensures { λ r. ⌜ StatementWritten (now (file .entry)) «function_at» n i (now (out .entry)) (now (out .exit)) at base r ⌝ }
 {
     let first = node_at(file, nodes_at, n).first;
@@ -331,7 +337,8 @@ fn write_sequence(
     at: usize,
     base: usize,
 ) -> Extent
-    requires { ⌜ ((recordAt (now file) «nodes_at» n) .kind ≡ 17) × (StatementReady (now file) «function_at» «nodes_at» n i (now scratch) (now roots) (now out) at base) ⌝ }
+    requires { ⌜ ((recordAt (now file) «nodes_at» n) .kind ≡ 17)
+        × (StatementReady (now file) «function_at» «nodes_at» n i (now scratch) (now roots) (now out) at base) ⌝ }
     ensures { λ r. ⌜ StatementWritten (now (file .entry)) «function_at» n i (now (out .entry)) (now (out .exit)) at base r ⌝ }
 {
     let node = node_at(file, nodes_at, n);

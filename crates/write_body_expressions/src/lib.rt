@@ -25,8 +25,12 @@ pub fn write_body_form(
     at: usize,
     base: usize,
 ) -> usize
-    requires { ⌜ (n < nodeCount (now file)) × ((Context (now file) «function_at» «nodes_at») × ((i + bodyCount (scopeIn (now file) «function_at») (expressionIn (nodesIn (now file)) n) ≤ 65535) × (Room (now out) at base (bodyForm (scopeIn (now file) «function_at») (expressionIn (nodesIn (now file)) n) i)))) ⌝ }
-    ensures { λ r. ⌜ Numbered (now (out .entry)) (now (out .exit)) at base (bodyForm (scopeIn (now (file .entry)) «function_at») (expressionIn (nodesIn (now (file .entry))) n) i) r ⌝ }
+    requires { ⌜ (n < nodeCount (now file))
+        × ((Context (now file) «function_at» «nodes_at»)
+        × ((i + bodyCount (scopeIn (now file) «function_at») (expressionIn (nodesIn (now file)) n) ≤ 65535)
+        × (Room (now out) at base (bodyForm (scopeIn (now file) «function_at») (expressionIn (nodesIn (now file)) n) i)))) ⌝ }
+    ensures { λ r. ⌜ Numbered (now (out .entry)) (now (out .exit)) at base
+        (bodyForm (scopeIn (now (file .entry)) «function_at») (expressionIn (nodesIn (now (file .entry))) n) i) r ⌝ }
 {
     let node = node_at(file, nodes_at, n);
     let kind = node.kind;
@@ -57,8 +61,13 @@ pub fn write_body_operator(
     at: usize,
     base: usize,
 ) -> usize
-    requires { ⌜ (kindAt (now file) «nodes_at» n ≡ 6) × ((n < nodeCount (now file)) × ((Context (now file) «function_at» «nodes_at») × ((i + bodyCount (scopeIn (now file) «function_at») (expressionIn (nodesIn (now file)) n) ≤ 65535) × (Room (now out) at base (bodyForm (scopeIn (now file) «function_at») (expressionIn (nodesIn (now file)) n) i))))) ⌝ }
-    ensures { λ r. ⌜ Numbered (now (out .entry)) (now (out .exit)) at base (bodyForm (scopeIn (now (file .entry)) «function_at») (expressionIn (nodesIn (now (file .entry))) n) i) r ⌝ }
+    requires { ⌜ (kindAt (now file) «nodes_at» n ≡ 6)
+        × ((n < nodeCount (now file))
+        × ((Context (now file) «function_at» «nodes_at»)
+        × ((i + bodyCount (scopeIn (now file) «function_at») (expressionIn (nodesIn (now file)) n) ≤ 65535)
+        × (Room (now out) at base (bodyForm (scopeIn (now file) «function_at») (expressionIn (nodesIn (now file)) n) i))))) ⌝ }
+    ensures { λ r. ⌜ Numbered (now (out .entry)) (now (out .exit)) at base
+        (bodyForm (scopeIn (now (file .entry)) «function_at») (expressionIn (nodesIn (now (file .entry))) n) i) r ⌝ }
 {
     let node = node_at(file, nodes_at, n);
     let arg = node.arg as u8;
@@ -85,8 +94,13 @@ pub fn write_body_negation(
     at: usize,
     base: usize,
 ) -> usize
-    requires { ⌜ (kindAt (now file) «nodes_at» n ≡ 7) × ((n < nodeCount (now file)) × ((Context (now file) «function_at» «nodes_at») × ((i + bodyCount (scopeIn (now file) «function_at») (expressionIn (nodesIn (now file)) n) ≤ 65535) × (Room (now out) at base (bodyForm (scopeIn (now file) «function_at») (expressionIn (nodesIn (now file)) n) i))))) ⌝ }
-    ensures { λ r. ⌜ Numbered (now (out .entry)) (now (out .exit)) at base (bodyForm (scopeIn (now (file .entry)) «function_at») (expressionIn (nodesIn (now (file .entry))) n) i) r ⌝ }
+    requires { ⌜ (kindAt (now file) «nodes_at» n ≡ 7)
+        × ((n < nodeCount (now file))
+        × ((Context (now file) «function_at» «nodes_at»)
+        × ((i + bodyCount (scopeIn (now file) «function_at») (expressionIn (nodesIn (now file)) n) ≤ 65535)
+        × (Room (now out) at base (bodyForm (scopeIn (now file) «function_at») (expressionIn (nodesIn (now file)) n) i))))) ⌝ }
+    ensures { λ r. ⌜ Numbered (now (out .entry)) (now (out .exit)) at base
+        (bodyForm (scopeIn (now (file .entry)) «function_at») (expressionIn (nodesIn (now (file .entry))) n) i) r ⌝ }
 {
     let node = node_at(file, nodes_at, n);
     if is_public(file, function_at, nodes_at, n) {

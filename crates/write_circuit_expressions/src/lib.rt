@@ -28,8 +28,12 @@ pub fn write_circuit_form(
     at: usize,
     base: usize,
 ) -> usize
-    requires { ⌜ (n < nodeCount (now file)) × ((Context (now file) «function_at» «nodes_at») × ((i + circuitCount (scopeIn (now file) «function_at») (expressionIn (nodesIn (now file)) n) ≤ 65535) × (Room (now out) at base (circuitForm (scopeIn (now file) «function_at») (expressionIn (nodesIn (now file)) n) i)))) ⌝ }
-    ensures { λ r. ⌜ Numbered (now (out .entry)) (now (out .exit)) at base (circuitForm (scopeIn (now (file .entry)) «function_at») (expressionIn (nodesIn (now (file .entry))) n) i) r ⌝ }
+    requires { ⌜ (n < nodeCount (now file))
+        × ((Context (now file) «function_at» «nodes_at»)
+        × ((i + circuitCount (scopeIn (now file) «function_at») (expressionIn (nodesIn (now file)) n) ≤ 65535)
+        × (Room (now out) at base (circuitForm (scopeIn (now file) «function_at») (expressionIn (nodesIn (now file)) n) i)))) ⌝ }
+    ensures { λ r. ⌜ Numbered (now (out .entry)) (now (out .exit)) at base
+        (circuitForm (scopeIn (now (file .entry)) «function_at») (expressionIn (nodesIn (now (file .entry))) n) i) r ⌝ }
 {
     let node = node_at(file, nodes_at, n);
     let kind = node.kind;
@@ -72,8 +76,13 @@ fn write_circuit_operator(
     at: usize,
     base: usize,
 ) -> usize
-    requires { ⌜ (kindAt (now file) «nodes_at» n ≡ 6) × ((n < nodeCount (now file)) × ((Context (now file) «function_at» «nodes_at») × ((i + circuitCount (scopeIn (now file) «function_at») (expressionIn (nodesIn (now file)) n) ≤ 65535) × (Room (now out) at base (circuitForm (scopeIn (now file) «function_at») (expressionIn (nodesIn (now file)) n) i))))) ⌝ }
-    ensures { λ r. ⌜ Numbered (now (out .entry)) (now (out .exit)) at base (circuitForm (scopeIn (now (file .entry)) «function_at») (expressionIn (nodesIn (now (file .entry))) n) i) r ⌝ }
+    requires { ⌜ (kindAt (now file) «nodes_at» n ≡ 6)
+        × ((n < nodeCount (now file))
+        × ((Context (now file) «function_at» «nodes_at»)
+        × ((i + circuitCount (scopeIn (now file) «function_at») (expressionIn (nodesIn (now file)) n) ≤ 65535)
+        × (Room (now out) at base (circuitForm (scopeIn (now file) «function_at») (expressionIn (nodesIn (now file)) n) i))))) ⌝ }
+    ensures { λ r. ⌜ Numbered (now (out .entry)) (now (out .exit)) at base
+        (circuitForm (scopeIn (now (file .entry)) «function_at») (expressionIn (nodesIn (now (file .entry))) n) i) r ⌝ }
 {
     let node = node_at(file, nodes_at, n);
     let arg = node.arg as u8;

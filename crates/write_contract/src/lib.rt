@@ -24,7 +24,9 @@ fn write_accepted(file: &[u8], out: &mut [u8]) -> Answer
 
 // A wrong writer that this rules out: one that writes a byte before it refuses; one that leaves a byte behind the written file changed.
 pub fn write(file: &[u8], out: &mut [u8]) -> Answer
-    ensures { λ r. ⌜ (r .number ≡ writeNumber (now (file .entry)) (length (now (out .entry)))) × ((r .length ≡ writtenLength (now (file .entry)) (length (now (out .entry)))) × (now (out .exit) ≡ outputAfterWriting (now (file .entry)) (now (out .entry)))) ⌝ }
+    ensures { λ r. ⌜ (r .number ≡ writeNumber (now (file .entry)) (length (now (out .entry))))
+        × ((r .length ≡ writtenLength (now (file .entry)) (length (now (out .entry))))
+        × (now (out .exit) ≡ outputAfterWriting (now (file .entry)) (now (out .entry)))) ⌝ }
 {
     let number = check(file);
     if 0 < number {

@@ -30,8 +30,11 @@ pub fn put_openings(
     at: usize,
     base: usize,
 ) -> Steps
-    requires { ⌜ (k + left ≤ 8) × ((i ≤ k) × ((place + 2 * left ≤ 1000000) × (StepsRoom (now out) (now roots) at base i (openingSteps (now file) place left k i)))) ⌝ }
-    ensures { λ r. ⌜ StepsPut (now (out .entry)) (now (out .exit)) (now (roots .entry)) (now (roots .exit)) at base i (openingSteps (now (file .entry)) place left k i) r ⌝ }
+    requires { ⌜ (k + left ≤ 8)
+        × ((i ≤ k)
+        × ((place + 2 * left ≤ 1000000) × (StepsRoom (now out) (now roots) at base i (openingSteps (now file) place left k i)))) ⌝ }
+    ensures { λ r. ⌜ StepsPut (now (out .entry)) (now (out .exit)) (now (roots .entry)) (now (roots .exit)) at base i
+        (openingSteps (now (file .entry)) place left k i) r ⌝ }
 {
     if left == 0 {
         return Steps { count: 0, nodes: 0 };
@@ -74,7 +77,8 @@ pub fn write_passage(
     base: usize,
 ) -> usize
     requires { ⌜ PassageReady (now file) «function_at» «nodes_at» private verified (now scratch) (now roots) (now out) at base ⌝ }
-    ensures { λ r. ⌜ Numbered (now (out .entry)) (now (out .exit)) at base (passageTree (now (file .entry)) «function_at» private verified) r ⌝ }
+    ensures { λ r. ⌜ Numbered (now (out .entry)) (now (out .exit)) at base
+        (passageTree (now (file .entry)) «function_at» private verified) r ⌝ }
 {
     let root = two_bytes_at(file, function_end(file, function_at) - 2);
     let body = write_statement(
@@ -112,7 +116,8 @@ pub fn write_function_body(
     base: usize,
 ) -> usize
     requires { ⌜ BodyReady (now file) «function_at» «nodes_at» private verified (now scratch) (now roots) (now out) at base ⌝ }
-    ensures { λ r. ⌜ Numbered (now (out .entry)) (now (out .exit)) at base (commandTree ((writtenIn (now (file .entry)) «function_at») .body)) r ⌝ }
+    ensures { λ r. ⌜ Numbered (now (out .entry)) (now (out .exit)) at base
+        (commandTree ((writtenIn (now (file .entry)) «function_at») .body)) r ⌝ }
 {
     let parameters = byte_at(file, function_at);
     let opened = put_openings(

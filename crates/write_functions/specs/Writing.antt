@@ -5,7 +5,8 @@ use Prim.Native.Nat.{ℕ, _+_, _*_, _≤_}
 use lib.ListN.{length, take}
 use Rattle.definitions.specs.Basics.{flatMap}
 use Rattle.definitions.specs.ContractFile.{nodesAt}
-use Rattle.definitions.specs.Rewriting.{Constraint, Tree, claimTrees, functionTrees, sizes, numberedAll, nodeBytes, constraintBytes, functionBytes}
+use Rattle.definitions.specs.Rewriting.{Constraint, Tree, claimTrees, functionTrees, sizes, numberedAll, nodeBytes, constraintBytes}
+use Rattle.definitions.specs.Rewriting.{functionBytes}
 use Rattle.memory_buffer.specs.Buffer.{stored}
 use Rattle.file_accepted.specs.Context.{nodesIn, scopeIn}
 use Rattle.rewrite_events.specs.Events.{variableCount, constraintsOf}

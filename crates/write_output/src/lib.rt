@@ -16,7 +16,8 @@ pub struct Answer {
 // "16. The lent output is too short": else headings, count of nodes and nodes stand there, one behind another.
 pub fn hand_out(headings: &[u8], nodes: &[u8], count: usize, out: &mut [u8]) -> Answer
     requires { ⌜ (length (now headings) ≤ 49152) × (length (now nodes) ≤ 49152) ⌝ }
-    ensures { λ r. ⌜ HandedOut (now (headings .entry) ++ twoBytes count ++ now (nodes .entry)) (now (out .entry)) (now (out .exit)) (r .number) (r .length) ⌝ }
+    ensures { λ r. ⌜ HandedOut (now (headings .entry) ++ twoBytes count ++ now (nodes .entry)) (now (out .entry)) (now (out .exit))
+        (r .number) (r .length) ⌝ }
 {
     let total = headings.len() + 2 + nodes.len();
     if out.len() < total {

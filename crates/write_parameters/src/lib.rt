@@ -10,7 +10,8 @@ ghost use Rattle.definitions.specs.Basics.{twoBytes};
 ghost use Rattle.definitions.specs.ContractFile.{dataTypeCode, dataTypeOf, parameterOf};
 ghost use Rattle.definitions.specs.Rewriting.{parameterBytes};
 ghost use Rattle.memory_append.specs.Append.{Appended};
-ghost use Rattle.write_parameters.specs.Parameters.{parameterRead, parametersFrom, privateCount, oneIfPrivate, openingVariables, openingClaims};
+ghost use Rattle.write_parameters.specs.Parameters.{parameterRead, parametersFrom, privateCount, oneIfPrivate, openingVariables};
+ghost use Rattle.write_parameters.specs.Parameters.{openingClaims};
 
 fn type_code(code: usize) -> u8
     ensures { λ r. ⌜ r ≡ dataTypeCode (dataTypeOf code) ⌝ }

@@ -3,7 +3,8 @@ use mathlib.Core.List.{List, [], _∷_}
 use Prim.Native.Nat.{ℕ, _+_, _*_, _≤_}
 use lib.ListN.{length}
 use Rattle.definitions.specs.ContractFile.{Function}
-use Rattle.definitions.specs.Rewriting.{BodyExpression, Circuit, Command, Claim, equals, opensForCaller, Constraint, Step, Piece, Passage, size, bodyTree, circuitTree, commandTree}
+use Rattle.definitions.specs.Rewriting.{BodyExpression, Circuit, Command, Claim, equals, opensForCaller, Constraint, Step, Piece, Passage}
+use Rattle.definitions.specs.Rewriting.{size, bodyTree, circuitTree, commandTree}
 use Rattle.theory_trees.specs.Sizes.{statementSize}
 
 -- The nodes of the bodies of some functions together.
