@@ -11,7 +11,7 @@ use Rattle.definitions.specs.Numbers.{endsWrongly, countOffLimits, outsideTable
 use Rattle.file_bytes.specs.declared.Layout.{Layout}
 use Rattle.file_bytes.specs.Layout.{IsLayout}
 use Rattle.file_children.proofs.Truth.{either-false}
-use Rattle.check_01_02_counts.proofs.Laws.{limits, hasManyParameters}
+use Rattle.check_01_02_counts.proofs.ManyParameters.{limits, hasManyParameters}
 use Rattle.theory_accepted.specs.Settled.{Settled}
 use Rattle.theory_accepted.proofs.Sentences.{none-holds}
 use Rattle.check_01_to_07.specs.Shape.{shapeNumber}

@@ -21,7 +21,7 @@ use Rattle.file_children.specs.Children.{childCount}
 use Rattle.file_children.proofs.Children.{children-are}
 use Rattle.file_children.proofs.Steps.{functionRecords-step, functionRecords-end, nodeRecords-step, nodeRecords-end}
 use Rattle.check_05_uses.specs.Counting.{Room, Counted, rootOf, childrenOf, otherThanOne, anyFrom}
-use Rattle.check_05_uses.proofs.Laws.{counted-none, counted-more, room-after}
+use Rattle.check_05_uses.proofs.UseCounts.{counted-none, counted-more, room-after}
 
 -- Whatever counts the rest leads to, the whole leads to from the start.
 pub record Leads (start current rest all : List ℕ) : Type 0 where

@@ -20,9 +20,9 @@ use Rattle.file_children.proofs.ByCount.{no-children, one-child, two-children, 
 use Rattle.file_children.proofs.Lookups.{node-within, node-past}
 use Rattle.file_children.proofs.Scans.{functions-next, functions-found}
 use Rattle.check_04_nodes.specs.Naming.{ownerNamesNothing, rootNamesNothing, nodeNamesNothing}
-use Rattle.check_04_names.proofs.Laws.{nothing-named}
+use Rattle.check_04_names.proofs.NamingLoops.{nothing-named}
 use Rattle.check_06_depth.specs.Chains.{InOrder, ChildrenBelow, Bounded, Chains, depthIn, rootTooDeep}
-use Rattle.check_06_depth.proofs.Laws.{note}
+use Rattle.check_06_depth.proofs.ChainLevels.{note}
 
 module _ (depths : List ℕ) (r : NodeRecord) (count : ℕ) (is : count ≡ childCount (r .kind)) where
   pub chain-none : count < 1 → 1 ≡ suc (largest (map (depthIn depths) (children (nodeOf r))))

@@ -11,7 +11,7 @@ use lib.Dec.{eqb}
 use lib.ListN.{length, getD, set, drop, replicate, length-append, length-replicate, drop-of-length-le}
 use lib.Seq.{drop-cons, drop-drop, getD-drop}
 use Rattle.memory_buffer.specs.Buffer.{stored}
-use Rattle.memory_buffer.proofs.Laws.{stored-one, stored-then, stored-nothing}
+use Rattle.memory_buffer.proofs.Storing.{stored-one, stored-then, stored-nothing}
 use Rattle.definitions.specs.ContractFile.{Field, fieldAt, isFinal, byteAt, fieldCount, shapeOf, fieldOf}
 use Rattle.definitions.specs.Original.{placeCount, deployedNumbers}
 use Rattle.file_accepted.specs.Context.{fieldsIn}

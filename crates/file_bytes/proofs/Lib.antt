@@ -1,3 +1,3 @@
-pub mod Laws
 pub mod Layouts
+pub mod ReadingSteps
 pub mod Sections

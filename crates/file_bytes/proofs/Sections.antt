@@ -5,7 +5,7 @@ use Prim.Native.Nat.{ℕ, _+_, _*_, _<_}
 use lib.ListN.{length, getD}
 use Rattle.definitions.specs.ContractFile.{NodeRecord, fieldRecords, fieldCount, functionRecords, functionCount, functionsAt, nodeRecord, nodeRecords, nodeCount, nodesAt, sectionsOf}
 use Rattle.theory_laws.proofs.Records.{force-is, node-records-length}
-use Rattle.file_bytes.proofs.Laws.{getD-nodeRecords}
+use Rattle.file_bytes.proofs.ReadingSteps.{getD-nodeRecords}
 
 pub fields-are : (file : List ℕ) → (sectionsOf file) .fields ≡ fieldRecords (fieldCount file) file 1
 unfolding sectionsOf

@@ -12,7 +12,7 @@ use Rattle.definitions.specs.Original.{Reader, anyone, only}
 use Rattle.definitions.specs.Ledger.{Content, plain, contentFor, honestParameters}
 use Rattle.file_accepted.proofs.Declarations.{parameters-count}
 use Rattle.ledger_contents.specs.Contents.{contentsOf}
-use Rattle.ledger_contents.proofs.Laws.{length-contentsOf}
+use Rattle.ledger_contents.proofs.FlatContents.{length-contentsOf}
 use Rattle.file_accepted.specs.Context.{parametersIn}
 use Rattle.file_accepted.proofs.Declarations.{parameter-declared}
 use Rattle.ledger_numbers.proofs.Filling.{filled-more, filled-whole}

@@ -11,7 +11,7 @@ use Rattle.definitions.specs.ContractFile.{Parameter, boolean, parameterAt, byt
 use Rattle.definitions.specs.Ledger.{Content, plain, contentAt, publicOf}
 use Rattle.file_accepted.proofs.Declarations.{parameters-count}
 use Rattle.ledger_contents.specs.Contents.{contentsOf, contentOfFive}
-use Rattle.ledger_contents.proofs.Laws.{length-contentsOf}
+use Rattle.ledger_contents.proofs.FlatContents.{length-contentsOf}
 use Rattle.file_accepted.specs.Context.{parametersIn}
 use Rattle.honest_parameters.specs.Parameters.{isPrivate, PublicRoom, PublicPut, Picked}
 

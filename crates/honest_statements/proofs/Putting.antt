@@ -7,7 +7,7 @@ use native.Mathlib.Numerals.{add-one}
 use native.Mathlib.Omega.{arith}
 use lib.ListN.{length, length-append, length-map}
 use Rattle.memory_buffer.specs.Buffer.{stored}
-use Rattle.memory_buffer.proofs.Laws.{stored-length, stored-nothing, stored-then}
+use Rattle.memory_buffer.proofs.Storing.{stored-length, stored-nothing, stored-then}
 use Rattle.rewrite_events.specs.Events.{Events, variablesOf}
 use Rattle.honest_supplies.specs.Supplies.{suppliedNumber, Room, Wrote}
 use Rattle.honest_statements.specs.Honest.{Numbering, inOrder, branchNumbers, numbersFor, Space, Put}

@@ -8,7 +8,7 @@ use lib.ListN.{length, length-append, length-map}
 use Rattle.definitions.specs.ContractFile.{Owner, Expression}
 use Rattle.definitions.specs.Rewriting.{Variable, supplied, readFrom, Guard}
 use Rattle.memory_buffer.specs.Buffer.{stored}
-use Rattle.memory_buffer.proofs.Laws.{stored-length, stored-nothing, stored-then}
+use Rattle.memory_buffer.proofs.Storing.{stored-length, stored-nothing, stored-then}
 use Rattle.rewrite_events.specs.Events.{Event, Events, claimedEvent, readEvent, variablesOf, variableCount, noEvents, inTurn, supplyEvents, readEvents}
 use Rattle.rewrite_events.proofs.Appended.{variables-append}
 use Rattle.honest_supplies.specs.Supplies.{Room, Wrote}

@@ -18,7 +18,7 @@ use Rattle.theory_typing.proofs.CallEnvironment.{call-well-formed, call-environ
 use Rattle.file_accepted.specs.Context.{fieldsIn, parametersIn, nodesIn, scopeIn}
 use Rattle.file_accepted.specs.Functions.{functionStart, rootAt}
 use Rattle.file_accepted.proofs.Functions.{fields-in, functions-count, function-in}
-use Rattle.ledger_places.proofs.Laws.{fields-count}
+use Rattle.ledger_places.proofs.Positions.{fields-count}
 use Rattle.write_parameters.specs.Parameters.{privateCount}
 use Rattle.rewrite_events.specs.Events.{Event, variablesOf, variableCount}
 use Rattle.rewrite_events.proofs.Statements.{statement-made}

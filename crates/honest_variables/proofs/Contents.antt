@@ -10,7 +10,7 @@ use lib.Seq.{drop-cons, take-suc-set, take-all}
 use Rattle.definitions.specs.ContractFile.{Name, ownerOfCode}
 use Rattle.definitions.specs.Ledger.{Content}
 use Rattle.ledger_contents.specs.Contents.{contentsOf}
-use Rattle.ledger_contents.proofs.Laws.{length-contentsOf}
+use Rattle.ledger_contents.proofs.FlatContents.{length-contentsOf}
 use Rattle.write_variables.specs.PerEntry.{perEntry}
 use Rattle.write_variables.proofs.PerEntry.{entry-next, entry-none}
 use Rattle.ledger_circuits.specs.Circuits.{addressFrom}

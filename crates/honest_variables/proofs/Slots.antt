@@ -8,7 +8,7 @@ use lib.ListN.{length, take, drop, replicate, length-append, length-replicate, r
 use lib.Seq.{take-at}
 use Rattle.definitions.specs.Rewriting.{always}
 use Rattle.memory_buffer.specs.Buffer.{stored}
-use Rattle.memory_buffer.proofs.Laws.{stored-nothing, stored-then}
+use Rattle.memory_buffer.proofs.Storing.{stored-nothing, stored-then}
 use Rattle.file_accepted.specs.Context.{scopeIn}
 use Rattle.file_accepted.specs.Functions.{rootAt}
 use Rattle.rewrite_events.specs.Events.{variableCount}

@@ -7,7 +7,7 @@ ghost use mathlib.Core.Path.{_≡_};
 ghost use Prim.Native.Nat.{_<_, _/_};
 ghost use Rattle.definitions.specs.Ledger.{isAfterCall};
 ghost use Rattle.ledger_struct.specs.Ledgers.{ledgerOf};
-ghost use Rattle.ledger_18_parts.specs.Tests.{Opened};
+ghost use Rattle.ledger_18_parts.specs.HandedOn.{Opened};
 
 // After a call: "its last call is .. a possible one".
 pub fn is_after_call(l: Ledger, file: &[u8], numbers: &[u32]) -> bool

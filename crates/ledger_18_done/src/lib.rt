@@ -21,7 +21,7 @@ ghost use Rattle.ledger_struct.specs.Ledgers.{ledgerOf};
 ghost use Rattle.ledger_18_forms.specs.Forms.{fitsOrZero};
 ghost use Rattle.write_function_room.specs.Functions.{writtenIn, FunctionRoom};
 ghost use Rattle.ledger_18_variable.specs.Variables.{variableForm};
-ghost use Rattle.ledger_18_parts.specs.Tests.{Opened};
+ghost use Rattle.ledger_18_parts.specs.HandedOn.{Opened};
 
 // The variables of the last call, which was done, by the addresses of the names in it.
 pub fn done_variables_fit(

@@ -8,7 +8,7 @@ ghost use Prim.Native.Nat.{_<_, _/_};
 ghost use Rattle.definitions.specs.ContractFile.{functionCount};
 ghost use Rattle.definitions.specs.Ledger.{isAfterFailed};
 ghost use Rattle.ledger_struct.specs.Ledgers.{ledgerOf};
-ghost use Rattle.ledger_18_parts.specs.Tests.{Opened};
+ghost use Rattle.ledger_18_parts.specs.HandedOn.{Opened};
 
 // After a failed call, which shows public parameters and no variables.
 pub fn is_after_failed(l: Ledger, file: &[u8], numbers: &[u32]) -> bool

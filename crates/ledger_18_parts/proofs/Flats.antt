@@ -7,9 +7,9 @@ use lib.ListN.{length, take, drop, length-append, length-drop, length-map}
 use lib.Seq.{take-at, length-take-le}
 use Rattle.definitions.specs.Ledger as ledger
 use Rattle.ledger_contents.specs.Contents.{contentsOf}
-use Rattle.ledger_contents.proofs.Laws.{length-contentsOf}
+use Rattle.ledger_contents.proofs.FlatContents.{length-contentsOf}
 use Rattle.ledger_numbers.specs.Numbers.{Numbered}
-use Rattle.ledger_18_parts.specs.Tests.{Flat}
+use Rattle.ledger_18_parts.specs.HandedOn.{Flat}
 
 pub front-long : (many size room : ℕ) (flat : List ℕ) → many ≡ min size room → length flat ≡ 5 * room → length (take (5 * many) flat) ≡ 5 * many
 front-long many size room flat e l = length-take-le (5 * many) flat (omega arith)

@@ -1,3 +1,3 @@
-pub mod Flats
-pub mod Tests
 pub mod Files
+pub mod Flats
+pub mod WellFormedParts

@@ -5,7 +5,7 @@ ghost use mathlib.Core.Path.{_≡_};
 ghost use Prim.Native.Nat.{_/_};
 ghost use lib.ListN.{length};
 ghost use Rattle.ledger_struct.specs.Ledgers.{ledgerOf};
-ghost use Rattle.ledger_18_parts.specs.Tests.{Flat};
+ghost use Rattle.ledger_18_parts.specs.HandedOn.{Flat};
 
 // The ledger's contents as flat numbers at the front of a buffer, and how many numbers they are.
 pub fn put_parameters(l: Ledger, flat: &mut [u32]) -> usize

@@ -11,7 +11,7 @@ ghost use Prim.Native.Nat.{_/_};
 ghost use lib.ListN.{length};
 ghost use Rattle.definitions.specs.Ledger.{isWellFormed};
 ghost use Rattle.ledger_struct.specs.Ledgers.{ledgerOf};
-ghost use Rattle.ledger_18_parts.specs.Tests.{Accepted};
+ghost use Rattle.ledger_18_parts.specs.HandedOn.{Accepted};
 
 // The last call and the places of a ledger whose file is accepted.
 fn is_opened_well(l: Ledger, file: &[u8]) -> bool

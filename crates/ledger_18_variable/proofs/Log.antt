@@ -16,11 +16,11 @@ use Rattle.theory_trees.specs.Trees.{expressionIn}
 use Rattle.theory_trees.proofs.Unfolding.{expression-unfolds}
 use Rattle.file_accepted.specs.Context.{Context, nodesIn, scopeIn}
 use Rattle.ledger_contents.specs.Contents.{contentsOf}
-use Rattle.ledger_contents.proofs.Laws.{length-contentsOf}
+use Rattle.ledger_contents.proofs.FlatContents.{length-contentsOf}
 use Rattle.ledger_readers.specs.declared.Reader.{Reader}
 use Rattle.ledger_readers.specs.Readers.{readerOfCode, formOf}
 use Rattle.ledger_18_forms.specs.Forms.{fitsOrZero, fitsAt}
-use Rattle.ledger_18_forms.proofs.Laws.{all-none, all-next, all-stops}
+use Rattle.ledger_18_forms.proofs.FormSteps.{all-none, all-next, all-stops}
 use Rattle.ledger_18_variable.specs.Variables.{codeReader, entryForm, loggedForms}
 
 pub read-by-all : (addresses : List ℕ) (code : ℕ) → code ≡ 0 → anyone ≡ codeReader addresses code

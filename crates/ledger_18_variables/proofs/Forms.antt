@@ -19,7 +19,7 @@ use Rattle.file_accepted.specs.Functions.{rootAt}
 use Rattle.rewrite_events.specs.Events.{Event, variablesOf}
 use Rattle.rewrite_events.proofs.Statements.{statement-made}
 use Rattle.rewrite_log.specs.Entries.{Entries, noEntry, entryThen, suppliedEntry, claimedEntry, readEntry, guardEntry}
-use Rattle.rewrite_log.proofs.Laws.{entries-length}
+use Rattle.rewrite_log.proofs.FiveNumbers.{entries-length}
 use Rattle.memory_buffer.specs.Buffer.{stored}
 use Rattle.ledger_circuits.specs.Circuits.{addressFrom}
 use Rattle.rewrite_event_owners.specs.Listed.{Listed, ownersListed}
@@ -27,7 +27,7 @@ use Rattle.rewrite_event_owners.proofs.Files.{owners-listed}
 use Rattle.write_parameters.specs.Parameters.{privateCount}
 use Rattle.write_function_room.specs.Functions.{writtenIn, eventsIn, privateIn}
 use Rattle.ledger_18_forms.specs.Forms.{fitsOrZero, frontFits}
-use Rattle.ledger_18_forms.proofs.Laws.{all-front}
+use Rattle.ledger_18_forms.proofs.FormSteps.{all-front}
 use Rattle.ledger_18_variable.specs.Variables.{variableForm, openingForm, openingForms, codeReader, loggedForms}
 
 -- The address at an owner's code is the owner's.

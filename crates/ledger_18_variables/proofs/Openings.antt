@@ -17,7 +17,7 @@ use Rattle.file_accepted.proofs.Declarations.{parameter-declared}
 use Rattle.ledger_readers.specs.declared.Reader.{Reader}
 use Rattle.ledger_readers.specs.Readers.{readerOfCode, formOf}
 use Rattle.ledger_18_forms.specs.Forms.{fitsOrZero, fitsAt, frontFits}
-use Rattle.ledger_18_forms.proofs.Laws.{front-next, front-stops, front-none}
+use Rattle.ledger_18_forms.proofs.FormSteps.{front-next, front-stops, front-none}
 use Rattle.ledger_18_variable.specs.Variables.{openingForm, openingForms}
 
 private-byte : (file : List ℕ) (at k : ℕ) → k < byteAt file at → (parameterAt (parametersIn file at) k) .private ≡ not (eqb (byteAt file (at + 1 + 2 * k + 1)) 0)

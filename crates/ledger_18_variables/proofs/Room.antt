@@ -14,8 +14,8 @@ use Rattle.ledger_contents.specs.Contents.{contentsOf}
 use Rattle.ledger_circuits.specs.Circuits.{addressFrom}
 use Rattle.rewrite_log.specs.declared.Position.{Position}
 use Rattle.rewrite_log.specs.Logs.{Logged}
-use Rattle.rewrite_log.proofs.Laws.{entries-length}
-use Rattle.memory_buffer.proofs.Laws.{stored-length}
+use Rattle.rewrite_log.proofs.FiveNumbers.{entries-length}
+use Rattle.memory_buffer.proofs.Storing.{stored-length}
 use Rattle.rewrite_expressions.specs.Translations.{Ready, statementOf}
 use Rattle.rewrite_assignments.specs.Placing.{startingAt}
 use Rattle.write_function_room.specs.Functions.{writtenIn, eventsIn, privateIn, FunctionRoom}

@@ -7,7 +7,7 @@ use lib.ListN.{length, take, set, length-map, List·getD-map}
 use lib.Seq.{take-all}
 use Rattle.definitions.specs.Ledger.{Content, plain, contentAt}
 use Rattle.ledger_contents.specs.Contents.{contentsOf}
-use Rattle.ledger_contents.proofs.Laws.{length-contentsOf}
+use Rattle.ledger_contents.proofs.FlatContents.{length-contentsOf}
 use Rattle.ledger_numbers.specs.Numbers.{Numbered}
 use Rattle.ledger_numbers.proofs.Filling.{filled-more, filled-all}
 

@@ -14,7 +14,7 @@ use Rattle.theory_laws.proofs.Lists.{map-append}
 use Rattle.ledger_contents.specs.declared.Content.{Content}
 use Rattle.ledger_contents.specs.declared.Place.{Place}
 use Rattle.ledger_contents.specs.Contents.{contentOfCode, contentOfPlace, contentsOf}
-use Rattle.ledger_contents.proofs.Laws.{length-contentsOf}
+use Rattle.ledger_contents.proofs.FlatContents.{length-contentsOf}
 
 -- As many as there are, or all.
 pub take-many : {A : Type 0} (count many : ℕ) (l : List A) → many ≡ min count (length l) → take many l ≡ take count l

@@ -9,7 +9,7 @@ use lib.Dec.{ltb}
 use lib.ListN.{length}
 use Rattle.definitions.specs.Report.{digits, decimal}
 use Rattle.memory_append.specs.Append.{Appended}
-use Rattle.memory_append.proofs.Laws.{appended-then}
+use Rattle.memory_append.proofs.Appending.{appended-then}
 use Rattle.report_text.proofs.Digits.{digits-one, digits-more}
 
 pub decimal-one : (n : ℕ) → n < 10 → decimal n ≡ (48 + n) ∷ []

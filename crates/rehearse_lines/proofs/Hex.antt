@@ -9,7 +9,7 @@ use lib.ListN.{length, getD, drop, drop-of-length-le}
 use lib.Seq.{drop-cons}
 use Rattle.definitions.specs.Basics.{flatMap}
 use Rattle.memory_append.specs.Append.{Appended, Appending}
-use Rattle.memory_append.proofs.Laws.{appended-then, appending-start, appending-room, appending-next, appending-done}
+use Rattle.memory_append.proofs.Appending.{appended-then, appending-start, appending-room, appending-next, appending-done}
 use Rattle.rehearse_lines.specs.Lines.{hexDigit, hexByte, hexText}
 
 pub low-digit : (n : ℕ) → n < 10 → 48 + n ≡ hexDigit n

@@ -6,7 +6,7 @@ use borrow.Author.Tests.{le-leb, lt-leb}
 use lib.ListN.{length, length-append}
 use Rattle.definitions.specs.Report.{decimal}
 use Rattle.memory_append.specs.Append.{Appended}
-use Rattle.memory_append.proofs.Laws.{appended-then, appended-length}
+use Rattle.memory_append.proofs.Appending.{appended-then, appended-length}
 use Rattle.rehearse_lines.specs.Lines.{hexText, viewLine, LineWritten}
 use Rattle.rehearse_lines.proofs.Hex.{hex-length}
 use Rattle.rehearse_lines.proofs.Decimals.{decimal-short}

@@ -14,7 +14,7 @@ use Rattle.definitions.specs.Rewriting.{rewrite}
 use Rattle.definitions.specs.Report.{crossings, refusedLine, reportText, heading, tallyLine, sorted, tallies}
 use Rattle.memory_buffer.specs.Buffer.{stored}
 use Rattle.memory_append.specs.Append.{Appended}
-use Rattle.memory_append.proofs.Laws.{appended-length}
+use Rattle.memory_append.proofs.Appending.{appended-length}
 use Rattle.report_text.specs.Lines.{reportLines}
 use Rattle.report_text.proofs.Lines.{report-is, report-length, refused-length}
 use Rattle.write_function_room.specs.Functions.{writtenFunctions}

@@ -13,12 +13,12 @@ use Rattle.definitions.specs.Numbers.{checkNumber}
 use Rattle.definitions.specs.Report.{crossings}
 use Rattle.theory_trees.specs.Trees.{statementIn}
 use Rattle.memory_buffer.specs.Buffer.{stored}
-use Rattle.memory_buffer.proofs.Laws.{stored-length}
+use Rattle.memory_buffer.proofs.Storing.{stored-length}
 use Rattle.file_accepted.specs.Context.{nodesIn, fieldsIn, parametersIn}
 use Rattle.file_accepted.specs.Functions.{functionStart, rootAt}
 use Rattle.rewrite_log.specs.declared.Position.{Position}
 use Rattle.rewrite_log.specs.Logs.{Logged}
-use Rattle.rewrite_log.proofs.Laws.{entries-length}
+use Rattle.rewrite_log.proofs.FiveNumbers.{entries-length}
 use Rattle.rewrite_expressions.specs.Translations.{statementOf, Ready}
 use Rattle.rewrite_assignments.specs.Placing.{startingAt}
 use Rattle.write_variables.specs.PerEntry.{perEntry, ofTag, countTag}

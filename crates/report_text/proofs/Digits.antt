@@ -9,7 +9,7 @@ use lib.Dec.{ltb}
 use lib.ListN.{length, length-append}
 use Rattle.definitions.specs.Report.{digits}
 use Rattle.memory_append.specs.Append.{Appended}
-use Rattle.memory_append.proofs.Laws.{appended-nothing, appended-length, appended-then}
+use Rattle.memory_append.proofs.Appending.{appended-nothing, appended-length, appended-then}
 
 pub digits-none : (levels n : ℕ) → levels ≡ 0 → digits levels n ≡ []
 unfolding digits

@@ -12,9 +12,9 @@ use Rattle.definitions.specs.Rewriting.{WrittenContract}
 use Rattle.definitions.specs.Report.{Tally, crossings, comesBefore, insert, sorted, decimal, heading, tallyLine, refusedLine, tallies}
 use Rattle.theory_laws.proofs.Lists.{flat-append}
 use Rattle.memory_append.specs.Append.{Appended}
-use Rattle.memory_append.proofs.Laws.{appended-nothing, appended-length, appended-then}
+use Rattle.memory_append.proofs.Appending.{appended-nothing, appended-length, appended-then}
 use Rattle.report_order.specs.Counts.{talliesFrom, tallyOf, orderedTallies}
-use Rattle.report_order.proofs.Laws.{tallies-are}
+use Rattle.report_order.proofs.Inserting.{tallies-are}
 use Rattle.report_text.specs.Lines.{reportLines}
 use Rattle.report_text.proofs.Digits.{digits-length}
 

@@ -12,7 +12,7 @@ use Rattle.rewrite_events.specs.Events.{Events, noEvents, inTurn}
 use Rattle.rewrite_events.specs.Parts.{eachPart}
 use Rattle.rewrite_log.specs.declared.Position.{Position}
 use Rattle.rewrite_log.specs.Logs.{Room, Logged}
-use Rattle.rewrite_log.proofs.Laws.{nothing-logged}
+use Rattle.rewrite_log.proofs.FiveNumbers.{nothing-logged}
 use Rattle.rewrite_log.proofs.Turns.{turn-first, turn-second, turn-logged}
 use Rattle.rewrite_plans.specs.declared.Parts.{Parts}
 use Rattle.rewrite_plans.specs.Plans.{nodeExpression, PartsOf}

@@ -12,7 +12,7 @@ use Rattle.rewrite_events.specs.Events.{suppliedEvent, claimedEvent, readEvent,
 use Rattle.rewrite_log.specs.declared.Position.{Position}
 use Rattle.rewrite_log.specs.Entries.{guardOf, five, suppliedEntry, claimedEntry, readEntry, guardEntry}
 use Rattle.rewrite_log.specs.Logs.{Slot, Wrote, Room, Logged}
-use Rattle.rewrite_log.proofs.Laws.{one-logged, then-logged, room-first, room-second, slot-in}
+use Rattle.rewrite_log.proofs.FiveNumbers.{one-logged, then-logged, room-first, room-second, slot-in}
 
 pub guard-number : (n : ℕ) → guardNumber (guardOf n) ≡ n
 guard-number zero = refl

@@ -1,2 +1,2 @@
+pub mod PlansByKind
 pub mod Seen
-pub mod Laws

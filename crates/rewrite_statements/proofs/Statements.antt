@@ -11,7 +11,7 @@ use Rattle.rewrite_events.specs.Events.{Events, noEvents, inTurn, statementEven
 use Rattle.rewrite_log.specs.declared.Position.{Position}
 use Rattle.rewrite_log.specs.Entries.{guardOf, five}
 use Rattle.rewrite_log.specs.Logs.{Slot, Wrote, Room, Logged, SmallEntry}
-use Rattle.rewrite_log.proofs.Laws.{nothing-logged}
+use Rattle.rewrite_log.proofs.FiveNumbers.{nothing-logged}
 use Rattle.rewrite_log.proofs.Turns.{turn-first, turn-second, turn-logged, branch-slot, branch-inside, branch-logged}
 use Rattle.rewrite_expressions.specs.Translations.{bodyOf, statementOf, Ready}
 use Rattle.rewrite_assignments.specs.Placing.{assignFieldOf, assignEntryOf, branchOf}

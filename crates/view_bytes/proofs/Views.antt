@@ -6,7 +6,7 @@ use native.Mathlib.Omega.{arith}
 use lib.ListN.{length, set, length-append}
 use lib.Seq.{sets-eq}
 use Rattle.memory_buffer.specs.Buffer.{stored}
-use Rattle.memory_buffer.proofs.Laws.{stored-then}
+use Rattle.memory_buffer.proofs.Storing.{stored-then}
 use Rattle.definitions.specs.Basics.{flatMap, twoBytes}
 use Rattle.definitions.specs.Ledger as ledger
 use Rattle.definitions.specs.View.{itemFor, itemBytes, itemsFor, viewBytes}

@@ -8,7 +8,7 @@ use lib.ListN.{length, getD, take, drop, drop-of-length-le, length-append, lengt
 use lib.Seq.{drop-cons, getD-take}
 use Rattle.theory_laws.proofs.Lists.{getD-inside}
 use Rattle.memory_buffer.specs.Buffer.{stored}
-use Rattle.memory_buffer.proofs.Laws.{stored-nothing, stored-then}
+use Rattle.memory_buffer.proofs.Storing.{stored-nothing, stored-then}
 use Rattle.definitions.specs.Basics.{flatMap}
 use Rattle.definitions.specs.Ledger as ledger
 use Rattle.definitions.specs.View.{itemFor, itemBytes}

@@ -7,13 +7,13 @@ use native.Mathlib.Omega.{arith}
 use lib.ListN.{length, take}
 use Rattle.definitions.specs.Rewriting.{WrittenFunction, sizes, numberedAll, commandTree, functionTrees}
 use Rattle.definitions.specs.Ledger as ledger
-use Rattle.memory_buffer.proofs.Laws.{front-stored}
+use Rattle.memory_buffer.proofs.Storing.{front-stored}
 use Rattle.theory_laws.proofs.Written.{nodes-length}
-use Rattle.memory_buffer.proofs.Laws.{stored-length}
+use Rattle.memory_buffer.proofs.Storing.{stored-length}
 use Rattle.file_accepted.specs.Context.{Context, nodesIn, fieldsIn}
 use Rattle.file_accepted.specs.Functions.{rootAt}
 use Rattle.ledger_contents.specs.Contents.{contentsOf}
-use Rattle.write_nodes.proofs.Laws.{size-positive}
+use Rattle.write_nodes.proofs.TreeNodes.{size-positive}
 use Rattle.rewrite_log.specs.declared.Position.{Position}
 use Rattle.rewrite_log.specs.Logs.{Logged}
 use Rattle.write_logged_steps.proofs.Held.{stored-holds}

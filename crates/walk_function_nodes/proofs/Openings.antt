@@ -8,8 +8,8 @@ use lib.ListN.{length}
 use Rattle.definitions.specs.Basics.{flatMap}
 use Rattle.definitions.specs.Rewriting.{always, Constraint, openings, heldUnder, sizes, claimTrees}
 use Rattle.memory_buffer.specs.Buffer.{stored}
-use Rattle.memory_buffer.proofs.Laws.{stored-nothing}
-use Rattle.write_nodes.proofs.Laws.{run-then}
+use Rattle.memory_buffer.proofs.Storing.{stored-nothing}
+use Rattle.write_nodes.proofs.TreeNodes.{run-then}
 use Rattle.write_circuits.specs.Circuits.{four}
 use Rattle.write_trees.specs.Numbers.{constraintNumbers}
 use Rattle.walk_function_nodes.specs.Functions.{openingNumbers}

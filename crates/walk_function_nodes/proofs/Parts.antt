@@ -11,10 +11,10 @@ use Rattle.definitions.specs.Rewriting.{always, Constraint, WrittenFunction, pr
 use Rattle.theory_laws.proofs.Written.{opening-count, sizes-append}
 use Rattle.theory_trees.specs.Trees.{statementIn}
 use Rattle.memory_buffer.specs.Buffer.{stored}
-use Rattle.memory_buffer.proofs.Laws.{stored-length}
+use Rattle.memory_buffer.proofs.Storing.{stored-length}
 use Rattle.file_accepted.specs.Context.{Context, nodesIn, fieldsIn, parametersIn, scopeIn}
 use Rattle.file_accepted.specs.Functions.{rootAt}
-use Rattle.write_nodes.proofs.Laws.{run-then}
+use Rattle.write_nodes.proofs.TreeNodes.{run-then}
 use Rattle.rewrite_events.specs.Events.{Event, suppliedEvent, claimedEvent, readEvent, guardEvent, constraintsOf, statementEvents}
 use Rattle.rewrite_events.proofs.Functions.{function-constraints}
 use Rattle.write_parameters.specs.Parameters.{privateCount}

@@ -17,7 +17,7 @@ use Rattle.write_trees.specs.Trees.{commandIn}
 use Rattle.ledger_circuits.specs.Circuits.{allHold}
 use Rattle.walk_expressions.specs.Evaluation.{stateOf, contentFrom, walkedFrom, Gives}
 use Rattle.walk_expressions.specs.declared.Walked.{Walked}
-use Rattle.walk_expressions.proofs.Laws.{Answers}
+use Rattle.walk_expressions.proofs.ExpressionsByKind.{Answers}
 use Rattle.walk_steps.specs.Walk.{afterFrom, completesFrom, Ran, handsOn}
 
 pub ran-same : (c d : Bool) (a b end : ledger.State) (r : Bool) → Ran c a end r → c ≡ d → a ≡ b → Ran d b end r

@@ -9,7 +9,7 @@ use Rattle.definitions.specs.Rewriting.{Tree, leaf, twoChildren, setting, nodeB
 use Rattle.memory_buffer.specs.Buffer.{stored}
 use Rattle.file_accepted.proofs.Statements.{branches-below}
 use Rattle.write_nodes.specs.Numbering.{Room, Numbered}
-use Rattle.write_nodes.proofs.Laws.{room-left, room-right, room-above-two, numbered-leaf, numbered-two, room-as, room-any, numbered-as}
+use Rattle.write_nodes.proofs.TreeNodes.{room-left, room-right, room-above-two, numbered-leaf, numbered-two, room-as, room-any, numbered-as}
 use Rattle.write_nodes.proofs.Parents.{room-setting, numbered-setting, room-second, room-third, room-above-three, numbered-three}
 use Rattle.write_bodies.specs.declared.Extent.{Extent}
 use Rattle.write_bodies.specs.Parts.{statementTree, branchTree, recordAt}

@@ -14,7 +14,7 @@ use Rattle.file_accepted.specs.Context.{nodesIn, scopeIn}
 use Rattle.file_accepted.proofs.Statements.{conditional-is, branches-below}
 use Rattle.rewrite_events.specs.Events.{variableCount}
 use Rattle.write_nodes.specs.Numbering.{Room, Numbered}
-use Rattle.write_nodes.proofs.Laws.{room-as, numbered-as}
+use Rattle.write_nodes.proofs.TreeNodes.{room-as, numbered-as}
 use Rattle.write_reads.specs.Forms.{bodyForm}
 use Rattle.write_steps.specs.Steps.{closers}
 use Rattle.write_steps.proofs.Nesting.{nested-size}

@@ -22,7 +22,7 @@ use Rattle.rewrite_log.specs.declared.Position.{Position}
 use Rattle.rewrite_log.specs.Logs.{Logged}
 use Rattle.rewrite_expressions.specs.Translations.{bodyOf, statementOf, Ready}
 use Rattle.write_nodes.specs.Numbering.{Room, Numbered}
-use Rattle.write_nodes.proofs.Laws.{room-as, numbered-as}
+use Rattle.write_nodes.proofs.TreeNodes.{room-as, numbered-as}
 use Rattle.write_nodes.proofs.Parents.{room-first}
 use Rattle.write_reads.specs.Forms.{bodyForm}
 use Rattle.write_simple_statements.specs.Statements.{simple, simpleCount}

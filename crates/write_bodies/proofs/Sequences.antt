@@ -13,7 +13,7 @@ use Rattle.file_accepted.specs.Context.{nodesIn, scopeIn}
 use Rattle.file_accepted.proofs.Statements.{sequence-is, steps-below}
 use Rattle.rewrite_events.specs.Events.{variableCount}
 use Rattle.write_nodes.specs.Numbering.{Room}
-use Rattle.write_nodes.proofs.Laws.{room-left, room-right, room-above-two, numbered-two, room-as, numbered-as}
+use Rattle.write_nodes.proofs.TreeNodes.{room-left, room-right, room-above-two, numbered-two, room-as, numbered-as}
 use Rattle.write_bodies.specs.declared.Extent.{Extent}
 use Rattle.write_bodies.specs.Parts.{commandOf, eventsOf, statementTree, eventsAt, recordAt}
 use Rattle.write_bodies.specs.Bodies.{StatementReady, StatementWritten}

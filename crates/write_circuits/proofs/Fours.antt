@@ -5,7 +5,7 @@ use Prim.Native.Nat.{ℕ, _+_, _≤_}
 use native.Mathlib.Omega.{arith}
 use lib.ListN.{length}
 use Rattle.memory_buffer.specs.Buffer.{stored}
-use Rattle.write_nodes.proofs.Laws.{run-then}
+use Rattle.write_nodes.proofs.TreeNodes.{run-then}
 use Rattle.write_circuits.specs.Circuits.{four}
 
 pub four-stored : (held one two three after : List ℕ) (at a b c d : ℕ) → at + 4 ≤ length held → one ≡ stored held at (a ∷ []) → two ≡ stored one (at + 1) (b ∷ [])

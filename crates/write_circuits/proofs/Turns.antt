@@ -8,9 +8,9 @@ use lib.ListN.{length}
 use Rattle.definitions.specs.Basics.{flatMap}
 use Rattle.definitions.specs.Rewriting.{size, sizes, numbered, numberedAll, nodeBytes}
 use Rattle.memory_buffer.specs.Buffer.{stored}
-use Rattle.memory_buffer.proofs.Laws.{stored-nothing, stored-length}
+use Rattle.memory_buffer.proofs.Storing.{stored-nothing, stored-length}
 use Rattle.write_nodes.specs.Numbering.{treeBytes, Room, Numbered}
-use Rattle.write_nodes.proofs.Laws.{nodes-append, bytes-length, size-positive, run-then, numbered-keeps}
+use Rattle.write_nodes.proofs.TreeNodes.{nodes-append, bytes-length, size-positive, run-then, numbered-keeps}
 use Rattle.write_circuits.specs.declared.Circuits.{Circuits}
 use Rattle.write_circuits.specs.Circuits.{LoggedClaim, treesOf, four, fourOf, foursOf, CircuitsRoom, CircuitPut, CircuitsPut}
 

@@ -5,7 +5,7 @@ use Prim.Native.Nat.{ℕ, zero, suc, _+_, _*_, _-_, _<_, _≤_}
 use native.Mathlib.Omega.{arith}
 use lib.ListN.{length, getD, length-append}
 use Rattle.memory_append.specs.Append.{Appended, Appending}
-use Rattle.memory_append.proofs.Laws.{appending-room, appending-next, appending-done}
+use Rattle.memory_append.proofs.Appending.{appending-room, appending-next, appending-done}
 use Rattle.write_circuits.specs.Circuits.{sixBytes, sixesFrom}
 
 abbrev pub sixAt : List ℕ → ℕ → List ℕ

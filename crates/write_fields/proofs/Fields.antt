@@ -15,7 +15,7 @@ use Rattle.theory_laws.proofs.Codes.{type-code}
 use Rattle.theory_laws.proofs.TruthValues.{and-left, and-right}
 use Rattle.file_bytes.proofs.Sections.{fields-are}
 use Rattle.memory_append.specs.Append.{Appended, Appending}
-use Rattle.memory_append.proofs.Laws.{appended-then, three-appended, appending-room, appending-next, appending-done}
+use Rattle.memory_append.proofs.Appending.{appended-then, three-appended, appending-room, appending-next, appending-done}
 use Rattle.file_accepted.specs.Context.{fieldsIn}
 use Rattle.write_fields.specs.Fields.{fieldRead, writtenType, writtenField, fieldsFrom, fieldSection, FieldsListed}
 

@@ -12,7 +12,7 @@ use Rattle.definitions.specs.ContractFile.{byteAt, parameterRecords, parameterO
 use Rattle.definitions.specs.Rewriting.{BodyExpression, Step, privateParameters, openings, leaf, setting, nodeBytes, bodyTree}
 use Rattle.memory_buffer.specs.Buffer.{stored}
 use Rattle.write_nodes.specs.Numbering.{Room, Numbered}
-use Rattle.write_nodes.proofs.Laws.{room-any, numbered-leaf}
+use Rattle.write_nodes.proofs.TreeNodes.{room-any, numbered-leaf}
 use Rattle.write_nodes.proofs.Parents.{room-setting, numbered-setting}
 use Rattle.write_steps.specs.declared.Steps.{Steps}
 use Rattle.write_steps.specs.Steps.{stepTree, StepsRoom, StepsPut}

@@ -17,7 +17,7 @@ use Rattle.memory_buffer.specs.Buffer.{stored}
 use Rattle.file_accepted.specs.Context.{nodesIn, parametersIn, scopeIn}
 use Rattle.file_accepted.specs.Functions.{rootAt}
 use Rattle.write_nodes.specs.Numbering.{Room, Numbered}
-use Rattle.write_nodes.proofs.Laws.{room-left, room-right, room-above-two, room-any, numbered-leaf, numbered-two, room-as, numbered-as}
+use Rattle.write_nodes.proofs.TreeNodes.{room-left, room-right, room-above-two, room-any, numbered-leaf, numbered-two, room-as, numbered-as}
 use Rattle.write_parameters.specs.Parameters.{privateCount}
 use Rattle.write_steps.specs.declared.Steps.{Steps}
 use Rattle.write_steps.specs.Steps.{closers, StepsRoom, StepsPut}

@@ -17,7 +17,7 @@ use Rattle.write_variables.proofs.Links.{claims-told}
 use Rattle.write_heading_laws.proofs.Heading.{heading-told}
 use Rattle.write_headings.specs.Parts.{headingParts, HeadingFits}
 use Rattle.write_headings.proofs.Parts.{heading-is}
-use Rattle.write_nodes.proofs.Laws.{size-positive}
+use Rattle.write_nodes.proofs.TreeNodes.{size-positive}
 use Rattle.write_circuits.specs.Circuits.{sixesFrom}
 use Rattle.write_claims.proofs.Sixes.{sixes-length}
 use Rattle.write_function_room.specs.Functions.{writtenIn, eventsIn}

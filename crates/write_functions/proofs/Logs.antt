@@ -11,7 +11,7 @@ use Rattle.definitions.specs.Rewriting.{always, Tree, sizes, numberedAll, nodeB
 use Rattle.file_accepted.proofs.Nodes.{nodes-counted}
 use Rattle.theory_trees.specs.Trees.{statementIn}
 use Rattle.memory_buffer.specs.Buffer.{stored}
-use Rattle.memory_buffer.proofs.Laws.{stored-length}
+use Rattle.memory_buffer.proofs.Storing.{stored-length}
 use Rattle.file_accepted.specs.Context.{Context, nodesIn, scopeIn}
 use Rattle.file_accepted.specs.Functions.{rootAt}
 use Rattle.rewrite_events.specs.Events.{variableCount, statementEvents}

@@ -8,7 +8,7 @@ use Rattle.definitions.specs.Basics.{twoBytes}
 use Rattle.definitions.specs.ContractFile.{byteAt}
 use Rattle.memory_buffer.specs.Buffer.{stored}
 use Rattle.memory_append.specs.Append.{Appended}
-use Rattle.memory_append.proofs.Laws.{stored-before, appended-then, room-then}
+use Rattle.memory_append.proofs.Appending.{stored-before, appended-then, room-then}
 use Rattle.write_variables.specs.PerEntry.{perEntry, countTag}
 use Rattle.write_variables.specs.Variables.{variableOf}
 use Rattle.write_parameters.specs.Parameters.{parametersFrom, privateCount, openingVariables, openingClaims}

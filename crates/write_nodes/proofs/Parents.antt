@@ -8,7 +8,7 @@ use Rattle.definitions.specs.ContractFile.{node}
 use Rattle.definitions.specs.Rewriting.{Tree, threeChildren, setting, size, nodeBytes}
 use Rattle.memory_buffer.specs.Buffer.{stored}
 use Rattle.write_nodes.specs.Numbering.{treeBytes, Room, Numbered}
-use Rattle.write_nodes.proofs.Laws.{bytes-length, size-positive, setting-bytes, three-bytes, run-then, numbered-keeps}
+use Rattle.write_nodes.proofs.TreeNodes.{bytes-length, size-positive, setting-bytes, three-bytes, run-then, numbered-keeps}
 
 module _ (held : List ℕ) (at base : ℕ) where
   module _ (variable : ℕ) (value : Tree) (room : Room held at base (setting variable value)) where

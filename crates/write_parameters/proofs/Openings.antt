@@ -8,7 +8,7 @@ use lib.ListN.{length}
 use Rattle.definitions.specs.Basics.{flatMap, twoBytes}
 use Rattle.definitions.specs.Rewriting.{always, Constraint, openings, heldUnder, sizes, variableBytes, keyOf, constraintBytes}
 use Rattle.memory_append.specs.Append.{Appended, Appending}
-use Rattle.memory_append.proofs.Laws.{appended-then, appending-start, appending-same, appending-room, appending-next, appending-done}
+use Rattle.memory_append.proofs.Appending.{appended-then, appending-start, appending-same, appending-room, appending-next, appending-done}
 use Rattle.write_parameters.specs.Parameters.{openingVariables, openingClaims}
 
 -- The definitions' openings, by how many there are.

@@ -11,7 +11,7 @@ use Rattle.definitions.specs.Basics.{flatMap}
 use Rattle.definitions.specs.ContractFile.{Parameter, dataTypeCode, byteAt, dataTypeOf, ParameterRecord, parameterRecords, parameterOf}
 use Rattle.definitions.specs.Rewriting.{privateParameters, parameterBytes}
 use Rattle.memory_append.specs.Append.{Appended, Appending}
-use Rattle.memory_append.proofs.Laws.{appended-then, appending-room, appending-next, appending-done}
+use Rattle.memory_append.proofs.Appending.{appended-then, appending-room, appending-next, appending-done}
 use Rattle.write_parameters.specs.Parameters.{parameterRead, parametersFrom, privateCount, oneIfPrivate}
 
 pub bool-code : (code : ℕ) → code ≡ 0 → 0 ≡ dataTypeCode (dataTypeOf code)

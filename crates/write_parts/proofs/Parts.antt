@@ -11,9 +11,9 @@ use Rattle.definitions.specs.Numbers.{checkNumber}
 use Rattle.definitions.specs.Rewriting.{sizes, functionTrees, numberedAll, nodeBytes, functionBytes, functionsBytes, writtenFile}
 use Rattle.file_accepted.specs.Functions.{functionStart}
 use Rattle.memory_buffer.specs.Buffer.{stored}
-use Rattle.memory_buffer.proofs.Laws.{stored-nothing, stored-then}
+use Rattle.memory_buffer.proofs.Storing.{stored-nothing, stored-then}
 use Rattle.memory_append.specs.Append.{Appended}
-use Rattle.memory_append.proofs.Laws.{appended-then}
+use Rattle.memory_append.proofs.Appending.{appended-then}
 use Rattle.write_fields.specs.Fields.{fieldSection}
 use Rattle.write_fields.proofs.Fields.{section-length}
 use Rattle.write_function_room.specs.Functions.{writtenIn, headingsBefore, nodesBefore, FunctionRoom}

@@ -9,8 +9,8 @@ use Rattle.definitions.specs.Basics.{flatMap}
 use Rattle.definitions.specs.ContractFile.{NodeRecord, node}
 use Rattle.definitions.specs.Rewriting.{nodeBytes}
 use Rattle.memory_buffer.specs.Buffer.{stored}
-use Rattle.memory_buffer.proofs.Laws.{stored-nothing}
-use Rattle.write_nodes.proofs.Laws.{run-then}
+use Rattle.memory_buffer.proofs.Storing.{stored-nothing}
+use Rattle.write_nodes.proofs.TreeNodes.{run-then}
 use Rattle.write_steps.specs.Steps.{closers}
 use Rattle.write_steps.proofs.Nesting.{closers-last}
 

@@ -9,9 +9,9 @@ use Rattle.definitions.specs.Basics.{flatMap}
 use Rattle.definitions.specs.Rewriting.{Command, Step, stepsBefore, size, sizes, numbered, numberedAll, nodeBytes, commandTree}
 use Rattle.theory_laws.proofs.Written.{all-length, nodes-length}
 use Rattle.memory_buffer.specs.Buffer.{stored}
-use Rattle.memory_buffer.proofs.Laws.{stored-length}
+use Rattle.memory_buffer.proofs.Storing.{stored-length}
 use Rattle.write_nodes.specs.Numbering.{treeBytes, Room, Numbered}
-use Rattle.write_nodes.proofs.Laws.{nodes-append, bytes-length, size-positive, run-then, numbered-keeps}
+use Rattle.write_nodes.proofs.TreeNodes.{nodes-append, bytes-length, size-positive, run-then, numbered-keeps}
 use Rattle.write_steps.specs.declared.Steps.{Steps}
 use Rattle.write_steps.specs.Steps.{stepTrees, stepRoots, closers, StepsRoom, StepsPut}
 use Rattle.write_steps.proofs.Nesting.{roots-length, nested-size, nested-nodes}

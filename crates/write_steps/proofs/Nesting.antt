@@ -7,7 +7,7 @@ use native.Mathlib.Omega.{arith}
 use lib.ListN.{length, length-append}
 use Rattle.definitions.specs.ContractFile.{NodeRecord, node}
 use Rattle.definitions.specs.Rewriting.{Command, Step, stepsBefore, size, sizes, numbered, numberedAll, commandTree}
-use Rattle.write_nodes.proofs.Laws.{size-positive}
+use Rattle.write_nodes.proofs.TreeNodes.{size-positive}
 use Rattle.write_steps.specs.Steps.{stepTree, stepTrees, stepRoots, closers}
 
 pub roots-length : (base : ℕ) (steps : List Step) → length (stepRoots base steps) ≡ length steps

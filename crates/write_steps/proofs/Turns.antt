@@ -8,9 +8,9 @@ use lib.ListN.{length}
 use Rattle.definitions.specs.Basics.{flatMap}
 use Rattle.definitions.specs.Rewriting.{Step, size, sizes, numbered, numberedAll, nodeBytes}
 use Rattle.memory_buffer.specs.Buffer.{stored}
-use Rattle.memory_buffer.proofs.Laws.{stored-nothing, stored-length}
+use Rattle.memory_buffer.proofs.Storing.{stored-nothing, stored-length}
 use Rattle.write_nodes.specs.Numbering.{treeBytes, Room, Numbered}
-use Rattle.write_nodes.proofs.Laws.{nodes-append, bytes-length, size-positive, run-then, numbered-keeps}
+use Rattle.write_nodes.proofs.TreeNodes.{nodes-append, bytes-length, size-positive, run-then, numbered-keeps}
 use Rattle.write_steps.specs.declared.Steps.{Steps}
 use Rattle.write_steps.specs.Steps.{stepTree, stepTrees, stepRoots, StepsRoom, StepsPut}
 

@@ -11,7 +11,7 @@ use Rattle.definitions.specs.ContractFile.{NodeRecord, byteAt, twoBytesAt, node
 use Rattle.definitions.specs.Rewriting.{nodeBytes}
 use Rattle.theory_laws.proofs.Records.{node-records-length}
 use Rattle.theory_laws.proofs.Written.{nodes-length}
-use Rattle.file_bytes.proofs.Laws.{getD-nodeRecords}
+use Rattle.file_bytes.proofs.ReadingSteps.{getD-nodeRecords}
 use Rattle.write_trees.specs.Trees.{recordAt}
 use Rattle.write_trees.specs.Table.{countOf, tableOf}
 

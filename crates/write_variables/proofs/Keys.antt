@@ -12,7 +12,7 @@ use Rattle.definitions.specs.Basics.{any}
 use Rattle.definitions.specs.Rewriting.{eachOnce}
 use Rattle.theory_laws.proofs.Lists.{zeros-at}
 use Rattle.memory_append.specs.Append.{Appended, Appending}
-use Rattle.memory_append.proofs.Laws.{appended-nothing, appending-start, appending-same, appending-room, appending-next, appending-done}
+use Rattle.memory_append.proofs.Appending.{appended-nothing, appending-start, appending-same, appending-room, appending-next, appending-done}
 use Rattle.write_variables.specs.PerEntry.{perEntry}
 use Rattle.write_variables.specs.Variables.{keyCode, onceUnseen, seenIn, KeysTaken}
 use Rattle.write_variables.proofs.PerEntry.{entry-next, entry-none}

@@ -6,7 +6,7 @@ use native.Mathlib.Omega.{arith}
 use lib.ListN.{length, getD, drop, length-append, length-drop}
 use Rattle.theory_laws.proofs.Lists.{five-next}
 use Rattle.memory_append.specs.Append.{Appended, Appending}
-use Rattle.memory_append.proofs.Laws.{appending-room, appending-next, appending-done}
+use Rattle.memory_append.proofs.Appending.{appending-room, appending-next, appending-done}
 use Rattle.write_variables.specs.PerEntry.{FromEntry, perEntry, ofTag, countTag}
 
 module _ (make : FromEntry) where

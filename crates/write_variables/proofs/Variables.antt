@@ -6,7 +6,7 @@ use native.Mathlib.Omega.{arith}
 use borrow.Author.Tests.{eq-eqb, ne-eqb}
 use lib.ListN.{length}
 use Rattle.memory_append.specs.Append.{Appended}
-use Rattle.memory_append.proofs.Laws.{appended-nothing, appended-then}
+use Rattle.memory_append.proofs.Appending.{appended-nothing, appended-then}
 use Rattle.write_variables.specs.PerEntry.{ofTag}
 use Rattle.write_variables.specs.Variables.{originOf, variableOf}
 

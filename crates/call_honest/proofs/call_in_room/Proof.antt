@@ -1,7 +1,7 @@
 use mathlib.Core.Path.{sym}
 use native.Mathlib.Omega.{arith}
 use Rattle.call_ledgers.proofs.Ledgers.{taken-length}
-use Rattle.call_honest.proofs.Laws.{arguments-few, slots-within}
+use Rattle.call_honest.proofs.HonestParts.{arguments-few, slots-within}
 use borrow.Author.Needs.{needs}
 use Rattle.call_honest.proofs.call_in_room.Statement.{statement}
 use Rattle.call_honest.proofs.call_in_room.Tie as tie

@@ -1,7 +1,7 @@
 use mathlib.Core.Path.{refl}
 use native.Mathlib.Omega.{arith}
 use Rattle.call_ledgers.proofs.Ledgers.{taken-length}
-use Rattle.call_honest.proofs.Laws.{function-near, addresses-ready, log-room}
+use Rattle.call_honest.proofs.HonestParts.{function-near, addresses-ready, log-room}
 use borrow.Author.Needs.{needs}
 use Rattle.call_honest.proofs.call_opened.Statement.{statement}
 use Rattle.call_honest.proofs.call_opened.Tie as tie

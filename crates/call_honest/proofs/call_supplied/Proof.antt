@@ -1,7 +1,7 @@
 use native.Mathlib.Omega.{arith}
 use Rattle.theory_typing.proofs.CallEnvironment.{calls-left}
 use Rattle.call_ledgers.proofs.Ledgers.{call-of, call-left}
-use Rattle.call_honest.proofs.Laws.{parameters-ready, variables-ready, call-ready, call-honest}
+use Rattle.call_honest.proofs.HonestParts.{parameters-ready, variables-ready, call-ready, call-honest}
 use borrow.Author.Needs.{needs}
 use Rattle.call_honest.proofs.call_supplied.Statement.{statement}
 use Rattle.call_honest.proofs.call_supplied.Tie as tie

@@ -1,6 +1,6 @@
 use native.Mathlib.Omega.{arith}
 use Rattle.call_ledgers.proofs.Ledgers.{taken-length}
-use Rattle.call_honest.proofs.Laws.{slots-room, slots-few, worked-out}
+use Rattle.call_honest.proofs.HonestParts.{slots-room, slots-few, worked-out}
 use borrow.Author.Needs.{needs}
 use Rattle.call_honest.proofs.call_worked_out.Statement.{statement}
 use Rattle.call_honest.proofs.call_worked_out.Tie as tie

@@ -1,4 +1,4 @@
-use Rattle.call_honest.proofs.Laws.{log-ready, log-put}
+use Rattle.call_honest.proofs.HonestParts.{log-ready, log-put}
 use borrow.Author.Needs.{needs}
 use Rattle.call_honest.proofs.log_body.Statement.{statement}
 use Rattle.call_honest.proofs.log_body.Tie as tie

@@ -1,5 +1,5 @@
 use native.Mathlib.Omega.{arith}
-use Rattle.call_honest.proofs.Laws.{places-opened}
+use Rattle.call_honest.proofs.HonestParts.{places-opened}
 use borrow.Author.Needs.{needs}
 use Rattle.call_honest.proofs.opened_places.Statement.{statement}
 use Rattle.call_honest.proofs.opened_places.Tie as tie

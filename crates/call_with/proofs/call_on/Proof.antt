@@ -1,7 +1,7 @@
 use mathlib.Core.Path.{refl}
 use native.Mathlib.Omega.{arith}
 use borrow.Author.Needs.{needs}
-use Rattle.call_with.proofs.Laws.{call-done, call-failed}
+use Rattle.call_with.proofs.CallParts.{call-done, call-failed}
 use Rattle.call_with.proofs.Ready.{room-here, addresses-here, public-here, held-still}
 use Rattle.call_with.proofs.call_on.Statement.{statement}
 use Rattle.call_with.proofs.call_on.Tie as tie

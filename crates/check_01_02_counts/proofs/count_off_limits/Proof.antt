@@ -1,6 +1,6 @@
 use borrow.Author.Tests.{lt-ltb, le-ltb, eq-eqb, ne-eqb}
 use borrow.Author.Needs.{needs}
-use Rattle.check_01_02_counts.proofs.Laws.{limits}
+use Rattle.check_01_02_counts.proofs.ManyParameters.{limits}
 use Rattle.check_01_02_counts.proofs.count_off_limits.Statement.{statement}
 use Rattle.check_01_02_counts.proofs.count_off_limits.Tie as tie
 

@@ -5,7 +5,7 @@ use borrow.Author.Needs.{needs}
 use Rattle.definitions.specs.Basics.{any}
 use Rattle.definitions.specs.ContractFile.{functionRecords}
 use Rattle.file_children.proofs.Scans.{functions-done}
-use Rattle.check_01_02_counts.proofs.Laws.{hasManyParameters, many-next, many-found}
+use Rattle.check_01_02_counts.proofs.ManyParameters.{hasManyParameters, many-next, many-found}
 use Rattle.check_01_02_counts.proofs.many_parameters.Statement.{statement}
 use Rattle.check_01_02_counts.proofs.many_parameters.Tie as tie
 

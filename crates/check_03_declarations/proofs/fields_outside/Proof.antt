@@ -6,7 +6,7 @@ use Rattle.definitions.specs.Basics.{any}
 use Rattle.definitions.specs.ContractFile.{fieldRecords}
 use Rattle.file_children.proofs.Scans.{fields-done}
 use Rattle.check_03_declarations.specs.Outside.{fieldOutside}
-use Rattle.check_03_declarations.proofs.Laws.{field-inside, field-outside}
+use Rattle.check_03_declarations.proofs.DeclarationLoops.{field-inside, field-outside}
 use Rattle.check_03_declarations.proofs.fields_outside.Statement.{statement}
 use Rattle.check_03_declarations.proofs.fields_outside.Tie as tie
 

@@ -6,7 +6,7 @@ use Rattle.definitions.specs.Basics.{any}
 use Rattle.definitions.specs.ContractFile.{functionRecords}
 use Rattle.file_children.proofs.Scans.{functions-done}
 use Rattle.check_03_declarations.specs.Outside.{functionOutside}
-use Rattle.check_03_declarations.proofs.Laws.{function-inside, function-outside}
+use Rattle.check_03_declarations.proofs.DeclarationLoops.{function-inside, function-outside}
 use Rattle.check_03_declarations.proofs.functions_outside.Statement.{statement}
 use Rattle.check_03_declarations.proofs.functions_outside.Tie as tie
 

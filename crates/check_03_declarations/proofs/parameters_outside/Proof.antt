@@ -6,7 +6,7 @@ use Rattle.definitions.specs.Basics.{any}
 use Rattle.definitions.specs.ContractFile.{parameterRecords}
 use Rattle.file_children.proofs.Scans.{parameters-done}
 use Rattle.check_03_declarations.specs.Outside.{parameterOutside}
-use Rattle.check_03_declarations.proofs.Laws.{parameter-inside, parameter-outside}
+use Rattle.check_03_declarations.proofs.DeclarationLoops.{parameter-inside, parameter-outside}
 use Rattle.check_03_declarations.proofs.parameters_outside.Statement.{statement}
 use Rattle.check_03_declarations.proofs.parameters_outside.Tie as tie
 

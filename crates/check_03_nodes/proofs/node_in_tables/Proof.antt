@@ -4,7 +4,7 @@ use borrow.Author.Needs.{needs}
 use Rattle.definitions.specs.ContractFile.{kindOf}
 use Rattle.definitions.specs.Numbers.{kindInTables}
 use Rattle.file_bytes.specs.Node.{recordOf}
-use Rattle.check_03_nodes.proofs.Laws.{of-kind, of-two-kinds, of-no-kind}
+use Rattle.check_03_nodes.proofs.NodesByKind.{of-kind, of-two-kinds, of-no-kind}
 use Rattle.check_03_nodes.proofs.node_in_tables.Statement.{statement}
 use Rattle.check_03_nodes.proofs.node_in_tables.Tie as tie
 

@@ -6,7 +6,7 @@ use Rattle.definitions.specs.Basics.{any}
 use Rattle.definitions.specs.ContractFile.{nodeRecords}
 use Rattle.file_children.proofs.Scans.{nodes-done}
 use Rattle.check_03_nodes.specs.Outside.{nodeOutside}
-use Rattle.check_03_nodes.proofs.Laws.{node-inside, node-outside}
+use Rattle.check_03_nodes.proofs.NodesByKind.{node-inside, node-outside}
 use Rattle.check_03_nodes.proofs.nodes_outside.Statement.{statement}
 use Rattle.check_03_nodes.proofs.nodes_outside.Tie as tie
 

@@ -1,5 +1,5 @@
 use borrow.Author.Needs.{needs}
-use Rattle.check_03_nodes.proofs.Laws.{outside}
+use Rattle.check_03_nodes.proofs.NodesByKind.{outside}
 use Rattle.check_03_nodes.proofs.outside_tables.Statement.{statement}
 use Rattle.check_03_nodes.proofs.outside_tables.Tie as tie
 

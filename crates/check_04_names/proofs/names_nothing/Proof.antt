@@ -1,5 +1,5 @@
 use borrow.Author.Needs.{needs}
-use Rattle.check_04_names.proofs.Laws.{nothing-named}
+use Rattle.check_04_names.proofs.NamingLoops.{nothing-named}
 use Rattle.check_04_names.proofs.names_nothing.Statement.{statement}
 use Rattle.check_04_names.proofs.names_nothing.Tie as tie
 

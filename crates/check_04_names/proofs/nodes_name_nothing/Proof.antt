@@ -6,7 +6,7 @@ use Rattle.definitions.specs.Basics.{anyNumbered}
 use Rattle.definitions.specs.ContractFile.{nodeRecords}
 use Rattle.file_children.proofs.Scans.{numbered-done}
 use Rattle.check_04_nodes.specs.Naming.{nodeNamesNothing}
-use Rattle.check_04_names.proofs.Laws.{node-names, node-names-no-field, node-names-no-child}
+use Rattle.check_04_names.proofs.NamingLoops.{node-names, node-names-no-field, node-names-no-child}
 use Rattle.check_04_names.proofs.nodes_name_nothing.Statement.{statement}
 use Rattle.check_04_names.proofs.nodes_name_nothing.Tie as tie
 

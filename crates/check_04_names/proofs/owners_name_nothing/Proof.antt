@@ -6,7 +6,7 @@ use Rattle.definitions.specs.Basics.{any}
 use Rattle.definitions.specs.ContractFile.{fieldRecords}
 use Rattle.file_children.proofs.Scans.{fields-done}
 use Rattle.check_04_nodes.specs.Naming.{ownerNamesNothing}
-use Rattle.check_04_names.proofs.Laws.{owner-names, owner-names-none}
+use Rattle.check_04_names.proofs.NamingLoops.{owner-names, owner-names-none}
 use Rattle.check_04_names.proofs.owners_name_nothing.Statement.{statement}
 use Rattle.check_04_names.proofs.owners_name_nothing.Tie as tie
 

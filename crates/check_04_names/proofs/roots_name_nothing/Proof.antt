@@ -6,7 +6,7 @@ use Rattle.definitions.specs.Basics.{any}
 use Rattle.definitions.specs.ContractFile.{functionRecords}
 use Rattle.file_children.proofs.Scans.{functions-done}
 use Rattle.check_04_nodes.specs.Naming.{rootNamesNothing}
-use Rattle.check_04_names.proofs.Laws.{root-names, root-names-none}
+use Rattle.check_04_names.proofs.NamingLoops.{root-names, root-names-none}
 use Rattle.check_04_names.proofs.roots_name_nothing.Statement.{statement}
 use Rattle.check_04_names.proofs.roots_name_nothing.Tie as tie
 

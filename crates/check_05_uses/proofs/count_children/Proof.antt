@@ -1,7 +1,7 @@
 use native.Mathlib.Omega.{arith}
 use borrow.Author.Needs.{needs}
 use Rattle.file_bytes.specs.Node.{recordOf}
-use Rattle.check_05_uses.proofs.Laws.{room-less, room-after, counted-no-child, counted-one-child, counted-two-children, counted-three-children}
+use Rattle.check_05_uses.proofs.UseCounts.{room-less, room-after, counted-no-child, counted-one-child, counted-two-children, counted-three-children}
 use Rattle.check_05_uses.proofs.count_children.Statement.{statement}
 use Rattle.check_05_uses.proofs.count_children.Tie as tie
 

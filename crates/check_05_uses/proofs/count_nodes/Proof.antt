@@ -5,7 +5,7 @@ use Rattle.definitions.specs.Basics.{flatMap}
 use Rattle.definitions.specs.ContractFile.{nodeRecords}
 use Rattle.file_bytes.specs.Node.{recordOf}
 use Rattle.check_05_uses.specs.Counting.{Room, childrenOf}
-use Rattle.check_05_uses.proofs.Laws.{room-less}
+use Rattle.check_05_uses.proofs.UseCounts.{room-less}
 use Rattle.check_05_uses.proofs.Loops.{Leads, leads-all, nodes-next, nodes-done, room-after-node}
 use Rattle.check_05_uses.proofs.count_nodes.Statement.{statement}
 use Rattle.check_05_uses.proofs.count_nodes.Tie as tie

@@ -4,7 +4,7 @@ use native.Mathlib.Omega.{arith}
 use borrow.Author.Needs.{needs}
 use Rattle.definitions.specs.ContractFile.{functionRecords}
 use Rattle.check_05_uses.specs.Counting.{Room, rootOf}
-use Rattle.check_05_uses.proofs.Laws.{room-less, room-after}
+use Rattle.check_05_uses.proofs.UseCounts.{room-less, room-after}
 use Rattle.check_05_uses.proofs.Loops.{Leads, leads-all, roots-next, roots-done}
 use Rattle.check_05_uses.proofs.count_roots.Statement.{statement}
 use Rattle.check_05_uses.proofs.count_roots.Tie as tie

@@ -1,6 +1,6 @@
 use native.Mathlib.Omega.{arith}
 use borrow.Author.Needs.{needs}
-use Rattle.check_05_uses.proofs.Laws.{counted-use, counted-past}
+use Rattle.check_05_uses.proofs.UseCounts.{counted-use, counted-past}
 use Rattle.check_05_uses.proofs.count_use.Statement.{statement}
 use Rattle.check_05_uses.proofs.count_use.Tie as tie
 

@@ -1,6 +1,6 @@
 use mathlib.Core.Path.{_∙_}
 use borrow.Author.Needs.{needs}
-use Rattle.check_07_sorts.proofs.Laws.{no-sort, expression-there, statement-there}
+use Rattle.check_07_sorts.proofs.SortLoops.{no-sort, expression-there, statement-there}
 use Rattle.check_07_sorts.proofs.has_sort.Statement.{statement}
 use Rattle.check_07_sorts.proofs.has_sort.Tie as tie
 

@@ -6,7 +6,7 @@ use Rattle.definitions.specs.Basics.{any}
 use Rattle.definitions.specs.ContractFile.{nodeRecords}
 use Rattle.file_children.proofs.Scans.{nodes-done}
 use Rattle.check_07_sorts.specs.Sorts.{nodesIn, partsWrong}
-use Rattle.check_07_sorts.proofs.Laws.{nodeWrong, nodes-all, node-right, node-wrong}
+use Rattle.check_07_sorts.proofs.SortLoops.{nodeWrong, nodes-all, node-right, node-wrong}
 use Rattle.check_07_sorts.proofs.nodes_wrong.Statement.{statement}
 use Rattle.check_07_sorts.proofs.nodes_wrong.Tie as tie
 

@@ -1,7 +1,7 @@
 use borrow.Author.Needs.{needs}
 use Rattle.file_bytes.specs.Node.{recordOf}
 use Rattle.check_07_sorts.specs.Sorts.{nodesIn}
-use Rattle.check_07_sorts.proofs.Laws.{none-wrong, first-wrong, only-first-right, second-wrong, only-two-right, third-asked}
+use Rattle.check_07_sorts.proofs.SortLoops.{none-wrong, first-wrong, only-first-right, second-wrong, only-two-right, third-asked}
 use Rattle.check_07_sorts.proofs.parts_wrong.Statement.{statement}
 use Rattle.check_07_sorts.proofs.parts_wrong.Tie as tie
 

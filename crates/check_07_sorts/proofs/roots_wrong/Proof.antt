@@ -6,7 +6,7 @@ use Rattle.definitions.specs.Basics.{any}
 use Rattle.definitions.specs.ContractFile.{functionRecords}
 use Rattle.file_children.proofs.Scans.{functions-done}
 use Rattle.check_07_sorts.specs.Sorts.{nodesIn, rootWrong}
-use Rattle.check_07_sorts.proofs.Laws.{root-right, root-wrong}
+use Rattle.check_07_sorts.proofs.SortLoops.{root-right, root-wrong}
 use Rattle.check_07_sorts.proofs.roots_wrong.Statement.{statement}
 use Rattle.check_07_sorts.proofs.roots_wrong.Tie as tie
 

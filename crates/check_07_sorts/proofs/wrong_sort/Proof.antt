@@ -1,5 +1,5 @@
 use borrow.Author.Needs.{needs}
-use Rattle.check_07_sorts.proofs.Laws.{sorts-wrong}
+use Rattle.check_07_sorts.proofs.SortLoops.{sorts-wrong}
 use Rattle.check_07_sorts.proofs.wrong_sort.Statement.{statement}
 use Rattle.check_07_sorts.proofs.wrong_sort.Tie as tie
 

@@ -5,7 +5,7 @@ use native.Mathlib.Omega.{arith}
 use Rattle.definitions.specs.Basics.{countIf}
 use Rattle.definitions.specs.ContractFile.{isFinal}
 use Rattle.file_accepted.specs.Context.{fieldsIn}
-use Rattle.ledger_places.proofs.Laws.{fields-count}
+use Rattle.ledger_places.proofs.Positions.{fields-count}
 use Rattle.deploy.proofs.Addresses.{finalsFrom, finals-next, finals-done}
 use borrow.Author.Needs.{needs}
 use Rattle.deploy.proofs.final_count.Statement.{statement}

@@ -4,7 +4,7 @@ use native.Mathlib.Omega.{arith}
 use lib.ListN.{length}
 use Rattle.definitions.specs.ContractFile.{contractOf}
 use Rattle.definitions.specs.Ledger.{deployed}
-use Rattle.memory_buffer.proofs.Laws.{front-stored}
+use Rattle.memory_buffer.proofs.Storing.{front-stored}
 use Rattle.file_accepted.specs.Context.{fieldsIn}
 use Rattle.ledger_struct.specs.Ledgers.{ledgerOf}
 use Rattle.deploy_ledger.specs.Deployments.{contentsFor}

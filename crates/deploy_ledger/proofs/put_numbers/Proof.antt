@@ -7,7 +7,7 @@ use borrow.Author.Needs.{needs}
 use Rattle.memory_buffer.specs.Buffer.{stored}
 use Rattle.definitions.specs.Original.{deployedNumbers}
 use Rattle.file_accepted.specs.Context.{fieldsIn}
-use Rattle.ledger_places.proofs.Laws.{fields-count}
+use Rattle.ledger_places.proofs.Positions.{fields-count}
 use Rattle.deploy_ledger.proofs.Numbers.{final-next, final-count, zeros-field, zeros-count, numbers-done, numbers-counted, is-final, not-final}
 use Rattle.deploy_ledger.proofs.put_numbers.Statement.{statement}
 use Rattle.deploy_ledger.proofs.put_numbers.Tie as tie

@@ -8,7 +8,7 @@ use borrow.Author.Needs.{needs}
 use Rattle.definitions.specs.Original.{perPlace, placeReaders}
 use Rattle.file_accepted.specs.Context.{fieldsIn}
 use Rattle.ledger_struct.specs.Ledgers.{contentsIn}
-use Rattle.ledger_places.proofs.Laws.{fields-count}
+use Rattle.ledger_places.proofs.Positions.{fields-count}
 use Rattle.deploy_ledger.specs.Deployments.{contentsFor}
 use Rattle.deploy_ledger.proofs.Places.{asked, field-counted, field-given, fields-done}
 use Rattle.deploy_ledger.proofs.put_places.Statement.{statement}

@@ -1,7 +1,7 @@
 use mathlib.Core.Path.{refl, sym}
 use native.Mathlib.Omega.{arith}
 use borrow.Author.Needs.{needs}
-use Rattle.file_bytes.proofs.Laws.{byteAt-past}
+use Rattle.file_bytes.proofs.ReadingSteps.{byteAt-past}
 use Rattle.file_bytes.proofs.byte_at.Statement.{statement}
 use Rattle.file_bytes.proofs.byte_at.Tie as tie
 

@@ -3,7 +3,7 @@ use Prim.Native.Nat.{_+_, _*_, _≤_}
 use native.Mathlib.Omega.{arith}
 use borrow.Author.Needs.{needs}
 use Rattle.definitions.specs.ContractFile.{functionsEnd}
-use Rattle.file_bytes.proofs.Laws.{functionsEnd-next, functionsEnd-done}
+use Rattle.file_bytes.proofs.ReadingSteps.{functionsEnd-next, functionsEnd-done}
 use Rattle.file_bytes.proofs.functions_end.Statement.{statement}
 use Rattle.file_bytes.proofs.functions_end.Tie as tie
 

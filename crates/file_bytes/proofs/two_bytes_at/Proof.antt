@@ -1,7 +1,7 @@
 use Prim.Native.Nat.{_+_}
 use native.Mathlib.Omega.{arith}
 use borrow.Author.Needs.{needs}
-use Rattle.file_bytes.proofs.Laws.{byteAt-past}
+use Rattle.file_bytes.proofs.ReadingSteps.{byteAt-past}
 use Rattle.file_bytes.proofs.two_bytes_at.Statement.{statement}
 use Rattle.file_bytes.proofs.two_bytes_at.Tie as tie
 

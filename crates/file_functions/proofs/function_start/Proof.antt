@@ -5,7 +5,7 @@ use native.Mathlib.Omega.{arith}
 use borrow.Author.Needs.{needs}
 use Rattle.definitions.specs.ContractFile.{fieldCount, functionsEnd}
 use Rattle.file_accepted.specs.Functions.{functionStart}
-use Rattle.file_bytes.proofs.Laws.{functionsEnd-next, functionsEnd-done}
+use Rattle.file_bytes.proofs.ReadingSteps.{functionsEnd-next, functionsEnd-done}
 use Rattle.file_functions.proofs.function_start.Statement.{statement}
 use Rattle.file_functions.proofs.function_start.Tie as tie
 

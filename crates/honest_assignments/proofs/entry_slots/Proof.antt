@@ -2,7 +2,7 @@ use mathlib.Core.Path.{_∙_, ap}
 use native.Mathlib.Omega.{arith}
 use Rattle.definitions.specs.Original.{position}
 use Rattle.file_accepted.specs.Context.{fieldsIn}
-use Rattle.honest_assignments.proofs.Laws.{key-ready, entry-ready, entry-wrote, put-at}
+use Rattle.honest_assignments.proofs.PrivatePlaces.{key-ready, entry-ready, entry-wrote, put-at}
 use borrow.Author.Needs.{needs}
 use Rattle.honest_assignments.proofs.entry_slots.Statement.{statement}
 use Rattle.honest_assignments.proofs.entry_slots.Tie as tie

@@ -1,4 +1,4 @@
-use Rattle.honest_assignments.proofs.Laws.{field-ready, field-wrote, put-at}
+use Rattle.honest_assignments.proofs.PrivatePlaces.{field-ready, field-wrote, put-at}
 use borrow.Author.Needs.{needs}
 use Rattle.honest_assignments.proofs.field_slots.Statement.{statement}
 use Rattle.honest_assignments.proofs.field_slots.Tie as tie

@@ -2,7 +2,7 @@ use Rattle.definitions.specs.ContractFile.{fieldAt}
 use Rattle.file_accepted.specs.Context.{fieldsIn, scopeIn}
 use Rattle.definitions.specs.Owners.{nameOf}
 use Rattle.rewrite_plans.specs.Plans.{nodeExpression}
-use Rattle.honest_assignments.proofs.Laws.{private-is}
+use Rattle.honest_assignments.proofs.PrivatePlaces.{private-is}
 use borrow.Author.Needs.{needs}
 use Rattle.honest_assignments.proofs.is_private_entry.Statement.{statement}
 use Rattle.honest_assignments.proofs.is_private_entry.Tie as tie

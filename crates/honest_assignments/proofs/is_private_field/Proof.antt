@@ -2,7 +2,7 @@ use Rattle.definitions.specs.ContractFile.{fieldAt}
 use Rattle.file_accepted.specs.Context.{fieldsIn}
 use mathlib.Core.Option.{none}
 use mathlib.Core.Path.{refl}
-use Rattle.honest_assignments.proofs.Laws.{private-is}
+use Rattle.honest_assignments.proofs.PrivatePlaces.{private-is}
 use borrow.Author.Needs.{needs}
 use Rattle.honest_assignments.proofs.is_private_field.Statement.{statement}
 use Rattle.honest_assignments.proofs.is_private_field.Tie as tie

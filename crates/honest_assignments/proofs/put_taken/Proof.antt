@@ -1,4 +1,4 @@
-use Rattle.honest_assignments.proofs.Laws.{put-done, put-left}
+use Rattle.honest_assignments.proofs.PrivatePlaces.{put-done, put-left}
 use borrow.Author.Needs.{needs}
 use Rattle.honest_assignments.proofs.put_taken.Statement.{statement}
 use Rattle.honest_assignments.proofs.put_taken.Tie as tie

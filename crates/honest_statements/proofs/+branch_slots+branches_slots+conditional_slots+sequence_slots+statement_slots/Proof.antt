@@ -4,7 +4,7 @@ use Prim.Native.Nat.{_+_, _*_}
 use borrow.Author.Needs.{needs}
 use native.Mathlib.Omega.{arith}
 use Rattle.file_accepted.proofs.Statements.{sequence-is, conditional-is, steps-below, branches-below}
-use Rattle.honest_values.proofs.Laws.{kind-as}
+use Rattle.honest_values.proofs.ValuesByKind.{kind-as}
 use Rattle.honest_statements.proofs.Putting.{space-guard, space-branch}
 use Rattle.honest_statements.proofs.Steps.{simple-as, one-space, two-space, sequence-honest, condition-room, branches-space, conditional-honest, then-space, else-space, branches-honest, branch-honest}
 use Prim.Native.Nat.{ℕ, _<_}

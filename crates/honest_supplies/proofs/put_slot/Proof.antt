@@ -1,5 +1,5 @@
 use mathlib.Core.Path.{sym}
-use Rattle.memory_buffer.proofs.Laws.{stored-one}
+use Rattle.memory_buffer.proofs.Storing.{stored-one}
 use borrow.Author.Needs.{needs}
 use Rattle.honest_supplies.proofs.put_slot.Statement.{statement}
 use Rattle.honest_supplies.proofs.put_slot.Tie as tie

@@ -4,7 +4,7 @@ use Prim.Native.Nat.{_+_, _*_}
 use borrow.Author.Needs.{needs}
 use native.Mathlib.Omega.{arith}
 use Rattle.file_accepted.proofs.Nodes.{constant-is, field-is, entry-is, parameter-is, operator-is, negation-is, reveal-is, other-is, key-below, operands-below, part-below, revealed-below}
-use Rattle.honest_values.proofs.Laws.{kind-as, constant-value, me-value, field-value, entry-value, parameter-value, operator-value, negation-value, reveal-value}
+use Rattle.honest_values.proofs.ValuesByKind.{kind-as, constant-value, me-value, field-value, entry-value, parameter-value, operator-value, negation-value, reveal-value}
 use Prim.Native.Nat.{ℕ, _<_}
 use borrow.Fn.Kinds.{In}
 use borrow.Fn.PlainCycle.{Measures, is, falls, and}

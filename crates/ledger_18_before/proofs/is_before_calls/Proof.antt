@@ -5,7 +5,7 @@ use borrow.Author.Tests.{eq-eqb, ne-eqb}
 use lib.ListN.{length}
 use borrow.Author.Needs.{needs}
 use Rattle.ledger_struct.proofs.Flat.{unmapped}
-use Rattle.ledger_18_parts.proofs.Tests.{before-is}
+use Rattle.ledger_18_parts.proofs.WellFormedParts.{before-is}
 use Rattle.ledger_18_before.proofs.is_before_calls.Statement.{statement}
 use Rattle.ledger_18_before.proofs.is_before_calls.Tie as tie
 

@@ -5,7 +5,7 @@ use native.Mathlib.Omega.{arith}
 use borrow.Author.Tests.{lt-ltb, le-ltb, le-leb, lt-leb}
 use Rattle.definitions.specs.ContractFile.{functionCount}
 use Rattle.ledger_struct.specs.Ledgers.{ledgerOf}
-use Rattle.ledger_18_parts.proofs.Tests.{call-is}
+use Rattle.ledger_18_parts.proofs.WellFormedParts.{call-is}
 use borrow.Author.Needs.{needs}
 use Rattle.ledger_18_call.proofs.is_after_call.Statement.{statement}
 use Rattle.ledger_18_call.proofs.is_after_call.Tie as tie

@@ -4,7 +4,7 @@ use native.Mathlib.Omega.{arith}
 use Rattle.ledger_struct.specs.Ledgers.{ledgerOf}
 use Rattle.ledger_18_parts.proofs.Flats.{flat-cut}
 use Rattle.ledger_18_parts.proofs.Files.{room-at, parameters-few}
-use Rattle.ledger_18_parts.proofs.Tests.{done-other, done-told, done-refused}
+use Rattle.ledger_18_parts.proofs.WellFormedParts.{done-other, done-told, done-refused}
 use borrow.Author.Needs.{needs}
 use Rattle.ledger_18_done.proofs.is_after_done.Statement.{statement}
 use Rattle.ledger_18_done.proofs.is_after_done.Tie as tie

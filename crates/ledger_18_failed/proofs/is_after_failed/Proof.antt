@@ -7,7 +7,7 @@ use Rattle.ledger_struct.specs.Ledgers.{ledgerOf}
 use Rattle.ledger_struct.proofs.Flat.{unmapped}
 use Rattle.ledger_18_parts.proofs.Flats.{flat-cut}
 use Rattle.ledger_18_parts.proofs.Files.{parameters-few}
-use Rattle.ledger_18_parts.proofs.Tests.{none-shown, failed-other, failed-shows, failed-told}
+use Rattle.ledger_18_parts.proofs.WellFormedParts.{none-shown, failed-other, failed-shows, failed-told}
 use borrow.Author.Needs.{needs}
 use Rattle.ledger_18_failed.proofs.is_after_failed.Statement.{statement}
 use Rattle.ledger_18_failed.proofs.is_after_failed.Tie as tie

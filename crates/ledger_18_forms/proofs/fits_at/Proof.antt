@@ -3,7 +3,7 @@ use mathlib.Core.Path.{ap, _∙_}
 use native.Mathlib.Omega.{arith}
 use Rattle.definitions.specs.Ledger.{fits}
 use Rattle.ledger_readers.specs.Readers.{formOf}
-use Rattle.ledger_18_forms.proofs.Laws.{found, absent}
+use Rattle.ledger_18_forms.proofs.FormSteps.{found, absent}
 use borrow.Author.Needs.{needs}
 use Rattle.ledger_18_forms.proofs.fits_at.Statement.{statement}
 use Rattle.ledger_18_forms.proofs.fits_at.Tie as tie

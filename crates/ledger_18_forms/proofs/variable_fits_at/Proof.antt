@@ -5,7 +5,7 @@ use mathlib.Core.Path.{ap, _∙_}
 use native.Mathlib.Omega.{arith}
 use Rattle.ledger_readers.specs.Readers.{formOf}
 use Rattle.ledger_18_forms.specs.Forms.{fitsOrZero}
-use Rattle.ledger_18_forms.proofs.Laws.{found, absent, zero-fits, other-fits}
+use Rattle.ledger_18_forms.proofs.FormSteps.{found, absent, zero-fits, other-fits}
 use borrow.Author.Needs.{needs}
 use Rattle.ledger_18_forms.proofs.variable_fits_at.Statement.{statement}
 use Rattle.ledger_18_forms.proofs.variable_fits_at.Tie as tie

@@ -1,5 +1,5 @@
 -- By cases of the owner.
-use Rattle.ledger_18_parameters.proofs.Laws.{hidden-public, hidden-private}
+use Rattle.ledger_18_parameters.proofs.ParameterSteps.{hidden-public, hidden-private}
 use Rattle.ledger_18_parameters.proofs.is_hidden.Statement.{statement}
 use Rattle.ledger_18_parameters.proofs.is_hidden.Tie as tie
 

@@ -1,5 +1,5 @@
 -- By cases of the owner.
-use Rattle.ledger_18_parameters.proofs.Laws.{reader-public, reader-private}
+use Rattle.ledger_18_parameters.proofs.ParameterSteps.{reader-public, reader-private}
 use Rattle.ledger_18_parameters.proofs.parameter_reader.Statement.{statement}
 use Rattle.ledger_18_parameters.proofs.parameter_reader.Tie as tie
 

@@ -10,7 +10,7 @@ use Rattle.file_accepted.proofs.Declarations.{parameters-count}
 use Rattle.file_accepted.specs.Context.{parametersIn}
 use Rattle.ledger_contents.specs.Contents.{contentsOf}
 use Rattle.ledger_18_parameters.specs.Parameters.{formsOfParameters, shownForms}
-use Rattle.ledger_18_parameters.proofs.Laws.{private-is, shown-forms, hidden-next, shown-next, shown-stops, parameters-done}
+use Rattle.ledger_18_parameters.proofs.ParameterSteps.{private-is, shown-forms, hidden-next, shown-next, shown-stops, parameters-done}
 use Rattle.ledger_18_parameters.proofs.parameters_fit.Statement.{statement}
 use Rattle.ledger_18_parameters.proofs.parameters_fit.Tie as tie
 

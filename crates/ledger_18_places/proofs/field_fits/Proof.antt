@@ -9,7 +9,7 @@ use Rattle.file_accepted.specs.Context.{fieldsIn}
 use Rattle.ledger_contents.specs.Contents.{contentsOf}
 use Rattle.ledger_18_forms.specs.Forms.{frontFits}
 use Rattle.ledger_18_places.specs.Places.{fieldForms}
-use Rattle.ledger_18_places.proofs.Laws.{keys-start, key-next, key-stops, keys-done}
+use Rattle.ledger_18_places.proofs.PlaceSteps.{keys-start, key-next, key-stops, keys-done}
 use Rattle.ledger_18_places.proofs.field_fits.Statement.{statement}
 use Rattle.ledger_18_places.proofs.field_fits.Tie as tie
 

@@ -9,9 +9,9 @@ use Rattle.definitions.specs.Original.{perPlace}
 use Rattle.definitions.specs.Ledger.{Form, fits, allFit}
 use Rattle.file_accepted.specs.Context.{fieldsIn}
 use Rattle.ledger_contents.specs.Contents.{contentsOf}
-use Rattle.ledger_places.proofs.Laws.{fields-count}
+use Rattle.ledger_places.proofs.Positions.{fields-count}
 use Rattle.ledger_18_places.specs.Places.{placeForm, formsOfPlaces}
-use Rattle.ledger_18_places.proofs.Laws.{forms-listed, field-next, field-stops, fields-done}
+use Rattle.ledger_18_places.proofs.PlaceSteps.{forms-listed, field-next, field-stops, fields-done}
 use Rattle.ledger_18_places.proofs.places_fit.Statement.{statement}
 use Rattle.ledger_18_places.proofs.places_fit.Tie as tie
 

@@ -4,7 +4,7 @@ use native.Mathlib.Omega.{arith}
 use Rattle.ledger_struct.specs.Ledgers.{ledgerOf}
 use Rattle.ledger_18_parts.proofs.Flats.{flat-cut, numbers-are, numbers-long}
 use Rattle.ledger_18_parts.proofs.Files.{fields-few}
-use Rattle.ledger_18_parts.proofs.Tests.{before-passes, after-told, places-refused}
+use Rattle.ledger_18_parts.proofs.WellFormedParts.{before-passes, after-told, places-refused}
 use borrow.Author.Needs.{needs}
 use Rattle.ledger_18_test.proofs.is_opened_well.Statement.{statement}
 use Rattle.ledger_18_test.proofs.is_opened_well.Tie as tie

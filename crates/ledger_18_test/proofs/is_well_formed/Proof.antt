@@ -5,7 +5,7 @@ use lib.ListN.{length}
 use lib.Seq.{length-take-le}
 use Rattle.ledger_struct.specs.Ledgers.{ledgerOf}
 use Rattle.ledger_struct.proofs.Flat.{take-many}
-use Rattle.ledger_18_parts.proofs.Tests.{refused}
+use Rattle.ledger_18_parts.proofs.WellFormedParts.{refused}
 use borrow.Author.Needs.{needs}
 use Rattle.ledger_18_test.proofs.is_well_formed.Statement.{statement}
 use Rattle.ledger_18_test.proofs.is_well_formed.Tie as tie

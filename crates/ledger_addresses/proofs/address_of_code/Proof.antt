@@ -1,6 +1,6 @@
 -- By the ranges of owner codes.
 use mathlib.Core.Path.{refl}
-use Rattle.ledger_addresses.proofs.Laws.{code-caller, code-low, code-final, code-between, code-parameter, code-high}
+use Rattle.ledger_addresses.proofs.AddressesByCode.{code-caller, code-low, code-final, code-between, code-parameter, code-high}
 use native.Mathlib.Omega.{arith}
 use borrow.Author.Needs.{needs}
 use Rattle.ledger_addresses.proofs.address_of_code.Statement.{statement}

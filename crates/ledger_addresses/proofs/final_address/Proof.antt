@@ -1,5 +1,5 @@
 -- A field is final by the byte of its shape.
-use Rattle.ledger_addresses.proofs.Laws.{final-held, final-not, final-missing}
+use Rattle.ledger_addresses.proofs.AddressesByCode.{final-held, final-not, final-missing}
 use mathlib.Core.Path.{sym, _∙_}
 use native.Mathlib.Omega.{arith}
 use borrow.Author.Needs.{needs}

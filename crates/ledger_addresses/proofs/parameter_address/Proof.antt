@@ -1,5 +1,5 @@
 -- A parameter is public by the byte of its owner.
-use Rattle.ledger_addresses.proofs.Laws.{parameter-held, parameter-private, parameter-absent}
+use Rattle.ledger_addresses.proofs.AddressesByCode.{parameter-held, parameter-private, parameter-absent}
 use mathlib.Core.Path.{sym, _∙_}
 use native.Mathlib.Omega.{arith}
 use borrow.Author.Needs.{needs}

@@ -1,6 +1,6 @@
 -- The loop's invariant: the codes passed have their addresses.
 use Prim.Native.Nat.{_-_}
-use Rattle.ledger_addresses.proofs.Laws.{Placed, placed-none, placed-more, placed-all}
+use Rattle.ledger_addresses.proofs.AddressesByCode.{Placed, placed-none, placed-more, placed-all}
 use mathlib.Core.Path.{sym, _∙_}
 use native.Mathlib.Omega.{arith}
 use borrow.Author.Needs.{needs}

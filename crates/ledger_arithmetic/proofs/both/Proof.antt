@@ -1,4 +1,4 @@
-use Rattle.ledger_arithmetic.proofs.Laws.{both-none, both-second}
+use Rattle.ledger_arithmetic.proofs.OperatorsByCode.{both-none, both-second}
 use borrow.Author.Needs.{needs}
 use Rattle.ledger_arithmetic.proofs.both.Statement.{statement}
 use Rattle.ledger_arithmetic.proofs.both.Tie as tie

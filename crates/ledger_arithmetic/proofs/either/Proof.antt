@@ -1,4 +1,4 @@
-use Rattle.ledger_arithmetic.proofs.Laws.{either-second, either-first}
+use Rattle.ledger_arithmetic.proofs.OperatorsByCode.{either-second, either-first}
 use borrow.Author.Needs.{needs}
 use Rattle.ledger_arithmetic.proofs.either.Statement.{statement}
 use Rattle.ledger_arithmetic.proofs.either.Tie as tie

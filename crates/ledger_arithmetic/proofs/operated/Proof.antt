@@ -1,4 +1,4 @@
-use Rattle.ledger_arithmetic.proofs.Laws.{by-code, by-other}
+use Rattle.ledger_arithmetic.proofs.OperatorsByCode.{by-code, by-other}
 use borrow.Author.Needs.{needs}
 use Rattle.ledger_arithmetic.proofs.operated.Statement.{statement}
 use Rattle.ledger_arithmetic.proofs.operated.Tie as tie

@@ -1,4 +1,4 @@
-use Rattle.ledger_arithmetic.proofs.Laws.{div-by-zero}
+use Rattle.ledger_arithmetic.proofs.OperatorsByCode.{div-by-zero}
 use borrow.Author.Needs.{needs}
 use Rattle.ledger_arithmetic.proofs.quotient.Statement.{statement}
 use Rattle.ledger_arithmetic.proofs.quotient.Tie as tie

@@ -1,4 +1,4 @@
-use Rattle.ledger_arithmetic.proofs.Laws.{rest-by-zero}
+use Rattle.ledger_arithmetic.proofs.OperatorsByCode.{rest-by-zero}
 use borrow.Author.Needs.{needs}
 use Rattle.ledger_arithmetic.proofs.rest.Statement.{statement}
 use Rattle.ledger_arithmetic.proofs.rest.Tie as tie

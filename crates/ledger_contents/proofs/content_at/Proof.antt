@@ -1,6 +1,6 @@
 -- Five numbers read make the content.
 use mathlib.Core.Path.{sym}
-use Rattle.ledger_contents.proofs.Laws.{content-plain, content-cell, content-outside}
+use Rattle.ledger_contents.proofs.FlatContents.{content-plain, content-cell, content-outside}
 use borrow.Author.Needs.{needs}
 use Rattle.ledger_contents.proofs.content_at.Statement.{statement}
 use Rattle.ledger_contents.proofs.content_at.Tie as tie

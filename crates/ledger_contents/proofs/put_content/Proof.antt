@@ -1,6 +1,6 @@
 -- Five numbers stored replace the content.
 use native.Mathlib.Omega.{arith}
-use Rattle.ledger_contents.proofs.Laws.{put-plain, put-cell, put-nothing}
+use Rattle.ledger_contents.proofs.FlatContents.{put-plain, put-cell, put-nothing}
 use borrow.Author.Needs.{needs}
 use Rattle.ledger_contents.proofs.put_content.Statement.{statement}
 use Rattle.ledger_contents.proofs.put_content.Tie as tie

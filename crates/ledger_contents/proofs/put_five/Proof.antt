@@ -1,7 +1,7 @@
 -- Five numbers are stored.
 use native.Mathlib.Omega.{arith}
 use lib.ListN.{length-set}
-use Rattle.ledger_contents.proofs.Laws.{five-set}
+use Rattle.ledger_contents.proofs.FlatContents.{five-set}
 use borrow.Author.Needs.{needs}
 use Rattle.ledger_contents.proofs.put_five.Statement.{statement}
 use Rattle.ledger_contents.proofs.put_five.Tie as tie

@@ -1,5 +1,5 @@
 use native.Mathlib.Omega.{arith}
-use Rattle.ledger_places.proofs.Laws.{one-place, many-places}
+use Rattle.ledger_places.proofs.Positions.{one-place, many-places}
 use borrow.Author.Needs.{needs}
 use Rattle.ledger_places.proofs.place_count.Statement.{statement}
 use Rattle.ledger_places.proofs.place_count.Tie as tie

@@ -6,7 +6,7 @@ use lib.ListN.{drop}
 use Rattle.definitions.specs.ContractFile.{fieldCount}
 use Rattle.definitions.specs.Original.{position}
 use Rattle.file_accepted.specs.Context.{fieldsIn}
-use Rattle.ledger_places.proofs.Laws.{position-start, position-next, position-all, position-done, fields-count}
+use Rattle.ledger_places.proofs.Positions.{position-start, position-next, position-all, position-done, fields-count}
 use Rattle.ledger_places.proofs.position.Statement.{statement}
 use Rattle.ledger_places.proofs.position.Tie as tie
 

@@ -3,7 +3,7 @@ use mathlib.Core.Path.{ap, _∙_}
 use Rattle.definitions.specs.ContractFile.{dataTypeOf, isOfType}
 use Rattle.ledger_contents.specs.Contents.{contentOfCode}
 use Rattle.ledger_readers.specs.Readers.{formOf}
-use Rattle.ledger_readers.proofs.Laws.{fits-both, fits-not}
+use Rattle.ledger_readers.proofs.ReadersByCode.{fits-both, fits-not}
 use borrow.Author.Needs.{needs}
 use Rattle.ledger_readers.proofs.fits.Statement.{statement}
 use Rattle.ledger_readers.proofs.fits.Tie as tie

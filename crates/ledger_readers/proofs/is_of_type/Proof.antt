@@ -1,6 +1,6 @@
 -- By cases of the code.
 use native.Mathlib.Omega.{arith}
-use Rattle.ledger_readers.proofs.Laws.{of-boolean, of-uint, of-address}
+use Rattle.ledger_readers.proofs.ReadersByCode.{of-boolean, of-uint, of-address}
 use Rattle.ledger_readers.proofs.is_of_type.Statement.{statement}
 use Rattle.ledger_readers.proofs.is_of_type.Tie as tie
 

@@ -4,7 +4,7 @@ use Prim.Native.Nat.{ℕ}
 use lib.ListN.{getD}
 use Rattle.definitions.specs.Original.{finalAddress, position}
 use Rattle.file_accepted.specs.Context.{fieldsIn}
-use Rattle.ledger_readers.proofs.Laws.{reader-all, reader-key, reader-final}
+use Rattle.ledger_readers.proofs.ReadersByCode.{reader-all, reader-key, reader-final}
 use borrow.Author.Needs.{needs}
 use Rattle.ledger_readers.proofs.place_reader.Statement.{statement}
 use Rattle.ledger_readers.proofs.place_reader.Tie as tie

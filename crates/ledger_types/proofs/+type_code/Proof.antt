@@ -2,7 +2,7 @@
 use borrow.Author.Needs.{needs}
 use native.Mathlib.Omega.{arith}
 use Rattle.file_accepted.proofs.Nodes.{constant-is, field-is, entry-is, parameter-is, operator-is, negation-is, reveal-is, other-is, revealed-below}
-use Rattle.ledger_types.proofs.Laws.{constant-typed, me-typed, place-typed, entry-typed, argument-typed, operator-typed, negation-typed, reveal-typed}
+use Rattle.ledger_types.proofs.TypesByKind.{constant-typed, me-typed, place-typed, entry-typed, argument-typed, operator-typed, negation-typed, reveal-typed}
 use Prim.Native.Nat.{ℕ, _<_}
 use borrow.Fn.Kinds.{In}
 use borrow.Fn.PlainCycle.{Measures, is, falls, and}

@@ -1,5 +1,5 @@
 use native.Mathlib.Omega.{arith}
-use Rattle.ledger_types.proofs.Laws.{field-typed, field-untyped}
+use Rattle.ledger_types.proofs.TypesByKind.{field-typed, field-untyped}
 use borrow.Author.Needs.{needs}
 use Rattle.ledger_types.proofs.field_type.Statement.{statement}
 use Rattle.ledger_types.proofs.field_type.Tie as tie

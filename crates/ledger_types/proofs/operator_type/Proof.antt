@@ -1,5 +1,5 @@
 use native.Mathlib.Omega.{arith}
-use Rattle.ledger_types.proofs.Laws.{uint-operator, bool-operator, other-operator}
+use Rattle.ledger_types.proofs.TypesByKind.{uint-operator, bool-operator, other-operator}
 use Rattle.ledger_types.proofs.operator_type.Statement.{statement}
 use Rattle.ledger_types.proofs.operator_type.Tie as tie
 

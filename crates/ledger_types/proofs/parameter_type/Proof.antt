@@ -1,5 +1,5 @@
 use native.Mathlib.Omega.{arith}
-use Rattle.ledger_types.proofs.Laws.{parameter-typed, parameter-untyped}
+use Rattle.ledger_types.proofs.TypesByKind.{parameter-typed, parameter-untyped}
 use borrow.Author.Needs.{needs}
 use Rattle.ledger_types.proofs.parameter_type.Statement.{statement}
 use Rattle.ledger_types.proofs.parameter_type.Tie as tie

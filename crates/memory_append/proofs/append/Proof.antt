@@ -5,7 +5,7 @@ use native.Mathlib.Omega.{arith}
 use lib.ListN.{length, take}
 use borrow.Author.Needs.{needs}
 use Rattle.memory_buffer.specs.Buffer.{stored}
-use Rattle.memory_append.proofs.Laws.{copied-start, copied-next, copied-all}
+use Rattle.memory_append.proofs.Appending.{copied-start, copied-next, copied-all}
 use Rattle.memory_append.proofs.append.Statement.{statement}
 use Rattle.memory_append.proofs.append.Tie as tie
 

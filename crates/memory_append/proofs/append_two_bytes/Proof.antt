@@ -1,5 +1,5 @@
 -- Two bytes, one behind the other.
-use Rattle.memory_append.proofs.Laws.{appended-then}
+use Rattle.memory_append.proofs.Appending.{appended-then}
 use native.Mathlib.Omega.{arith}
 use borrow.Author.Needs.{needs}
 use Rattle.memory_append.proofs.append_two_bytes.Statement.{statement}

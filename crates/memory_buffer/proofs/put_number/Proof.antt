@@ -1,6 +1,6 @@
 -- One value is stored.
 use mathlib.Core.Path.{sym}
-use Rattle.memory_buffer.proofs.Laws.{stored-one}
+use Rattle.memory_buffer.proofs.Storing.{stored-one}
 use borrow.Author.Needs.{needs}
 use Rattle.memory_buffer.proofs.put_number.Statement.{statement}
 use Rattle.memory_buffer.proofs.put_number.Tie as tie

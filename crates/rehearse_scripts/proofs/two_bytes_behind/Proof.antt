@@ -1,7 +1,7 @@
 -- Two bytes past the end read as 0.
 use native.Mathlib.Omega.{arith}
 use Prim.Native.Nat.{_+_}
-use Rattle.file_bytes.proofs.Laws.{byteAt-past}
+use Rattle.file_bytes.proofs.ReadingSteps.{byteAt-past}
 use borrow.Author.Needs.{needs}
 use Rattle.rehearse_scripts.proofs.two_bytes_behind.Statement.{statement}
 use Rattle.rehearse_scripts.proofs.two_bytes_behind.Tie as tie

@@ -1,6 +1,6 @@
 -- A space, then the digits.
 use native.Mathlib.Omega.{arith}
-use Rattle.memory_append.proofs.Laws.{appended-then}
+use Rattle.memory_append.proofs.Appending.{appended-then}
 use borrow.Author.Needs.{needs}
 use Rattle.report_text.proofs.append_count.Statement.{statement}
 use Rattle.report_text.proofs.append_count.Tie as tie

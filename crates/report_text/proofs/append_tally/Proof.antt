@@ -1,7 +1,7 @@
 -- The number, the count and the line's end.
 use mathlib.Core.List.{[], _∷_}
 use Rattle.definitions.specs.Report.{decimal}
-use Rattle.memory_append.proofs.Laws.{first-room, second-room, third-room, three-appended}
+use Rattle.memory_append.proofs.Appending.{first-room, second-room, third-room, three-appended}
 use Rattle.report_text.specs.Lines.{spacedCount}
 use borrow.Author.Needs.{needs}
 use Rattle.report_text.proofs.append_tally.Statement.{statement}

@@ -3,7 +3,7 @@ use mathlib.Core.List.{List, [], _∷_}
 use Prim.Native.Nat.{ℕ}
 use native.Mathlib.Omega.{arith}
 use Rattle.definitions.specs.Report.{decimal}
-use Rattle.memory_append.proofs.Laws.{second-room, third-room, three-appended}
+use Rattle.memory_append.proofs.Appending.{second-room, third-room, three-appended}
 use borrow.Author.Needs.{needs}
 use Rattle.report_text.proofs.refused_line.Statement.{statement}
 use Rattle.report_text.proofs.refused_line.Tie as tie

@@ -1,6 +1,6 @@
 -- Five numbers are stored one after another.
 use native.Mathlib.Omega.{arith}
-use Rattle.rewrite_log.proofs.Laws.{five-stored}
+use Rattle.rewrite_log.proofs.FiveNumbers.{five-stored}
 use borrow.Author.Needs.{needs}
 use Rattle.rewrite_log.proofs.put_entry.Statement.{statement}
 use Rattle.rewrite_log.proofs.put_entry.Tie as tie

@@ -1,5 +1,5 @@
 -- A public division is read.
-use Rattle.rewrite_plans.proofs.Laws.{division-read, division-not, division-private}
+use Rattle.rewrite_plans.proofs.PlansByKind.{division-read, division-not, division-private}
 use borrow.Author.Needs.{needs}
 use Rattle.rewrite_plans.proofs.division_code.Statement.{statement}
 use Rattle.rewrite_plans.proofs.division_code.Tie as tie

@@ -1,5 +1,5 @@
 -- By the node's kind.
-use Rattle.rewrite_plans.proofs.Laws.{parts-entry, parts-operator, parts-negation, parts-reveal, parts-rest}
+use Rattle.rewrite_plans.proofs.PlansByKind.{parts-entry, parts-operator, parts-negation, parts-reveal, parts-rest}
 use borrow.Author.Needs.{needs}
 use Rattle.rewrite_plans.proofs.parts_of.Statement.{statement}
 use Rattle.rewrite_plans.proofs.parts_of.Tie as tie

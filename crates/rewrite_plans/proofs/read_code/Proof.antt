@@ -1,5 +1,5 @@
 -- By the node's kind.
-use Rattle.rewrite_plans.proofs.Laws.{read-place, read-operator, read-rest, read-field, read-entry, read-parameter}
+use Rattle.rewrite_plans.proofs.PlansByKind.{read-place, read-operator, read-rest, read-field, read-entry, read-parameter}
 use Rattle.file_accepted.proofs.Nodes.{operator-is}
 use native.Mathlib.Omega.{arith}
 use borrow.Author.Needs.{needs}

@@ -1,5 +1,5 @@
 -- By the node's kind.
-use Rattle.rewrite_plans.proofs.Laws.{supplied-operator, supplied-negation, supplied-reveal, supplied-rest}
+use Rattle.rewrite_plans.proofs.PlansByKind.{supplied-operator, supplied-negation, supplied-reveal, supplied-rest}
 use Rattle.file_accepted.proofs.Nodes.{operator-is, negation-is, reveal-is}
 use native.Mathlib.Omega.{arith}
 use borrow.Author.Needs.{needs}

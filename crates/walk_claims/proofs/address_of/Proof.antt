@@ -1,4 +1,4 @@
-use Rattle.walk_contents.proofs.Laws.{me-address, low-address, final-address, middle-address, high-address}
+use Rattle.walk_contents.proofs.ConstraintParts.{me-address, low-address, final-address, middle-address, high-address}
 use borrow.Author.Needs.{needs}
 use Rattle.walk_claims.proofs.address_of.Statement.{statement}
 use Rattle.walk_claims.proofs.address_of.Tie as tie

@@ -1,5 +1,5 @@
 use Rattle.write_trees.specs.Table.{tableOf}
-use Rattle.walk_contents.proofs.Laws.{opens-claim, equals-claim}
+use Rattle.walk_contents.proofs.ConstraintParts.{opens-claim, equals-claim}
 use borrow.Author.Needs.{needs}
 use Rattle.walk_claims.proofs.claim_holds.Statement.{statement}
 use Rattle.walk_claims.proofs.claim_holds.Tie as tie

@@ -1,4 +1,4 @@
-use Rattle.walk_contents.proofs.Laws.{public-equals, owned-equals}
+use Rattle.walk_contents.proofs.ConstraintParts.{public-equals, owned-equals}
 use borrow.Author.Needs.{needs}
 use Rattle.walk_claims.proofs.equals_value.Statement.{statement}
 use Rattle.walk_claims.proofs.equals_value.Tie as tie

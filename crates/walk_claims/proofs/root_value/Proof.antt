@@ -1,4 +1,4 @@
-use Rattle.walk_contents.proofs.Laws.{past-value}
+use Rattle.walk_contents.proofs.ConstraintParts.{past-value}
 use borrow.Author.Needs.{needs}
 use Rattle.walk_claims.proofs.root_value.Statement.{statement}
 use Rattle.walk_claims.proofs.root_value.Tie as tie

@@ -1,6 +1,6 @@
 use native.Mathlib.Omega.{arith}
 use Prim.Native.Nat.{_+_}
-use Rattle.walk_contents.proofs.Laws.{set-holds, unset-holds}
+use Rattle.walk_contents.proofs.ConstraintParts.{set-holds, unset-holds}
 use borrow.Author.Needs.{needs}
 use Rattle.walk_constraints.proofs.constraint_holds.Statement.{statement}
 use Rattle.walk_constraints.proofs.constraint_holds.Tie as tie

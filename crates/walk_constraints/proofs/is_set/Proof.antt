@@ -1,5 +1,5 @@
 use mathlib.Core.Path.{refl}
-use Rattle.walk_contents.proofs.Laws.{always-set, guard-set}
+use Rattle.walk_contents.proofs.ConstraintParts.{always-set, guard-set}
 use borrow.Author.Needs.{needs}
 use Rattle.walk_constraints.proofs.is_set.Statement.{statement}
 use Rattle.walk_constraints.proofs.is_set.Tie as tie

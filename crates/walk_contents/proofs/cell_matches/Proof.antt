@@ -1,5 +1,5 @@
 use mathlib.Core.Path.{refl}
-use Rattle.walk_contents.proofs.Laws.{cell-same, cell-differs}
+use Rattle.walk_contents.proofs.ConstraintParts.{cell-same, cell-differs}
 use borrow.Author.Needs.{needs}
 use Rattle.walk_contents.proofs.cell_matches.Statement.{statement}
 use Rattle.walk_contents.proofs.cell_matches.Tie as tie

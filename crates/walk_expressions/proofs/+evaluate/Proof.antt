@@ -3,7 +3,7 @@ use borrow.Author.Needs.{needs}
 use native.Mathlib.Omega.{arith}
 use Rattle.write_trees.proofs.Read.{read-here}
 use Rattle.write_trees.proofs.ByKind.{body-constant, body-field, body-entry, body-parameter, body-operator, body-negation, body-variable, body-rest, one-falls, two-fall, form-entry, form-operator, form-negation}
-use Rattle.walk_expressions.proofs.Laws.{constant-gives, me-gives, field-gives, entry-gives, parameter-gives, variable-gives, operator-gives, negation-gives}
+use Rattle.walk_expressions.proofs.ExpressionsByKind.{constant-gives, me-gives, field-gives, entry-gives, parameter-gives, variable-gives, operator-gives, negation-gives}
 use Prim.Native.Nat.{ℕ, _<_}
 use borrow.Fn.Kinds.{In}
 use borrow.Fn.PlainCycle.{Measures, is, falls, and}

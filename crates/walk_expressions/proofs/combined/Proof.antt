@@ -1,4 +1,4 @@
-use Rattle.walk_expressions.proofs.Laws.{combined-walked, combined-number}
+use Rattle.walk_expressions.proofs.ExpressionsByKind.{combined-walked, combined-number}
 use borrow.Author.Needs.{needs}
 use Rattle.walk_expressions.proofs.combined.Statement.{statement}
 use Rattle.walk_expressions.proofs.combined.Tie as tie

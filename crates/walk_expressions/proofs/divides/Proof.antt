@@ -1,4 +1,4 @@
-use Rattle.walk_expressions.proofs.Laws.{fails-divide, fails-remainder, works-other, works-divisor}
+use Rattle.walk_expressions.proofs.ExpressionsByKind.{fails-divide, fails-remainder, works-other, works-divisor}
 use Rattle.walk_expressions.proofs.divides.Statement.{statement}
 use Rattle.walk_expressions.proofs.divides.Tie as tie
 

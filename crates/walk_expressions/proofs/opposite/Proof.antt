@@ -1,5 +1,5 @@
 use mathlib.Core.Path.{refl}
-use Rattle.walk_expressions.proofs.Laws.{opposite-number}
+use Rattle.walk_expressions.proofs.ExpressionsByKind.{opposite-number}
 use borrow.Author.Needs.{needs}
 use Rattle.walk_expressions.proofs.opposite.Statement.{statement}
 use Rattle.walk_expressions.proofs.opposite.Tie as tie

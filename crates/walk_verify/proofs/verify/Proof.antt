@@ -7,7 +7,7 @@ use borrow.Author.Tests.{not-true, not-false}
 use lib.ListN.{length}
 use Rattle.write_trees.specs.Table.{tableOf}
 use Rattle.ledger_circuits.specs.Circuits.{allHold, constraintsAt, constraintsFrom}
-use Rattle.walk_contents.proofs.Laws.{next-holds, one-fails, none-left, all-from-start}
+use Rattle.walk_contents.proofs.ConstraintParts.{next-holds, one-fails, none-left, all-from-start}
 use Rattle.walk_verify.proofs.verify.Statement.{statement}
 use Rattle.walk_verify.proofs.verify.Tie as tie
 

@@ -4,7 +4,7 @@ use Prim.Native.Nat.{_+_, _*_}
 use native.Mathlib.Omega.{arith}
 use Rattle.theory_laws.proofs.Records.{kind-as}
 use Rattle.file_accepted.proofs.Nodes.{key-below, operands-below, part-below}
-use Rattle.write_nodes.proofs.Laws.{room-as, room-any, room-one, room-left, room-right, room-above-one, room-above-two, numbered-as, numbered-leaf, numbered-one, numbered-two}
+use Rattle.write_nodes.proofs.TreeNodes.{room-as, room-any, room-one, room-left, room-right, room-above-one, room-above-two, numbered-as, numbered-leaf, numbered-one, numbered-two}
 use Rattle.write_body_expressions.proofs.BodyNodes.{constant-body, field-body, entry-body, parameter-body, reveal-body, other-body, entry-count, operator-body, operator-count, supplied-operator-body, negation-body, negation-count, supplied-negation-body}
 use Prim.Native.Nat.{ℕ, _<_}
 use borrow.Fn.Kinds.{In}

@@ -4,7 +4,7 @@ use Prim.Native.Nat.{_+_, _*_}
 use native.Mathlib.Omega.{arith}
 use Rattle.theory_laws.proofs.Records.{kind-as}
 use Rattle.file_accepted.proofs.Nodes.{key-below, operands-below, part-below, revealed-below}
-use Rattle.write_nodes.proofs.Laws.{room-as, room-any, room-one, room-left, room-right, room-above-one, room-above-two, numbered-as, numbered-leaf, numbered-one, numbered-two}
+use Rattle.write_nodes.proofs.TreeNodes.{room-as, room-any, room-one, room-left, room-right, room-above-one, room-above-two, numbered-as, numbered-leaf, numbered-one, numbered-two}
 use Rattle.write_circuit_expressions.proofs.CircuitNodes.{constant-circuit, field-circuit, entry-circuit, parameter-circuit, division-circuit, operator-circuit, negation-circuit, reveal-circuit, other-circuit, entry-variables, division-variables, operator-variables, negation-variables, reveal-variables}
 use Prim.Native.Nat.{ℕ, _<_}
 use borrow.Fn.Kinds.{In}

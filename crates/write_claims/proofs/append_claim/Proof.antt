@@ -1,5 +1,5 @@
 -- Three numbers of two bytes, one behind another.
-use Rattle.memory_append.proofs.Laws.{three-appended}
+use Rattle.memory_append.proofs.Appending.{three-appended}
 use borrow.Author.Needs.{needs}
 use Rattle.write_claims.proofs.append_claim.Statement.{statement}
 use Rattle.write_claims.proofs.append_claim.Tie as tie

@@ -3,7 +3,7 @@ use mathlib.Core.Path.{_≡_, refl, _∙_}
 use Prim.Native.Nat.{_+_, _*_}
 use native.Mathlib.Omega.{arith}
 use lib.ListN.{length}
-use Rattle.memory_append.proofs.Laws.{appending-start}
+use Rattle.memory_append.proofs.Appending.{appending-start}
 use Rattle.write_claims.proofs.Sixes.{SixesLeft, six-room, six-appended, sixes-done}
 use Rattle.write_claims.proofs.append_claims.Statement.{statement}
 use Rattle.write_claims.proofs.append_claims.Tie as tie

@@ -2,7 +2,7 @@
 use mathlib.Core.Path.{ap, sym, _∙_}
 use native.Mathlib.Omega.{arith}
 use lib.ListN.{length}
-use Rattle.memory_buffer.proofs.Laws.{front-stored}
+use Rattle.memory_buffer.proofs.Storing.{front-stored}
 use Rattle.write_output.proofs.Answers.{accepted-parts}
 use Rattle.write_parts.proofs.Parts.{parts-fit, parts-make, nodes-long}
 use borrow.Author.Needs.{needs}

@@ -1,7 +1,7 @@
 -- The count, and the fields behind it.
 use mathlib.Core.Path.{sym, subst}
 use native.Mathlib.Omega.{arith}
-use Rattle.memory_append.proofs.Laws.{appended-length}
+use Rattle.memory_append.proofs.Appending.{appended-length}
 use Rattle.write_fields.specs.Fields.{FieldsListed}
 use Rattle.write_fields.proofs.Fields.{section-appended}
 use borrow.Author.Needs.{needs}

@@ -5,7 +5,7 @@ use native.Mathlib.Omega.{arith}
 use lib.ListN.{length}
 use borrow.Author.Needs.{needs}
 use Rattle.memory_append.specs.Append.{Appending}
-use Rattle.memory_append.proofs.Laws.{appending-start}
+use Rattle.memory_append.proofs.Appending.{appending-start}
 use Rattle.write_fields.specs.Fields.{fieldsFrom}
 use Rattle.write_fields.proofs.Fields.{field-listed, fields-room, fields-appended, fields-done}
 use Rattle.write_fields.proofs.append_fields.Statement.{statement}

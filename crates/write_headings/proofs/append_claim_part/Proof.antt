@@ -3,7 +3,7 @@ use Prim.Native.Nat.{_+_}
 use Rattle.definitions.specs.Basics.{twoBytes}
 use Rattle.write_variables.specs.PerEntry.{countTag}
 use Rattle.write_parameters.specs.Parameters.{openingClaims}
-use Rattle.memory_append.proofs.Laws.{second-room, third-room, three-appended}
+use Rattle.memory_append.proofs.Appending.{second-room, third-room, three-appended}
 use Rattle.write_headings.proofs.Parts.{counted}
 use borrow.Author.Needs.{needs}
 use Rattle.write_headings.proofs.append_claim_part.Statement.{statement}

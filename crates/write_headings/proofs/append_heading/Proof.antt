@@ -1,6 +1,6 @@
 -- Five parts, one behind the other.
 use Rattle.definitions.specs.Basics.{twoBytes}
-use Rattle.memory_append.proofs.Laws.{one-of-five, two-of-five, three-of-five, four-of-five, five-of-five, five-appended}
+use Rattle.memory_append.proofs.Appending.{one-of-five, two-of-five, three-of-five, four-of-five, five-of-five, five-appended}
 use Rattle.write_headings.specs.Parts.{parameterPart, variablePart, keyPart, claimPart}
 use Rattle.write_headings.proofs.Parts.{parts-fit, variables-fit, constraints-fit, heading-appended}
 use borrow.Author.Needs.{needs}

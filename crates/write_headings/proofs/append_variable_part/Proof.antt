@@ -4,7 +4,7 @@ use Rattle.definitions.specs.Basics.{twoBytes}
 use Rattle.write_variables.specs.PerEntry.{perEntry}
 use Rattle.write_variables.specs.Variables.{variableOf}
 use Rattle.write_parameters.specs.Parameters.{openingVariables}
-use Rattle.memory_append.proofs.Laws.{second-room, third-room, three-appended}
+use Rattle.memory_append.proofs.Appending.{second-room, third-room, three-appended}
 use borrow.Author.Needs.{needs}
 use Rattle.write_headings.proofs.append_variable_part.Statement.{statement}
 use Rattle.write_headings.proofs.append_variable_part.Tie as tie

@@ -1,5 +1,5 @@
 use native.Mathlib.Omega.{arith}
-use Rattle.memory_append.proofs.Laws.{appended-then}
+use Rattle.memory_append.proofs.Appending.{appended-then}
 use borrow.Author.Needs.{needs}
 use Rattle.write_nodes.proofs.put_node.Statement.{statement}
 use Rattle.write_nodes.proofs.put_node.Tie as tie

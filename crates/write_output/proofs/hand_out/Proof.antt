@@ -1,6 +1,6 @@
 use Rattle.definitions.specs.Basics.{twoBytes}
 -- Three runs stand one behind another where they fit.
-use Rattle.memory_append.proofs.Laws.{three-appended}
+use Rattle.memory_append.proofs.Appending.{three-appended}
 use Rattle.write_output.proofs.Answers.{too-short, stands, three-long, room-left, total-long}
 use borrow.Author.Needs.{needs}
 use Rattle.write_output.proofs.hand_out.Statement.{statement}

@@ -1,6 +1,6 @@
 -- Guard, variable and root.
 use Rattle.definitions.specs.Basics.{twoBytes}
-use Rattle.memory_append.proofs.Laws.{three-appended}
+use Rattle.memory_append.proofs.Appending.{three-appended}
 use borrow.Author.Needs.{needs}
 use Rattle.write_parameters.proofs.append_opening_claim.Statement.{statement}
 use Rattle.write_parameters.proofs.append_opening_claim.Tie as tie

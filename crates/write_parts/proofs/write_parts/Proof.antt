@@ -1,6 +1,6 @@
 -- The fields, the count of functions, and the functions stand one behind another.
 use native.Mathlib.Omega.{arith}
-use Rattle.memory_append.proofs.Laws.{appended-length}
+use Rattle.memory_append.proofs.Appending.{appended-length}
 use Rattle.write_fields.proofs.Fields.{section-length}
 use Rattle.write_fields.proofs.Accepted.{accepted-fields}
 use Rattle.write_parts.proofs.Parts.{first-start, parts-put}

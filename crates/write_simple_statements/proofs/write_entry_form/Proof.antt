@@ -2,7 +2,7 @@ use mathlib.Core.Path.{sym, _∙_}
 use native.Mathlib.Omega.{arith}
 use Rattle.theory_laws.proofs.Records.{kind-as}
 use Rattle.file_accepted.proofs.Statements.{key-and-value-below}
-use Rattle.write_nodes.proofs.Laws.{room-as, room-left, room-right, room-above-two, numbered-as, numbered-two}
+use Rattle.write_nodes.proofs.TreeNodes.{room-as, room-left, room-right, room-above-two, numbered-as, numbered-two}
 use Rattle.write_simple_statements.proofs.Nodes.{entry-form, entry-count}
 use Rattle.write_simple_statements.proofs.write_entry_form.Statement.{statement}
 use Rattle.write_simple_statements.proofs.write_entry_form.Tie as tie

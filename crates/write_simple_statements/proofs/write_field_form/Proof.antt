@@ -2,7 +2,7 @@ use mathlib.Core.Path.{sym, _∙_}
 use native.Mathlib.Omega.{arith}
 use Rattle.theory_laws.proofs.Records.{kind-as}
 use Rattle.file_accepted.proofs.Statements.{value-below}
-use Rattle.write_nodes.proofs.Laws.{room-as, room-one, room-above-one, numbered-as, numbered-one}
+use Rattle.write_nodes.proofs.TreeNodes.{room-as, room-one, room-above-one, numbered-as, numbered-one}
 use Rattle.write_simple_statements.proofs.Nodes.{field-form, field-count}
 use Rattle.write_simple_statements.proofs.write_field_form.Statement.{statement}
 use Rattle.write_simple_statements.proofs.write_field_form.Tie as tie

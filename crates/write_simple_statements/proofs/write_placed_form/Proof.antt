@@ -1,6 +1,6 @@
 use mathlib.Core.Path.{refl}
 use native.Mathlib.Omega.{arith}
-use Rattle.write_nodes.proofs.Laws.{room-as, room-any, numbered-as, numbered-leaf}
+use Rattle.write_nodes.proofs.TreeNodes.{room-as, room-any, numbered-as, numbered-leaf}
 use Rattle.write_simple_statements.proofs.Places.{placed-supplied, placed-private, counted-private}
 use Rattle.write_simple_statements.proofs.write_placed_form.Statement.{statement}
 use Rattle.write_simple_statements.proofs.write_placed_form.Tie as tie

@@ -1,7 +1,7 @@
 use native.Mathlib.Omega.{arith}
 use Rattle.theory_laws.proofs.Records.{kind-as}
 use Rattle.file_accepted.proofs.Statements.{sequence-is, conditional-is, still-is}
-use Rattle.write_nodes.proofs.Laws.{room-any, numbered-as, numbered-leaf}
+use Rattle.write_nodes.proofs.TreeNodes.{room-any, numbered-as, numbered-leaf}
 use Rattle.write_simple_statements.proofs.Statements.{form-of-sequence, form-of-conditional, form-of-skip}
 use Rattle.write_simple_statements.proofs.write_statement_form.Statement.{statement}
 use Rattle.write_simple_statements.proofs.write_statement_form.Tie as tie

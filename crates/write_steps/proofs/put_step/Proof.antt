@@ -1,5 +1,5 @@
 use mathlib.Core.Path.{_∙_}
-use Rattle.write_nodes.proofs.Laws.{numbered-as}
+use Rattle.write_nodes.proofs.TreeNodes.{numbered-as}
 use Rattle.write_nodes.proofs.Parents.{room-value, room-setting, numbered-setting}
 use mathlib.Core.Path.{refl}
 use Rattle.write_steps.proofs.put_step.Statement.{statement}

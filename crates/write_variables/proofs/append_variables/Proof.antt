@@ -5,7 +5,7 @@ use native.Mathlib.Omega.{arith}
 use lib.ListN.{length, drop}
 use borrow.Author.Needs.{needs}
 use Rattle.memory_append.specs.Append.{Appending}
-use Rattle.memory_append.proofs.Laws.{appending-start}
+use Rattle.memory_append.proofs.Appending.{appending-start}
 use Rattle.write_variables.specs.PerEntry.{perEntry}
 use Rattle.write_variables.specs.Variables.{variableOf}
 use Rattle.write_variables.proofs.PerEntry.{entry-room, entry-appended, entries-appended}

@@ -9,7 +9,7 @@ use Rattle.definitions.specs.ContractFile.{NodeRecord, node}
 use Rattle.definitions.specs.Rewriting.{Tree, leaf, oneChild, twoChildren, threeChildren, setting, size, numbered, numberedAll, nodeBytes}
 use Rattle.theory_laws.proofs.Written.{nodes-length, numbered-length}
 use Rattle.memory_buffer.specs.Buffer.{stored}
-use Rattle.memory_buffer.proofs.Laws.{stored-length, stored-then}
+use Rattle.memory_buffer.proofs.Storing.{stored-length, stored-then}
 use Rattle.write_nodes.specs.Numbering.{treeBytes, Room, Numbered}
 
 pub nodes-append : (rs qs : List NodeRecord) → flatMap nodeBytes (rs ++ qs) ≡ flatMap nodeBytes rs ++ flatMap nodeBytes qs

@@ -14,11 +14,11 @@ use Rattle.definitions.specs.Ledger.{Content, Form, fits, allFit, publicOf, par
 use Rattle.file_accepted.specs.Context.{parametersIn}
 use Rattle.file_accepted.proofs.Declarations.{parameter-declared}
 use Rattle.ledger_contents.specs.Contents.{contentsOf}
-use Rattle.ledger_contents.proofs.Laws.{length-contentsOf}
+use Rattle.ledger_contents.proofs.FlatContents.{length-contentsOf}
 use Rattle.ledger_readers.specs.declared.Reader.{Reader}
 use Rattle.ledger_readers.specs.Readers.{readerOfCode, formOf}
 use Rattle.ledger_18_forms.specs.Forms.{fitsAt}
-use Rattle.ledger_18_forms.proofs.Laws.{all-none, all-next, all-stops}
+use Rattle.ledger_18_forms.proofs.FormSteps.{all-none, all-next, all-stops}
 use Rattle.ledger_18_parameters.specs.Parameters.{formsOfParameters, shownForms}
 
 pub hidden-public : (owner : ℕ) (all : Bool) → owner ≡ 0 → false ≡ (not (eqb owner 0) && not all)

@@ -14,11 +14,11 @@ use Rattle.definitions.specs.Original.{numbersFrom, placeCount, perPlace, place
 use Rattle.definitions.specs.Ledger.{Content, Form, fits, allFit}
 use Rattle.theory_laws.proofs.Lists.{numbers-length}
 use Rattle.ledger_contents.specs.Contents.{contentsOf}
-use Rattle.ledger_contents.proofs.Laws.{length-contentsOf}
+use Rattle.ledger_contents.proofs.FlatContents.{length-contentsOf}
 use Rattle.ledger_readers.specs.declared.Reader.{Reader}
 use Rattle.ledger_readers.specs.Readers.{readerOfCode, formOf}
 use Rattle.ledger_18_forms.specs.Forms.{fitsAt, frontFits}
-use Rattle.ledger_18_forms.proofs.Laws.{all-front, all-none, front-next, front-stops, front-none}
+use Rattle.ledger_18_forms.proofs.FormSteps.{all-front, all-none, front-next, front-stops, front-none}
 use Rattle.ledger_18_places.specs.Places.{placeForm, fieldForms, formsOfPlaces}
 
 -- Types and readers, each listed by place, are forms listed by place.

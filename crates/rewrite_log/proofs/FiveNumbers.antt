@@ -6,7 +6,7 @@ use native.Mathlib.Omega.{arith}
 use lib.ListN.{length, length-append}
 use Rattle.definitions.specs.ContractFile.{Node}
 use Rattle.memory_buffer.specs.Buffer.{stored}
-use Rattle.memory_buffer.proofs.Laws.{stored-length, stored-nothing, stored-then}
+use Rattle.memory_buffer.proofs.Storing.{stored-length, stored-nothing, stored-then}
 use Rattle.rewrite_events.specs.Events.{Event, variablesOf, variableCount}
 use Rattle.rewrite_events.proofs.Appended.{variables-append}
 use Rattle.rewrite_log.specs.declared.Position.{Position}

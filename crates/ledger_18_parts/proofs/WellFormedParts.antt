@@ -24,7 +24,7 @@ use Rattle.ledger_18_parameters.specs.Parameters.{formsOfParameters}
 use Rattle.ledger_18_places.specs.Places.{formsOfPlaces}
 use Rattle.ledger_18_variable.specs.Variables.{variableForm}
 use Rattle.write_function_room.specs.Functions.{functionIn, writtenIn}
-use Rattle.ledger_18_parts.specs.Tests.{Accepted, Opened}
+use Rattle.ledger_18_parts.specs.HandedOn.{Accepted, Opened}
 
 -- No contents are shown where their count is 0.
 pub none-shown : (count : ℕ) (places : List Place) → 0 < length places → allFit fits [] (contentsIn count places) ≡ eqb count 0

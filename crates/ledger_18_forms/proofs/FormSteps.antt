@@ -11,7 +11,7 @@ use lib.ListN.{length, drop, drop-of-length-le}
 use lib.Seq.{drop-cons}
 use Rattle.definitions.specs.Ledger.{Content, plain, contentAt, Form, fits, isPlainZero, allFit}
 use Rattle.ledger_contents.specs.Contents.{contentsOf}
-use Rattle.ledger_contents.proofs.Laws.{length-contentsOf}
+use Rattle.ledger_contents.proofs.FlatContents.{length-contentsOf}
 use Rattle.ledger_18_forms.specs.Forms.{fitsOrZero, fitsAt, frontFits}
 
 pub and-assoc : (a b c : Bool) → (a && b) && c ≡ (a && (b && c))

@@ -14,7 +14,7 @@ use Rattle.definitions.specs.Original.{finalAddress, position}
 use Rattle.theory_laws.proofs.Codes.{not-final}
 use Rattle.file_accepted.specs.Context.{fieldsIn, scopeIn}
 use Rattle.file_accepted.proofs.Declarations.{field-declared, field-missing, parameter-declared, parameter-missing}
-use Rattle.ledger_places.proofs.Laws.{fields-count}
+use Rattle.ledger_places.proofs.Positions.{fields-count}
 use Rattle.ledger_circuits.proofs.Addresses.{addresses-are}
 use Rattle.ledger_addresses.specs.Addresses.{named, addressOfCode, FewNames, Addressed}
 

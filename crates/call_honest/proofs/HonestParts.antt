@@ -8,7 +8,7 @@ use Rattle.definitions.specs.ContractFile.{Function, byteAt, functionCount, nod
 use Rattle.definitions.specs.Numbers.{checkNumber}
 use Rattle.definitions.specs.Original.{addressIn}
 use Rattle.definitions.specs.Ledger.{Content, Ledger, openedNumber, callWith, honestParameters, honestParametersOf, honestVariablesOf}
-use Rattle.memory_buffer.proofs.Laws.{front-stored}
+use Rattle.memory_buffer.proofs.Storing.{front-stored}
 use Rattle.file_accepted.proofs.Declarations.{parameters-count}
 use Rattle.theory_typing.proofs.WellFormed.{ledger-accepted}
 use Rattle.theory_typing.proofs.CallEnvironment.{calls-left, call-well-formed, function-exists, argument-count}

@@ -8,7 +8,7 @@ use native.Mathlib.Omega.{arith}
 use lib.ListN.{length, getD, take, drop, length-append}
 use lib.Seq.{length-take-le, take-suc, take-all, take-append-le, take-take, drop-at}
 use Rattle.memory_buffer.specs.Buffer.{stored}
-use Rattle.memory_buffer.proofs.Laws.{stored-length, stored-nothing, stored-then}
+use Rattle.memory_buffer.proofs.Storing.{stored-length, stored-nothing, stored-then}
 use Rattle.memory_append.specs.Append.{Appended, Appending}
 
 module _ (held : List ℕ) (at : ℕ) where
