@@ -26,22 +26,11 @@ long c = search (unmapped, needs)
 pub put-eight-spec : {M : Type 1} → statement M
 put-eight-spec =
     tie.close (tie.spec Inv-loop μ-loop
-    (λ c κs. search needs)
-    (λ c. (omega arith, (refl, items-start _ _ _ _)))
-    (λ c. search needs) (λ c. search needs) (λ c. search needs) (λ c. search needs) (λ c κs. search needs) (λ c. search needs)
-    (λ c. search needs)
-    (λ c. let put-content = c .before .before .put-content in
-    let k = c .before .before .before .before .before .before in
-    let s = k .before .before .before in
-    let n = long s in (
-      omega arith,
-      (
-        put-content .kept .0 ∙ k .loop .inv .1 .0,
-        items-next (s .args .party) (s .args .count) (s .args .t1) (k .loop .i) (s .args .at) _ (k .loop .out) _ _ (omega arith) (omega arith) (omega arith) (put-content .ensures) (k .loop .inv .1 .1),
-      ),
-    ))
+    (λ c κs. search needs) (λ c. (omega arith, (refl, items-start _ _ _ _))) (λ c. search needs) (λ c. search needs) (λ c. search needs)
+    (λ c. search needs) (λ c κs. search needs) (λ c. search needs) (λ c. search needs)
+    (λ c. let put-content = c .before .before .put-content in let k = c .before .before .before .before .before .before in
+    let s = k .before .before .before in let n = long s in let (_, (kept, left)) = k .loop .inv in
+    let next = items-next (s .args .party) (s .args .count) (s .args .t1) (k .loop .i) (s .args .at) _ (k .loop .out) _ _ (omega arith) (omega arith) (omega arith) (put-content .ensures) left in (omega arith, (put-content .kept .0 ∙ kept, next)))
     (λ c. let (_, (out-length, _)) = c .before .loop .inv in out-length)
-    (λ c. let (_, (_, stored-is)) = c .before .loop .inv in
-    let s = c .before .before .before .before in
-    let n = long s in
+    (λ c. let (_, (_, stored-is)) = c .before .loop .inv in let s = c .before .before .before .before in let n = long s in
     items-done (s .args .party) (s .args .count) (s .args .t1) (c .before .loop .i) _ _ _ (omega arith) stored-is))
