@@ -4,11 +4,14 @@ use call_honest::honest_call;
 use ledger_struct::Ledger;
 ghost use Rattle.call.specs.Calls.{CalledOn};
 
+// A number, 0 where the call was made, and the ledger after it: the one that was given where the call is refused.
 pub struct Called {
     pub number: u8,
     pub ledger: Ledger,
 }
 
+// A call on any ledger at all. Wrong programs that this rules out: one that makes a refused call, or hands back another ledger with its
+// number; one that leaves every place alone, or echoes the first call.
 pub fn call(l: Ledger, function: u8, caller: u8, arguments: &[u32]) -> Called
     ensures { λ r. ⌜ CalledOn l function caller (now (arguments .entry)) r ⌝ }
 {

@@ -6,6 +6,7 @@ ghost use mathlib.Core.Path.{_≡_};
 ghost use Rattle.definitions.specs.Ledger.{callNumber};
 ghost use Rattle.ledger_struct.specs.Ledgers.{ledgerOf};
 
+// The first of numbers 18 to 20 that holds of a call, or 0: nothing is called before it is known.
 pub fn call_number(l: Ledger, function: u8, caller: u8, arguments: &[u32]) -> u8
     ensures { λ r. ⌜ r ≡ callNumber (ledgerOf l) function caller (now (arguments .entry)) ⌝ }
 {

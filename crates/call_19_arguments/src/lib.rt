@@ -9,6 +9,7 @@ ghost use Rattle.file_accepted.specs.Functions.{functionStart};
 ghost use Rattle.ledger_struct.specs.Ledgers.{ledgerOf};
 ghost use Rattle.ledger_numbers.specs.Arguments.{argumentsOffFor};
 
+// Number 19 against a function that is given by its number: the file tells where it begins.
 pub fn arguments_off_for(file: &[u8], function: u8, arguments: &[u32]) -> bool
     ensures { λ r. ⌜ r ≡ argumentsOffFor (parametersIn (now (file .entry)) (functionStart (now (file .entry)) function))
         (now (arguments .entry)) ⌝ }

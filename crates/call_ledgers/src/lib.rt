@@ -11,6 +11,7 @@ ghost use Rattle.ledger_contents.specs.Contents.{contentsOf};
 ghost use Rattle.ledger_struct.specs.Ledgers.{ledgerOf};
 ghost use Rattle.call_ledgers.specs.Ledgers.{doneLedger, failedLedger, Held};
 
+// After a call that is done: new places, all parameters and variables, the next call number.
 pub fn done_ledger(
     l: Ledger,
     function: u8,

@@ -10,6 +10,7 @@ ghost use Rattle.definitions.specs.ContractFile.{isFinalCode, fieldRecords, par
 ghost use Rattle.definitions.specs.Numbers.{fieldInTables, parameterInTables};
 ghost use Rattle.check_03_declarations.specs.Outside.{fieldOutside, parameterOutside, functionOutside};
 
+// "16+f": an owner code that names a field; number 4 asks whether the field is there.
 pub fn is_final_code(code: usize) -> bool
     ensures { λ r. ⌜ r ≡ isFinalCode code ⌝ }
 {

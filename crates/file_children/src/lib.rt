@@ -66,6 +66,7 @@ pub fn expression_count(kind: usize) -> usize
     if kind < 22 { EXPRESSIONS[kind] } else { 0 }
 }
 
+// Kinds 1 to 8: numbers 3 and 7 both ask for the sort of a kind.
 pub fn is_expression_kind(kind: usize) -> bool
     ensures { λ r. ⌜ r ≡ isExpressionKind kind ⌝ }
 {

@@ -5,6 +5,7 @@ ghost use mathlib.Core.Path.{_≡_};
 ghost use Prim.Native.Nat.{_+_, _*_, _≤_};
 ghost use Rattle.file_accepted.specs.Functions.{functionStart};
 
+// The place of a function's record: records have no fixed length, so those before it are passed one by one.
 pub fn function_start(file: &[u8], f: u8) -> usize
     ensures { λ r. ⌜ r ≡ functionStart (now (file .entry)) f ⌝ }
     ensures { λ r. ⌜ r ≤ 200000 ⌝ }

@@ -18,6 +18,7 @@ ghost use Rattle.honest_values.specs.Values.{valueOf};
 ghost use Rattle.honest_supplies.specs.Supplies.{Ready, Wrote, suppliedNumber, bodyIn, circuitIn, supplyIn, bodyPartsIn};
 ghost use Rattle.honest_supplies.specs.Supplies.{circuitPartsIn, placedIn};
 
+// One supplied value noted at its number.
 pub fn put_slot(out: &mut [u64], i: usize, value: u64)
     requires { ⌜ i < length (now out) ⌝ }
     ensures { λ _. ⌜ now (out .exit) ≡ stored (now (out .entry)) i (value ∷ []) ⌝ }

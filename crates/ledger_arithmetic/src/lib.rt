@@ -41,12 +41,14 @@ fn either(left: u32, right: u32) -> u32
     if left == 0 { bit_of(right != 0) } else { 1 }
 }
 
+// A not, on the number of a bool.
 pub fn negated(part: u32) -> u32
     ensures { λ r. ⌜ r ≡ negate part ⌝ }
 {
     bit_of(part == 0)
 }
 
+// An operator by its code, for the original, the circuits and the walk alike.
 pub fn operated(code: usize, left: u32, right: u32) -> u32
     ensures { λ r. ⌜ r ≡ operate (operatorOf code) left right ⌝ }
 {

@@ -14,11 +14,13 @@ pub struct Cell {
     pub value: u32,
 }
 
+// "plain number or cell struct": what a place, a parameter or a variable holds.
 pub enum Content {
     Plain(u32),
     Cell(Cell),
 }
 
+// "a place or variable is a struct whose content is an enum"
 pub struct Place {
     pub content: Content,
 }
@@ -33,6 +35,7 @@ pub fn plain_number(content: Content) -> u32
     }
 }
 
+// The number of a content whoever owns it: the original is worked out on opened places.
 pub fn opened_number(content: Content) -> u32
     ensures { λ r. ⌜ r ≡ openedNumber (contentOfCode content) ⌝ }
 {

@@ -7,6 +7,7 @@ ghost use Prim.Native.Nat.{_*_, _/_, _<_, _≤_, min};
 ghost use Rattle.ledger_contents.specs.Contents.{contentsOf};
 ghost use Rattle.ledger_struct.specs.Ledgers.{ledgerOf, contentsIn, withCall, withParameters, withVariables, withPlaces};
 
+// "The ledger struct holds an array of place structs, by value." What stands behind a count means nothing (`ledgerOf`).
 pub struct Ledger {
     pub file: [u8; 4596],
     pub file_length: usize,
@@ -77,6 +78,7 @@ pub fn flatten_eight(places: [Place; 8], count: usize, flat: &mut [u32])
     }
 }
 
+// The same for the eight places of parameters.
 pub fn filled_eight(flat: &[u32]) -> [Place; 8]
     requires { ⌜ length (now flat) / 5 ≤ 8 ⌝ }
     ensures { λ r. ⌜ contentsIn (length (now (flat .entry)) / 5) r ≡ contentsOf (now (flat .entry)) ⌝ }

@@ -5,6 +5,7 @@ ghost use Prim.Native.Nat.{_+_, _%_, _/_, _≤_};
 ghost use lib.ListN.{length};
 ghost use Rattle.memory_append.specs.Append.{Appended};
 
+// One byte behind others; the answer is the next place, so that parts are written in a row.
 pub fn append_byte(value: u8, out: &mut [u8], at: usize) -> usize
     requires { ⌜ at + 1 ≤ length (now out) ⌝ }
     ensures { λ r. ⌜ Appended (now (out .entry)) (now (out .exit)) at (value ∷ []) r ⌝ }
@@ -22,6 +23,7 @@ pub fn append_two_bytes(value: usize, out: &mut [u8], at: usize) -> usize
     append_byte((value / 256 % 256) as u8, out, next)
 }
 
+// A run of bytes behind others.
 pub fn append(bytes: &[u8], out: &mut [u8], at: usize) -> usize
     requires { ⌜ at + length (now bytes) ≤ length (now out) ⌝ }
     ensures { λ r. ⌜ Appended (now (out .entry)) (now (out .exit)) at (now (bytes .entry)) r ⌝ }

@@ -5,6 +5,7 @@ ghost use Prim.Native.Nat.{_<_};
 ghost use lib.ListN.{length};
 ghost use Rattle.memory_buffer.specs.Buffer.{stored};
 
+// A store by a function of its own, so that its effect is one equation with `stored`.
 pub fn put_byte(out: &mut [u8], at: usize, value: u8)
     requires { ⌜ at < length (now out) ⌝ }
     ensures { λ _. ⌜ now (out .exit) ≡ stored (now (out .entry)) at (value ∷ []) ⌝ }
@@ -12,6 +13,7 @@ pub fn put_byte(out: &mut [u8], at: usize, value: u8)
     out[at] = value;
 }
 
+// The same for numbers of two bytes.
 pub fn put_number(out: &mut [u16], at: usize, value: u16)
     requires { ⌜ at < length (now out) ⌝ }
     ensures { λ _. ⌜ now (out .exit) ≡ stored (now (out .entry)) at (value ∷ []) ⌝ }

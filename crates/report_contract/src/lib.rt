@@ -40,6 +40,7 @@ fn text_room() -> [u8; 691]
     [0; 691]
 }
 
+// The number of the check, and the length of the text.
 pub struct Answer {
     pub number: u8,
     pub length: usize,

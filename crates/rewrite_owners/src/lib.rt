@@ -88,6 +88,7 @@ fn parts_code(left: u8, right: u8) -> u8
     }
 }
 
+// The owner of a place, from its field's owner code and the code of the name used as key.
 pub fn place_code(owner: u8, key: u8) -> u8
     ensures { λ r. ⌜ r ≡ placeCode owner key ⌝ }
 {

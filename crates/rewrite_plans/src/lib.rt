@@ -68,6 +68,7 @@ pub fn read_code(file: &[u8], function_at: usize, nodes_at: usize, n: usize) -> 
     }
 }
 
+// The parts that rewriting goes into, the same for body and circuit.
 pub fn parts_of(file: &[u8], function_at: usize, nodes_at: usize, n: usize) -> Parts
     requires { ⌜ (n < nodeCount (now file)) × (Context (now file) «function_at» «nodes_at») ⌝ }
     ensures { λ r. ⌜ PartsOf (now (file .entry)) n r ⌝ }

@@ -47,6 +47,7 @@ pub fn branch_log(
     )
 }
 
+// The events of statement n under a guard, behind those that the log holds.
 pub fn statement_log(
     file: &[u8],
     function_at: usize,

@@ -36,6 +36,7 @@ pub fn field_fault(classes: Classes, d: Declared, value: Judged) -> u8
     )
 }
 
+// The same for an entry, "19 takes 2".
 pub fn entry_put_fault(classes: Classes, d: Declared, key: Judged, value: Judged) -> u8
     requires { ⌜ (isFieldCode (d .owner) ≡ true) × (targetInTables (key .name) ≡ true) × (targetInTables (value .owner) ≡ true) ⌝ }
     ensures { λ r. ⌜ r ≡ entryPutFault (linkedBy (classes .of)) d key value ⌝ }

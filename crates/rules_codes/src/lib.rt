@@ -38,6 +38,7 @@ pub fn misplaced(classes: Classes, value: u8, place: u8) -> u8
     number_if(!same_class(classes, value, place), 15)
 }
 
+// The code of a data type; a byte outside the table reads as an address.
 pub fn data_type(code: u8) -> u8
     ensures { λ r. ⌜ r ≡ dataTypeCode (dataTypeOf code) ⌝ }
 {
@@ -48,6 +49,7 @@ pub fn data_type(code: u8) -> u8
     }
 }
 
+// "Operators 0 to 6 take uints, ..": whether an operator takes operands of these types.
 pub fn operands_fit(code: u8, left: u8, right: u8) -> bool
     ensures { λ r. ⌜ r ≡ fitCodes (operatorOf code) left right ⌝ }
 {
@@ -60,6 +62,7 @@ pub fn operands_fit(code: u8, left: u8, right: u8) -> bool
     }
 }
 
+// The type of an operator's result.
 pub fn result_type(code: u8) -> u8
     ensures { λ r. ⌜ r ≡ dataTypeCode (resultType (operatorOf code)) ⌝ }
 {
@@ -74,6 +77,7 @@ pub fn result_type(code: u8) -> u8
     }
 }
 
+// Operators 3 and 4, which number 12 and rewriting set apart.
 pub fn is_division(code: u8) -> bool
     ensures { λ r. ⌜ r ≡ isDivision (operatorOf code) ⌝ }
 {
@@ -94,6 +98,7 @@ pub fn place_owner(declared: u8, name: u8) -> u8
     }
 }
 
+// "An operator or not belongs to all when its operands do, otherwise to the caller."
 pub fn parts_owner(left: u8, right: u8) -> u8
     ensures { λ r. ⌜ r ≡ partsCode left right ⌝ }
 {

@@ -28,6 +28,7 @@ pub fn entry_fault(d: Declared, key: Judged) -> u8
     )
 }
 
+// An entry as an expression: its owner is its field's, or the name used as key.
 pub fn entry_judged(classes: Classes, d: Declared, key: Judged) -> Judged
     requires { ⌜ (isFieldCode (d .owner) ≡ true) × (targetInTables (key .name) ≡ true) ⌝ }
     ensures { λ r. ⌜ r ≡ entryJudged (linkedBy (classes .of)) d key ⌝ }

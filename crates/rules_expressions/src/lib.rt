@@ -24,6 +24,7 @@ ghost use Rattle.rules_judgements.specs.Judging.{JudgedAs};
 ghost use Rattle.rules_scopes.specs.Trees.{nodesOf, expressionOn};
 ghost use Rattle.rules_scopes.specs.Scopes.{Ready, scopeAt};
 
+// "Type and owner of a node by recursion over its children": with them its name, and its least fault.
 pub fn judge(file: &[u8], nodes_at: usize, p: Parameters, classes: Classes, n: usize) -> Judged
     requires { ⌜ (n < nodeCount (now file)) × (Ready (now file) «nodes_at» p) ⌝ }
     ensures { λ r. ⌜ JudgedAs (scopeAt (now (file .entry)) p) (linkedBy (classes .of)) (expressionOn (nodesOf (now (file .entry))) n) r ⌝ }

@@ -3,6 +3,7 @@ ghost use mathlib.Core.Path.{_≡_};
 ghost use mathlib.Core.Bool.{cond, _&&_, _||_};
 ghost use Prim.Native.Nat.{min};
 
+// "The first sentence that holds gives the number": of two faults the lower counts.
 pub fn least(a: u8, b: u8) -> u8
     ensures { λ r. ⌜ r ≡ min a b ⌝ }
 {
@@ -23,6 +24,7 @@ pub fn both(a: bool, b: bool) -> bool
     if a { b } else { false }
 }
 
+// The same for "or".
 pub fn either(a: bool, b: bool) -> bool
     ensures { λ r. ⌜ r ≡ (a || b) ⌝ }
 {

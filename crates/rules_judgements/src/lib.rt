@@ -34,6 +34,7 @@ pub struct Given {
     pub owner: u8,
 }
 
+// A constant has the type that its arg says, belongs to all and has no fault.
 pub fn constant_judged(code: u8) -> Judged
     ensures { λ r. ⌜ r ≡ constantJudged code ⌝ }
 {
@@ -45,6 +46,7 @@ pub fn constant_judged(code: u8) -> Judged
     }
 }
 
+// me is an address, belongs to all and is a name.
 pub fn me_judged() -> Judged
     ensures { λ r. ⌜ r ≡ meJudged ⌝ }
 {

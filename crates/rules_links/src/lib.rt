@@ -7,6 +7,7 @@ ghost use Rattle.definitions.specs.Owners.{noLinks, withLinkOf};
 ghost use Rattle.definitions.specs.Numbers.{targetInTables};
 ghost use Rattle.rules_links.specs.Names.{linkedBy, nameWith, exchanged, Exchanged};
 
+// Links as classes of names: two names are linked when their codes have one class.
 pub struct Classes {
     pub of: [u8; 256],
 }
@@ -30,6 +31,7 @@ pub fn no_links() -> Classes
     classes
 }
 
+// Whether two names are linked.
 pub fn same_class(classes: Classes, a: u8, b: u8) -> bool
     ensures { λ r. ⌜ r ≡ eqb (getD (classes .of) a 0) (getD (classes .of) b 0) ⌝ }
 {

@@ -34,6 +34,7 @@ fn operator_fault(classes: Classes, code: u8, left: Judged, right: Judged) -> u8
     least(read, divisor)
 }
 
+// An operator on two judged operands.
 pub fn operator_judged(classes: Classes, code: u8, left: Judged, right: Judged) -> Judged
     requires { ⌜ (targetInTables (left .owner) ≡ true) × (targetInTables (right .owner) ≡ true) ⌝ }
     ensures { λ r. ⌜ r ≡ operatorJudged (linkedBy (classes .of)) code left right ⌝ }

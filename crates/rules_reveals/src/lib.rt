@@ -11,6 +11,7 @@ ghost use Rattle.definitions.specs.Numbers.{targetInTables};
 ghost use Rattle.rules_links.specs.Names.{linkedBy};
 ghost use Rattle.rules_operators.specs.Operating.{negationJudged, revealJudged};
 
+// A not on its judged part.
 pub fn negation_judged(classes: Classes, part: Judged) -> Judged
     requires { ⌜ targetInTables (part .owner) ≡ true ⌝ }
     ensures { λ r. ⌜ r ≡ negationJudged (linkedBy (classes .of)) part ⌝ }

@@ -81,6 +81,7 @@ fn condition_is(file: &[u8], nodes_at: usize, p: Parameters, classes: Classes, f
     condition_fault(judge(file, nodes_at, p, classes, first))
 }
 
+// The least fault of statement n, and the links in force behind it.
 pub fn judge_statement(
     file: &[u8],
     nodes_at: usize,

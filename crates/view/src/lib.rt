@@ -6,6 +6,8 @@ use view_bytes::tested_view;
 ghost use Rattle.ledger_struct.specs.Ledgers.{ledgerOf};
 ghost use Rattle.view_bytes.specs.Views.{Viewed};
 
+// A party's view of any ledger at all. Wrong programs that this rules out: an empty view; one that shows a cell's value to a party
+// that does not own it; one that writes where it refuses.
 pub fn view(l: Ledger, party: u8, out: &mut [u8]) -> Answer
     ensures { λ r. ⌜ Viewed party (ledgerOf l) (now (out .entry)) (now (out .exit)) r ⌝ }
 {

@@ -23,6 +23,7 @@ pub fn put_cell(out: &mut [u8], at: usize, party: u8, cell: Cell)
     }
 }
 
+// The item that a content is for a party.
 pub fn put_content(out: &mut [u8], at: usize, party: u8, content: Content)
     requires { ⌜ at + 10 ≤ length (now out) ⌝ }
     ensures { λ _. ⌜ now (out .exit) ≡ stored (now (out .entry)) at (itemBytes (itemFor party (contentOfCode content))) ⌝ }

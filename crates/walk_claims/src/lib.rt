@@ -43,6 +43,7 @@ pub fn root_value(nodes: &[u8], addresses: &[u32], variables: &[u32], root: usiz
     }
 }
 
+// "its variable is the root's value": plain for all, or a cell of its owner.
 pub fn equals_value(
     nodes: &[u8],
     addresses: &[u32],
@@ -65,6 +66,7 @@ pub fn equals_value(
     }
 }
 
+// What a constraint claims: its root's value, or, where the root is 65,535, that the variable opens for the caller.
 pub fn claim_holds(
     nodes: &[u8],
     addresses: &[u32],

@@ -8,6 +8,7 @@ ghost use Rattle.definitions.specs.Original.{anyone, only};
 ghost use Rattle.definitions.specs.Ledger.{isContentOf, opensFor};
 ghost use Rattle.ledger_contents.specs.Contents.{contentOfCode};
 
+// A plain content of this value.
 pub fn is_plain(content: Content, value: u32) -> bool
     ensures { λ r. ⌜ r ≡ isContentOf anyone value (contentOfCode content) ⌝ }
 {
@@ -17,6 +18,7 @@ pub fn is_plain(content: Content, value: u32) -> bool
     }
 }
 
+// A cell that this address owns, of this value.
 pub fn cell_matches(cell: Cell, address: u32, value: u32) -> bool
     ensures { λ r. ⌜ r ≡ eqb (cell .owner) address && eqb (cell .value) value ⌝ }
 {
@@ -27,6 +29,7 @@ pub fn cell_matches(cell: Cell, address: u32, value: u32) -> bool
     }
 }
 
+// A content that is such a cell.
 pub fn is_cell_of(content: Content, address: u32, value: u32) -> bool
     ensures { λ r. ⌜ r ≡ isContentOf (only address) value (contentOfCode content) ⌝ }
 {
@@ -36,6 +39,7 @@ pub fn is_cell_of(content: Content, address: u32, value: u32) -> bool
     }
 }
 
+// A content that is a cell of this address.
 pub fn opens_for(content: Content, address: u32) -> bool
     ensures { λ r. ⌜ r ≡ opensFor address (contentOfCode content) ⌝ }
 {

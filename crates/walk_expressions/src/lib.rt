@@ -80,6 +80,7 @@ fn divides(code: usize, divisor: u32) -> bool
     }
 }
 
+// Both are worked out, so that a failed part is one path through its function.
 pub fn both_walked(left: bool, right: bool) -> bool
     ensures { λ r. ⌜ r ≡ left && right ⌝ }
 {

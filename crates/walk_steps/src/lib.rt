@@ -33,6 +33,7 @@ pub fn assign(file: &[u8], places: &mut [u32], f: usize, key: u32, value: Walked
     put_content(places, position(file, f, key as usize), content);
 }
 
+// A require passes where its condition was worked out and is true.
 pub fn is_walked_true(condition: Walked) -> bool
     ensures { λ r. ⌜ r ≡ condition .walked && isTrue (plainNumber (contentOfCode (condition .content))) ⌝ }
 {

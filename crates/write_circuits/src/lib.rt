@@ -9,6 +9,7 @@ ghost use Rattle.file_accepted.specs.Context.{Context, nodesIn, scopeIn};
 ghost use Rattle.write_nodes.specs.Numbering.{Room, Numbered};
 ghost use Rattle.write_circuits.specs.Circuits.{four, circuitAt, claimsIn, Claimable, EntryClaimable, CircuitsRoom, CircuitsPut};
 
+// How many claims were noted, and how many nodes their circuits have.
 pub struct Circuits {
     pub count: usize,
     pub nodes: usize,

@@ -21,6 +21,7 @@ pub struct Parts {
     pub nodes: usize,
 }
 
+// Where the heading ends, and how many nodes there are.
 pub struct Extent {
     pub end: usize,
     pub nodes: usize,

@@ -17,6 +17,7 @@ ghost use Rattle.write_nodes.specs.Numbering.{Room, Numbered};
 ghost use Rattle.write_reads.specs.Forms.{bodyForm};
 ghost use Rattle.write_steps.specs.Steps.{stepsIn, closers, Readable, StepsRoom, StepsPut};
 
+// How many steps were written, and how many nodes they have.
 pub struct Steps {
     pub count: usize,
     pub nodes: usize,

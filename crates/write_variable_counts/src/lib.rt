@@ -29,6 +29,7 @@ pub fn is_public_division(
     }
 }
 
+// How many variables the body form of node n makes: a part's first number is known before the part is written.
 pub fn body_count(file: &[u8], function_at: usize, nodes_at: usize, n: usize) -> usize
     requires { ⌜ (n < nodeCount (now file))
         × ((Context (now file) «function_at» «nodes_at»)
@@ -63,6 +64,7 @@ pub fn body_count(file: &[u8], function_at: usize, nodes_at: usize, n: usize) ->
     }
 }
 
+// How many variables the circuit form of node n makes.
 pub fn circuit_count(file: &[u8], function_at: usize, nodes_at: usize, n: usize) -> usize
     requires { ⌜ (n < nodeCount (now file))
         × ((Context (now file) «function_at» «nodes_at»)
