@@ -16,7 +16,7 @@ use Rattle.rules_judgements.specs.Judging.{JudgedAs, IsField}
 use Rattle.rules_judgements.specs.declared.Judged.{Judged}
 use Rattle.rules_judgements.specs.declared.Declared.{Declared}
 use Rattle.rules_judgements.proofs.Judging.{entry-fault-is}
-use Rattle.rules_assignments.specs.Putting.{valueFault, fieldFault, entryPutFault, conditionFault}
+use Rattle.rules_values.specs.Putting.{valueFault, fieldFault, entryPutFault, conditionFault}
 
 module _ (scope : Scope) (linked : Links) where
   value-fault-is : (f : ℕ) (d : Declared) (owner : Owner) (place : ℕ) (e : Expression) (value : Judged) → IsField (fieldAt (scope .fields) f) d → owner ≡ ownerOfCode place

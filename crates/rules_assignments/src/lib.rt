@@ -1,5 +1,4 @@
 // Faults of what is put into a place, from what is found of its expressions: numbers 8, 9 and 15.
-use rules_codes::misplaced;
 use rules_codes::place_owner;
 use rules_entries::entry_fault;
 use rules_faults::least;
@@ -7,23 +6,13 @@ use rules_faults::number_if;
 use rules_judgements::Declared;
 use rules_judgements::Judged;
 use rules_links::Classes;
+use rules_values::value_fault;
 ghost use mathlib.Core.Path.{_≡_};
 ghost use mathlib.Core.Bool.{true};
 ghost use Rattle.definitions.specs.Numbers.{targetInTables};
 ghost use Rattle.rules_links.specs.Names.{linkedBy};
 ghost use Rattle.rules_codes.specs.Codes.{isFieldCode};
-ghost use Rattle.rules_assignments.specs.Putting.{valueFault, fieldFault, entryPutFault};
-
-// "9. A data type doesn't fit", and "15. An assigned value's owner is neither all nor linked to the place's owner"
-fn value_fault(classes: Classes, d: Declared, place: u8, value: Judged) -> u8
-    requires { ⌜ (targetInTables (value .owner) ≡ true) × (targetInTables place ≡ true) ⌝ }
-    ensures { λ r. ⌜ r ≡ valueFault (linkedBy (classes .of)) d place value ⌝ }
-{
-    least(
-        least(value.fault, number_if(!(value.kind == d.kind), 9)),
-        misplaced(classes, value.owner, place),
-    )
-}
+ghost use Rattle.rules_values.specs.Putting.{fieldFault, entryPutFault};
 
 // "8. .. (.. 18 takes 0 ..)"
 pub fn field_fault(classes: Classes, d: Declared, value: Judged) -> u8

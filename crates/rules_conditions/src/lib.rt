@@ -3,7 +3,7 @@ use rules_faults::least;
 use rules_faults::number_if;
 use rules_judgements::Judged;
 ghost use mathlib.Core.Path.{_≡_};
-ghost use Rattle.rules_assignments.specs.Putting.{conditionFault};
+ghost use Rattle.rules_values.specs.Putting.{conditionFault};
 
 // "9. .. conditions are bools."; "14. The condition of a require or an if isn't public."
 pub fn condition_fault(condition: Judged) -> u8

@@ -1,9 +1,9 @@
 // 01, Runs and views: "A call walks the function's written body on the ledger's plain values and cells", on flat contents that are lent.
 // A sequence's second part and an if's taken branch go on in the loop: only a sequence's first part deepens the stack.
 use file_bytes::read_node;
-use walk_expressions::Walked;
 use walk_expressions::evaluate;
-use walk_expressions::number_of;
+use walk_numbers::Walked;
+use walk_numbers::number_of;
 use walk_steps::step;
 ghost use mathlib.Core.Path.{_≡_};
 ghost use mathlib.Core.Bool.{true, false, cond};

@@ -13,7 +13,7 @@ use Rattle.theory_laws.proofs.Codes.{other-operator}
 use Rattle.file_accepted.specs.Context.{fieldsIn}
 use Rattle.ledger_contents.specs.Contents.{contentOfCode, contentsOf}
 use Rattle.walk_expressions.specs.Evaluation.{stateOf, contentFrom, walkedFrom, Gives}
-use Rattle.walk_expressions.specs.declared.Walked.{Walked}
+use Rattle.walk_numbers.specs.declared.Walked.{Walked}
 
 pub fails-divide : (code divisor : ℕ) → code ≡ 3 → divisor ≡ 0 → false ≡ operates (operatorOf code) divisor
 fails-divide code divisor e z = rw (e, z)

@@ -8,7 +8,7 @@ use Rattle.definitions.specs.Ledger as ledger
 use Rattle.file_accepted.specs.Context.{fieldsIn}
 use Rattle.ledger_contents.specs.Contents.{contentOfCode, contentsOf}
 use Rattle.ledger_circuits.specs.Circuits.{addressFrom}
-use Rattle.walk_expressions.specs.declared.Walked.{Walked}
+use Rattle.walk_numbers.specs.declared.Walked.{Walked}
 
 abbrev pub stateOf : List ℕ → List ℕ → ledger.State
 stateOf places variables = record { places = contentsOf places; variables = contentsOf variables }

@@ -5,9 +5,10 @@ use ledger_arithmetic::operated;
 use ledger_circuits::constant_of;
 use ledger_contents::Content;
 use ledger_contents::content_at;
-use ledger_contents::plain_number;
 use ledger_places::number_at;
 use ledger_places::position;
+use walk_numbers::Walked;
+use walk_numbers::number_of;
 ghost use mathlib.Core.Path.{_≡_};
 ghost use mathlib.Core.Bool.{true, _&&_};
 ghost use Prim.Native.Nat.{_*_, _<_, _≤_};
@@ -19,20 +20,6 @@ ghost use Rattle.ledger_contents.specs.Contents.{contentOfCode, contentsOf};
 ghost use Rattle.write_trees.specs.Trees.{bodyIn};
 ghost use Rattle.write_trees.specs.Table.{countOf, tableOf, Readable};
 ghost use Rattle.walk_expressions.specs.Evaluation.{stateOf, contentFrom, walkedFrom, Gives};
-
-// Whether an expression was walked to its end, and its content.
-pub struct Walked {
-    pub walked: bool,
-    pub content: Content,
-}
-
-// The number that the walk may use.
-pub fn number_of(part: Walked) -> u32
-    ensures { λ r. ⌜ r ≡ plainNumber (contentOfCode (part .content)) ⌝ }
-{
-    let content = part.content;
-    plain_number(content)
-}
 
 fn given_number(number: u32) -> Walked
     ensures { λ r. ⌜ Gives true (plain number) r ⌝ }

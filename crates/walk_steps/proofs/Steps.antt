@@ -16,7 +16,7 @@ use Rattle.ledger_contents.specs.Contents.{contentOfCode, contentsOf}
 use Rattle.write_trees.specs.Trees.{commandIn}
 use Rattle.ledger_circuits.specs.Circuits.{allHold}
 use Rattle.walk_expressions.specs.Evaluation.{stateOf, contentFrom, walkedFrom, Gives}
-use Rattle.walk_expressions.specs.declared.Walked.{Walked}
+use Rattle.walk_numbers.specs.declared.Walked.{Walked}
 use Rattle.walk_expressions.proofs.ExpressionsByKind.{Answers}
 use Rattle.walk_steps.specs.Walk.{afterFrom, completesFrom, Ran, handsOn}
 

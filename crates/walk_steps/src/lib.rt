@@ -2,10 +2,10 @@
 use file_bytes::read_node;
 use ledger_contents::put_content;
 use ledger_places::position;
-use walk_expressions::Walked;
 use walk_expressions::both_walked;
 use walk_expressions::evaluate;
-use walk_expressions::number_of;
+use walk_numbers::Walked;
+use walk_numbers::number_of;
 use walk_verify::verify;
 ghost use mathlib.Core.Path.{_≡_};
 ghost use mathlib.Core.Bool.{true, false, _&&_};

@@ -19,7 +19,7 @@ returns-3 c =
     let k = c .before .before .before in
     let s = c .before .before .before .before .before .before .before in
     let l = s .args .l in
-    otherwise _ _ _ _ (sym (c .before .before .before .before .before .before .is-well-formed .ensures) ∙ not-false _ (c .before .before .before .before .before .if1 .left)) (c .before .before .before .before .if2 .left)
+    otherwise _ _ _ _ (sym (c .before .before .before .before .before .before .is-well-formed .ensures) ∙ not-false _ (c .before .before .before .before .before .if1 .left)) (omega (arith, c .before .before .before .before .if2 .left))
     (lacks-in _ _ _ _ (take-many (l .«file_length») (k .at-most .result) (l .file) (omega (arith, k .at-most .ensures, bytes s))) (c .lacks-function .ensures))
 
 pub is-not-callable-spec : {M : Type 1} → statement M
@@ -27,7 +27,7 @@ is-not-callable-spec =
     tie.close (tie.spec
     (λ c κs. search needs)
     (λ c. not-well-formed _ _ _ (sym (c .before .is-well-formed .ensures) ∙ not-true _ (c .if1 .taken)))
-    (λ c. caller-above _ _ _ (sym (c .before .before .is-well-formed .ensures) ∙ not-false _ (c .before .if1 .left)) (c .if2 .taken))
+    (λ c. caller-above _ _ _ (sym (c .before .before .is-well-formed .ensures) ∙ not-false _ (c .before .if1 .left)) (omega (arith, c .if2 .taken)))
     (λ c κs. search needs)
     (λ c. omega (arith, c .before .at-most .ensures, bytes (c .before .before .before .before .before)))
     (λ c. let args-l-file = c .before .before .before .before .before .before .args .l .file in

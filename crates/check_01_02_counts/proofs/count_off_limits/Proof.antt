@@ -1,3 +1,4 @@
+use native.Mathlib.Omega.{arith}
 use borrow.Author.Tests.{lt-ltb, le-ltb, eq-eqb, ne-eqb}
 use borrow.Author.Needs.{needs}
 use Rattle.check_01_02_counts.proofs.ManyParameters.{limits}
@@ -8,13 +9,13 @@ pub count-off-limits-spec : {M : Type 1} → statement M
 count-off-limits-spec =
     tie.close (tie.spec
     (λ c. let start = c .before .before .before in
-    rw (limits _ _ (start .pre), lt-ltb _ _ (c .if1 .taken)))
+    rw (limits _ _ (start .pre), lt-ltb 64 (start .args .l .fields) (omega (arith, c .if1 .taken))))
     (λ c. let start = c .before .before .before .before .before in
-    rw (limits _ _ (start .pre), le-ltb _ _ (c .before .before .if1 .left), eq-eqb _ _ (c .if2 .taken)))
+    rw (limits _ _ (start .pre), le-ltb 64 (start .args .l .fields) (omega (arith, c .before .before .if1 .left)), eq-eqb _ _ (c .if2 .taken)))
     (λ c. let start = c .before .before .before .before .before .before .before in
     rw (
       limits _ _ (start .pre),
-      le-ltb _ _ (c .before .before .before .before .if1 .left),
+      le-ltb 64 (start .args .l .fields) (omega (arith, c .before .before .before .before .if1 .left)),
       ne-eqb _ _ (c .before .before .if2 .left),
       lt-ltb _ _
           (c .if3 .taken),
@@ -26,7 +27,7 @@ count-off-limits-spec =
     let start = first .before .before .before in
     rw (
       limits _ _ (start .pre),
-      le-ltb _ _ (first .if1 .left),
+      le-ltb 64 (start .args .l .fields) (omega (arith, first .if1 .left)),
       ne-eqb _ _ (second .if2 .left),
       le-ltb _ _ (third .if3 .left),
       ← c .before .many-parameters .ensures,
@@ -38,7 +39,7 @@ count-off-limits-spec =
     let start = first .before .before .before in
     rw (
       limits _ _ (start .pre),
-      le-ltb _ _ (first .if1 .left),
+      le-ltb 64 (start .args .l .fields) (omega (arith, first .if1 .left)),
       ne-eqb _ _ (second .if2 .left),
       le-ltb _ _ (third .if3 .left),
       ← c .before .before .many-parameters .ensures,

@@ -22,10 +22,10 @@ many-parameters-spec =
     (λ c. search needs) (λ c κs. search needs)
     (λ c. let (any-is, _) = c .before .before .before .loop .inv in
     many-found _ _ _ _ any-is (c .before .before .loop-test .taken) _ (c .before .byte-at .ensures .0)
-    (c .if1 .taken))
+    (omega (arith, c .if1 .taken)))
     (λ c κs. search needs) (λ c. search needs) (λ c. search needs)
     (λ c. let turn = c .before .before .before in (
-      many-next _ _ _ _ (turn .before .loop .inv .0) (turn .loop-test .taken) _ (c .before .before .byte-at .ensures .0) (c .before .if1 .left) _
+      many-next _ _ _ _ (turn .before .loop .inv .0) (turn .loop-test .taken) _ (c .before .before .byte-at .ensures .0) (omega (arith, c .before .if1 .left)) _
           (c .function-end .ensures .0),
       omega arith,
     ))

@@ -24,11 +24,11 @@ roots-name-nothing-spec =
     (λ c. search needs) (λ c κs. search needs) (λ c. search needs) (λ c κs. search needs)
     (λ c. let turn = c .before .before .before in
     root-names-none _ _ _ _ _ (turn .before .loop .inv .0) (turn .loop-test .taken) _ (c .before .before .function-end .ensures .0) _
-    (c .before .two-bytes-at .ensures .0) (c .if1 .taken))
+    (c .before .two-bytes-at .ensures .0) (omega (arith, c .if1 .taken)))
     (λ c. search needs) (λ c. search needs)
     (λ c. let turn = c .before .before .before in (
       root-names _ _ _ _ _ (turn .before .loop .inv .0) (turn .loop-test .taken) _ (c .before .before .function-end .ensures .0) _
-          (c .before .two-bytes-at .ensures .0) (c .if1 .left),
+          (c .before .two-bytes-at .ensures .0) (omega (arith, c .if1 .left)),
       omega arith,
     ))
     (λ c. let (any-is, _) = c .before .loop .inv in functions-done _ _ _ _ _ any-is (c .loop-test .left)))

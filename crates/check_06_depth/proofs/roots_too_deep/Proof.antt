@@ -27,14 +27,14 @@ roots-too-deep-spec =
     root-too-deep (args .depths .now) _
     (args .file .now) _ _ (turn .before .loop .inv .0) (turn .loop-test .taken) _
     (c .before .before .before .function-end .ensures .0) _ (c .before .before .two-bytes-at .ensures .0) _ (c .before .depth-of .ensures .0)
-    (c .if1 .taken))
+    (omega (arith, c .if1 .taken)))
     (λ c. search needs) (λ c. search needs)
     (λ c. let args = c .before .before .before .before .before .before .before .args in
     let turn = c .before .before .before .before in (
       root-in-depth (args .depths .now) _
           (args .file .now) _ _ (turn .before .loop .inv .0) (turn .loop-test .taken) _
           (c .before .before .before .function-end .ensures .0) _ (c .before .before .two-bytes-at .ensures .0) _ (c .before .depth-of .ensures .0)
-          (c .if1 .left),
+          (omega (arith, c .if1 .left)),
       omega arith,
     ))
     (λ c. let (any-is, _) = c .before .loop .inv in

@@ -9,4 +9,4 @@ unfolding childCounts
 returns c = childCount-table (c .before .args .kind) (omega arith)
 
 pub child-count-spec : {M : Type 1} → statement M
-child-count-spec = tie.close (tie.spec (λ c. search needs) (λ c. search needs) returns (λ c. childCount-high _ (c .if1 .left)))
+child-count-spec = tie.close (tie.spec (λ c. search needs) (λ c. search needs) returns (λ c. childCount-high _ (omega (arith, c .if1 .left))))

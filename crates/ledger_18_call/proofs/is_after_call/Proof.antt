@@ -44,7 +44,7 @@ returns-3 c =
     let inside : l .function < functionCount file = omega (arith, c .before .before .if2 .left, b .read-layout .ensures .functions) in
     sym
     (call-is (ledgerOf l) file (s .pre .accepted .is)
-    ∙ rw (lt-ltb 0 (l .call) some, le-leb (l .call) 65535 (few s), lt-ltb (l .function) (functionCount file) inside, lt-leb (l .caller) 15 (c .if3 .taken)))
+    ∙ rw (lt-ltb 0 (l .call) some, le-leb (l .call) 65535 (few s), lt-ltb (l .function) (functionCount file) inside, lt-leb (l .caller) 15 (omega (arith, c .if3 .taken))))
 
 returns-4 : tie.Need-returns-4
 unfolding ledgerOf

@@ -15,7 +15,7 @@ use Rattle.walk_expressions.proofs.combined.Reads as combined-reads
 use Rattle.walk_expressions.proofs.given_item.Reads as given-item-reads
 use Rattle.walk_expressions.proofs.given_number.Reads as given-number-reads
 use Rattle.walk_expressions.proofs.given_place.Reads as given-place-reads
-use Rattle.walk_expressions.proofs.number_of.Reads as number-of-reads
+use Rattle.walk_numbers.proofs.number_of.Reads as number-of-reads
 use Rattle.walk_expressions.proofs.opposite.Reads as opposite-reads
 use Rattle.file_bytes.proofs.read_node.Reads as read-node-reads
 use Rattle.ledger_places.proofs.number_at.Reads as number-at-reads
