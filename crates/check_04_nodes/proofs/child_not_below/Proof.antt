@@ -12,23 +12,23 @@ child-not-below-spec =
     tie.close
     (tie.spec (λ c κs. search needs) (λ c. no-child _ (recordOf (c .before .before .args .node)) _ (c .before .child-count .ensures) (c .if1 .taken)) (λ c. let args = c .before .before .before .before .args in
     first-child (leb (args .n)) (recordOf (args .node)) _
-    (c .before .before .before .child-count .ensures) (c .before .before .if1 .left) (le-leb _ _ (omega (arith, c .if2 .taken)))) (λ c. let args = c .before .before .before .before .before .args in
+    (c .before .before .before .child-count .ensures) (c .before .before .if1 .left) (le-leb (args .n) (args .node .first) (omega (arith, c .if2 .taken)))) (λ c. let args = c .before .before .before .before .before .args in
     only-first (leb (args .n)) (recordOf (args .node)) _
     (c .before .before .before .before .child-count .ensures) (c .before .before .before .if1 .left) (c .if3 .taken)
-    (lt-leb _ _ (omega (arith, c .before .if2 .left)))) (λ c. let args = c .before .before .before .before .before .before .before .args in
+    (lt-leb (args .n) (args .node .first) (omega (arith, c .before .if2 .left)))) (λ c. let args = c .before .before .before .before .before .before .before .args in
     let child-count = c .before .before .before .before .before .before .child-count .ensures in
     second-child (leb (args .n))
     (recordOf (args .node)) _
     child-count (c .before .before .if3 .left)
-    (lt-leb _ _ (omega (arith, c .before .before .before .if2 .left))) (le-leb _ _ (omega (arith, c .if4 .taken)))) (λ c. let args = c .before .before .before .before .before .before .before .before .args in
+    (lt-leb (args .n) (args .node .first) (omega (arith, c .before .before .before .if2 .left))) (le-leb (args .n) (args .node .second) (omega (arith, c .if4 .taken)))) (λ c. let args = c .before .before .before .before .before .before .before .before .args in
     let child-count = c .before .before .before .before .before .before .before .child-count .ensures in
     only-two (leb (args .n))
     (recordOf (args .node)) _
     child-count (c .before .before .before .if3 .left) (c .if5 .taken)
-    (lt-leb _ _ (omega (arith, c .before .before .before .before .if2 .left))) (lt-leb _ _ (omega (arith, c .before .if4 .left)))) (λ c. let args = c .before .before .before .before .before .before .before .before .before .args in
+    (lt-leb (args .n) (args .node .first) (omega (arith, c .before .before .before .before .if2 .left))) (lt-leb (args .n) (args .node .second) (omega (arith, c .before .if4 .left)))) (λ c. let args = c .before .before .before .before .before .before .before .before .before .args in
     let child-count = c .before .before .before .before .before .before .before .before .child-count .ensures in
     let if2-left = c .before .before .before .before .before .if2 .left in
     third-child (leb (args .n))
     (recordOf (args .node)) _
     child-count (c .before .if5 .left)
-    (lt-leb _ _ (omega (arith, if2-left))) (lt-leb _ _ (omega (arith, c .before .before .if4 .left)))))
+    (lt-leb (args .n) (args .node .first) (omega (arith, if2-left))) (lt-leb (args .n) (args .node .second) (omega (arith, c .before .before .if4 .left)))))

@@ -20,14 +20,14 @@ unfolding sectionNumber firstThatHolds
 returns-3 c =
     rw (← c .before .before .before .before .ends-wrongly .ensures, c .before .before .before .if1 .left)
     (rw (← c .before .before .count-off-limits .ensures, c .before .if2 .left)
-    (rw (lt-ltb 2 (c .before .before .before .before .before .before .args .n) (omega (arith, c .if3 .taken)))))
+    (rw (lt-ltb 2 (c .before .before .before .before .before .before .before .args .n) (omega (arith, c .if3 .taken)))))
 
 returns-4 : tie.Need-returns-4
 unfolding sectionNumber firstThatHolds
 returns-4 c =
     rw (← c .before .before .before .before .ends-wrongly .ensures, c .before .before .before .if1 .left)
     (rw (← c .before .before .count-off-limits .ensures, c .before .if2 .left)
-    (rw (le-ltb 2 (c .before .before .before .before .before .before .args .n) (omega (arith, c .if3 .left)))))
+    (rw (le-ltb 2 (c .before .before .before .before .before .before .before .args .n) (omega (arith, c .if3 .left)))))
 
 pub section-number-spec : {M : Type 1} → statement M
 section-number-spec =
