@@ -50,30 +50,27 @@ write-functions-spec =
     let (functions-put, function-at-is, _, _, _, _, _, _, _, _) = c .before .before .before .before .before .before .before .before .before .before .before .before .before .before .before .before .before .before .before .before .before .before .before .before .loop .inv in
     let write-function-count = c .before .before .before .before .before .before .before .before .before .before .before .before .before .before .before .write-function .ensures .count in
     let ready = functions-ready in
-    let room = places-fit (args .file .now) (args .headings .now) (args .nodes .now) (args .from) loop-f _ _ _ _ functions-put _ function-at-is (function-room (args .file .now) (ready .ready .accepted) loop-f (omega (arith, ready .counted))) in
+    let loop-test = c .before .before .before .before .before .before .before .before .before .before .before .before .before .before .before .before .before .before .before .before .before .before .before .loop-test .taken in
+    let room = places-fit (args .file .now) (args .headings .now) (args .nodes .now) (args .from) loop-f _ _ _ _ functions-put _ function-at-is (function-room (args .file .now) (ready .ready .accepted) loop-f (omega (arith, ready .counted, loop-test))) in
     omega (arith, room .nodes, write-function-count))
     (λ c κs. let start = c .before .before .before .before .before .before .before .before .before .before .before .before .before .before .before .before .before .before .before .before .before .before .before .before .before .before .before .before .before .before .before .before .before in
     let args = start .args in let (functions-ready, _) = start .pre in
     let loop-f = c .before .before .before .before .before .before .before .before .before .before .before .before .before .before .before .before .before .before .before .before .before .before .before .before .loop .f in
     let (functions-put, function-at-is, _, _, _, _, _, _, _, _) = c .before .before .before .before .before .before .before .before .before .before .before .before .before .before .before .before .before .before .before .before .before .before .before .before .loop .inv in
     let ready = functions-ready in
-    let room = places-fit (args .file .now) (args .headings .now) (args .nodes .now) (args .from) loop-f _ _ _ _ functions-put _ function-at-is (function-room (args .file .now) (ready .ready .accepted) loop-f (omega (arith, ready .counted))) in
+    let loop-test = c .before .before .before .before .before .before .before .before .before .before .before .before .before .before .before .before .before .before .before .before .before .before .before .loop-test .taken in
+    let room = places-fit (args .file .now) (args .headings .now) (args .nodes .now) (args .from) loop-f _ _ _ _ functions-put _ function-at-is (function-room (args .file .now) (ready .ready .accepted) loop-f (omega (arith, ready .counted, loop-test))) in
     room .context .nearFunction)
     (λ c. let fits-count = c .before .before .before .before .before .before .before .before .before .before .before .before .before .before .before .before .before .before .before .before .before .before .before .before .before .before .before .before .before .before .before .before .before .before .fits .count in
     let loop-test-taken = c .before .before .before .before .before .before .before .before .before .before .before .before .before .before .before .before .before .before .before .before .before .before .before .before .loop-test .taken in
     omega (arith, loop-test-taken, fits-count))
     (λ c. let loop-test-taken = c .before .before .before .before .before .before .before .before .before .before .before .before .before .before .before .before .before .before .before .before .before .before .before .before .loop-test .taken in
     omega (arith, loop-test-taken))
-    (λ c. let start = c .before .before .before .before .before .before .before .before .before .before .before .before .before .before .before .before .before .before .before .before .before .before .before .before .before .before .before .before .before .before .before .before .before .before in
-    let args = start .args in let (functions-ready, _) = start .pre in
-    let loop = c .before .before .before .before .before .before .before .before .before .before .before .before .before .before .before .before .before .before .before .before .before .before .before .before .before .loop in
-    let (functions-put, function-at-is, _, _, _, _, _, _, _, _) = c .before .before .before .before .before .before .before .before .before .before .before .before .before .before .before .before .before .before .before .before .before .before .before .before .before .loop .inv in
-    let write-function = c .before .before .before .before .before .before .before .before .before .before .before .before .before .before .before .before .write-function .ensures in
-    let ready = functions-ready in
-    let inside : loop .f < functionCount (args .file .now) = omega (arith, ready .counted) in
-    let room = function-room (args .file .now) (ready .ready .accepted) (loop .f) inside in
-    let w = write-function in
-    (one-put (args .file .now) (args .headings .now) (args .nodes .now) (args .from) (loop .f) _ _ _ _ functions-put inside room (ready .behindFields) (ready .ready .headingSpace) (ready .ready .nodeSpace) (loop .function-at) _ _ _ _ function-at-is (w .heading) (w .end) (w .contents) (w .count), next-start (args .file .now) (loop .f) _ _ function-at-is (c .function-end .ensures .0), omega arith, search needs, search needs, search needs, search needs, search needs, search needs, search needs))
+    (λ c. let ready = c .before .before .before .before .before .before .before .before .before .before .before .before .before .before .before .before .before .before .before .before .before .before .before .before .before .before .before .before .before .before .before .before .before .before .pre .0 in
+    let inside : c .before .before .before .before .before .before .before .before .before .before .before .before .before .before .before .before .before .before .before .before .before .before .before .before .before .loop .f < functionCount (c .before .before .before .before .before .before .before .before .before .before .before .before .before .before .before .before .before .before .before .before .before .before .before .before .before .before .before .before .before .before .before .before .before .before .args .file .now) = omega (arith, ready .counted) in
+    let room = function-room (c .before .before .before .before .before .before .before .before .before .before .before .before .before .before .before .before .before .before .before .before .before .before .before .before .before .before .before .before .before .before .before .before .before .before .args .file .now) (ready .ready .accepted) (c .before .before .before .before .before .before .before .before .before .before .before .before .before .before .before .before .before .before .before .before .before .before .before .before .before .loop .f) inside in
+    let w = c .before .before .before .before .before .before .before .before .before .before .before .before .before .before .before .before .write-function .ensures in
+    (one-put (c .before .before .before .before .before .before .before .before .before .before .before .before .before .before .before .before .before .before .before .before .before .before .before .before .before .before .before .before .before .before .before .before .before .before .args .file .now) (c .before .before .before .before .before .before .before .before .before .before .before .before .before .before .before .before .before .before .before .before .before .before .before .before .before .before .before .before .before .before .before .before .before .before .args .headings .now) (c .before .before .before .before .before .before .before .before .before .before .before .before .before .before .before .before .before .before .before .before .before .before .before .before .before .before .before .before .before .before .before .before .before .before .args .nodes .now) (c .before .before .before .before .before .before .before .before .before .before .before .before .before .before .before .before .before .before .before .before .before .before .before .before .before .before .before .before .before .before .before .before .before .before .args .from) (c .before .before .before .before .before .before .before .before .before .before .before .before .before .before .before .before .before .before .before .before .before .before .before .before .before .loop .f) _ _ _ _ (c .before .before .before .before .before .before .before .before .before .before .before .before .before .before .before .before .before .before .before .before .before .before .before .before .before .loop .inv .0) inside room (ready .behindFields) (ready .ready .headingSpace) (ready .ready .nodeSpace) (c .before .before .before .before .before .before .before .before .before .before .before .before .before .before .before .before .before .before .before .before .before .before .before .before .before .loop .function-at) _ _ _ _ (c .before .before .before .before .before .before .before .before .before .before .before .before .before .before .before .before .before .before .before .before .before .before .before .before .before .loop .inv .1) (w .heading) (w .end) (w .contents) (w .count), next-start (c .before .before .before .before .before .before .before .before .before .before .before .before .before .before .before .before .before .before .before .before .before .before .before .before .before .before .before .before .before .before .before .before .before .before .args .file .now) (c .before .before .before .before .before .before .before .before .before .before .before .before .before .before .before .before .before .before .before .before .before .before .before .before .before .loop .f) _ _ (c .before .before .before .before .before .before .before .before .before .before .before .before .before .before .before .before .before .before .before .before .before .before .before .before .before .loop .inv .1) (c .function-end .ensures .0), omega arith, search needs, search needs, search needs, search needs, search needs, search needs, search needs))
     (λ c. search needs) (λ c. search needs) (λ c. search needs) (λ c. search needs) (λ c. search needs) (λ c. search needs)
     (λ c. search needs)
     (λ c. let start = c .before .before .before .before .before .before .before .before .before .before in let args-file = start .args .file .now in
