@@ -1,5 +1,5 @@
 -- The second number counts where the first is 0.
-use Rattle.deploy.proofs.Addresses.{second-number, first-number}
+use Rattle.deploy_17_addresses.proofs.Addresses.{second-number, first-number}
 use Rattle.deploy.proofs.first_number.Statement.{statement}
 use Rattle.deploy.proofs.first_number.Tie as tie
 

@@ -1,3 +1,4 @@
+use native.Mathlib.Omega.{arith}
 use Rattle.definitions.specs.Basics.{twoBytes}
 -- Three runs stand one behind another where they fit.
 use Rattle.memory_append.proofs.Appending.{three-appended}
@@ -11,10 +12,11 @@ hand-out-spec =
     tie.close (tie.spec
     (λ c. search needs) (λ c. search needs)
     (λ c. let args = c .before .before .before .before .args in
-    too-short _ _ (three-long (args .headings .now) (args .nodes .now) (args .count) _ (c .if1 .taken)))
+    too-short _ _ (three-long (args .headings .now) (args .nodes .now) (args .count) _ (omega (arith, c .if1 .taken))))
     (λ c κs. search needs) (λ c κs. search needs) (λ c κs. search needs) (λ c. search needs)
     (λ c. let args = c .before .before .before .before .before .before .before .before .before .before .before .before .before .before .before .before .args in
     let if1-left = c .before .before .before .before .before .before .before .before .before .before .before .before .if1 .left in
     let append = c .before .before .before .before .before .before .before .before .before .before .append .ensures in
     let append-two-bytes = c .before .before .before .before .before .before .append-two-bytes .ensures in
-    let fits = room-left (args .headings .now) (args .nodes .now) (args .count) _ if1-left in stands _ _ _ _ _ fits (total-long (args .headings .now) (args .nodes .now) (args .count)) (three-appended _ 0 (args .headings .now) (twoBytes (args .count)) (args .nodes .now) fits _ _ _ _ _ _ append append-two-bytes (c .before .before .append2 .ensures))))
+    let fits = room-left (args .headings .now) (args .nodes .now) (args .count) _ (omega (arith, if1-left)) in
+    stands _ _ _ _ _ fits (total-long (args .headings .now) (args .nodes .now) (args .count)) (three-appended _ 0 (args .headings .now) (twoBytes (args .count)) (args .nodes .now) fits _ _ _ _ _ _ append append-two-bytes (c .before .before .append2 .ensures))))

@@ -6,10 +6,10 @@ use Rattle.definitions.specs.Basics.{countIf}
 use Rattle.definitions.specs.ContractFile.{isFinal}
 use Rattle.file_accepted.specs.Context.{fieldsIn}
 use Rattle.ledger_places.proofs.Positions.{fields-count}
-use Rattle.deploy.proofs.Addresses.{finalsFrom, finals-next, finals-done}
+use Rattle.deploy_17_addresses.proofs.Addresses.{finalsFrom, finals-next, finals-done}
 use borrow.Author.Needs.{needs}
-use Rattle.deploy.proofs.final_count.Statement.{statement}
-use Rattle.deploy.proofs.final_count.Tie as tie
+use Rattle.deploy_17_addresses.proofs.final_count.Statement.{statement}
+use Rattle.deploy_17_addresses.proofs.final_count.Tie as tie
 
 abbrev Inv-loop : tie.InvT-loop
 Inv-loop file count f₀ finals₀ f finals = (f ≤ count) × ((finals ≤ f) × (finals + finalsFrom (fieldsIn file) f ≡ countIf (λ d. isFinal (d .shape)) (fieldsIn file)))

@@ -2,10 +2,10 @@
 use mathlib.Core.Path.{sym, _∙_}
 use native.Mathlib.Omega.{arith}
 use mathlib.Core.Bool.{true, false}
-use Rattle.deploy.proofs.Addresses.{count-differs, counts-agree}
+use Rattle.deploy_17_addresses.proofs.Addresses.{count-differs, counts-agree}
 use borrow.Author.Needs.{needs}
-use Rattle.deploy.proofs.addresses_number.Statement.{statement}
-use Rattle.deploy.proofs.addresses_number.Tie as tie
+use Rattle.deploy_17_addresses.proofs.addresses_number.Statement.{statement}
+use Rattle.deploy_17_addresses.proofs.addresses_number.Tie as tie
 
 pub addresses-number-spec : {M : Type 1} → statement M
 addresses-number-spec =

@@ -15,7 +15,7 @@ use Rattle.definitions.specs.Numbers.{checkNumber, orElse}
 use Rattle.definitions.specs.Ledger.{finalsOff, deployNumber}
 use Rattle.file_accepted.specs.Context.{fieldsIn}
 use Rattle.file_accepted.proofs.Functions.{fields-in}
-use Rattle.deploy.specs.Deployments.{addressesNumber}
+use Rattle.deploy_17_addresses.specs.Addresses.{addressesNumber}
 
 abbrev pub finalsFrom : List Field → ℕ → ℕ
 finalsFrom fields f = countIf (λ d. isFinal (d .shape)) (drop f fields)

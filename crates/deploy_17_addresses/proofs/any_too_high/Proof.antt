@@ -5,10 +5,10 @@ use native.Mathlib.Omega.{arith}
 use lib.Dec.{ltb}
 use lib.ListN.{length, drop}
 use Rattle.definitions.specs.Basics.{any}
-use Rattle.deploy.proofs.Addresses.{high-found, high-next, high-none}
+use Rattle.deploy_17_addresses.proofs.Addresses.{high-found, high-next, high-none}
 use borrow.Author.Needs.{needs}
-use Rattle.deploy.proofs.any_too_high.Statement.{statement}
-use Rattle.deploy.proofs.any_too_high.Tie as tie
+use Rattle.deploy_17_addresses.proofs.any_too_high.Statement.{statement}
+use Rattle.deploy_17_addresses.proofs.any_too_high.Tie as tie
 
 abbrev Inv-loop : tie.InvT-loop
 Inv-loop addresses i₀ i = (i ≤ length addresses) × (any (ltb 15) (drop i addresses) ≡ any (ltb 15) addresses)
