@@ -1,5 +1,5 @@
 use native.Mathlib.Omega.{arith}
-use Rattle.call.proofs.Called.{refused, taken}
+use Rattle.call.proofs.Answers.{refused, taken}
 use borrow.Author.Needs.{needs}
 use Rattle.call.proofs.call.Statement.{statement}
 use Rattle.call.proofs.call.Tie as tie
