@@ -1,5 +1,5 @@
 // 01, Runs and views: "A constraint holds when its guard isn't set, or its variable is the root's value, as a cell of its owner code's
-// address if a cell." A verify tests all that a function has.
+// address if a cell.": one constraint, under its guard.
 use ledger_contents::plain_at;
 use walk_claims::claim_holds;
 ghost use mathlib.Core.Path.{_≡_};

@@ -1,4 +1,4 @@
-// "9 variable first, 10 variable first opened": a variable read in a circuit.
+// A variable read in a circuit: as it stands where it is plain, opened where it is a cell.
 use write_nodes::put_leaf;
 ghost use mathlib.Core.Path.{_≡_};
 ghost use Prim.Native.Nat.{_+_, _≤_};
