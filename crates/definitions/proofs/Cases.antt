@@ -1,43 +1,87 @@
 -- Cases that pin the definitions: what each says, and the test that decides it.
-use mathlib.Core.Path.{_≡_, refl, ap₂, sym}
-use mathlib.Core.Bool.{Bool, true, false, _&&_}
-use mathlib.Core.List.{List, [], _∷_, zipWith, List·Memᴰ, List·Memᴰ·not-nil, List·Memᴰ·cases-cons}
+use mathlib.Core.Path.{_≡_, refl, ap, ap₂, sym}
+use mathlib.Core.Bool.{Bool, true, false, _&&_, false≢true}
+use mathlib.Core.List.{List, [], _∷_, zipWith, List·Memᴰ, List·Memᴰ·head, List·Memᴰ·not-nil, List·Memᴰ·cases-cons}
 use mathlib.Core.Logic.{⊎-elim}
 use mathlib.Core.Path.{subst}
 use Prim.Native.Nat.{ℕ}
 use lib.Dec.{T, eqb, eqb→eq}
-use Rattle.definitions.specs.Basics.{all, any, anyNumbered, countIf, largest, flatMap, firstThatHolds}
-use Rattle.definitions.specs.Ledger.{deployNumber, deployed, allFit, publicOf, isWellFormed, notCallable, argumentsOff, callNumber, callWith, honestContents, honestVariables, honestParameters, ledgerAfterCall, circuitValue, contentOf, isWalked, stateAfter, walkCompletes}
-use Rattle.definitions.specs.ContractFile.{functionsEnd, nodesAt, fieldRecords, parameterRecords, functionRecords, nodeRecords, sectionsOf, sectionPart, fieldOf, parameterOf, typeOf, kindOf, nodeOfKind, expressionParts, statementParts, fieldsNamed, chainLength, expressionOf, expressionAt, statementOf, statementAt, contractOf, plus, sameName}
+use lib.ListN.{length}
+use Rattle.definitions.specs.Basics.{bit, all, any, anyNumbered, countIf, largest, flatMap, firstThatHolds}
+use Rattle.definitions.specs.Ledger.{Ledger, deployNumber, deployed, allFit, publicOf, isWellFormed, notCallable, argumentsOff, callNumber, callWith, honestContents, honestVariables, honestParameters, ledgerAfterCall, circuitValue, contentOf, isWalked, stateAfter, walkCompletes}
+use Rattle.definitions.specs.ContractFile.{functionsEnd, nodesAt, fieldRecords, parameterRecords, functionRecords, nodeRecords, sectionsOf, sectionPart, fieldOf, parameterOf, typeOf, kindOf, nodeOfKind, expressionParts, statementParts, fieldsNamed, chainLength, expressionOf, expressionAt, statementOf, statementAt, contractOf, Operator, sameName}
 use Rattle.definitions.specs.Numbers.{endsWrongly, countOffLimits, fieldInTables, parameterInTables, kindInTables, outsideTables, namesNothing, usesOf, usedOtherThanOnce, tooDeep, wrongSort, expressionFaults, statementFaults, contractFaults, checkNumber, sectionNumber, sectionAnswer}
 use Rattle.definitions.specs.Original.{operate, value, isWorkedOut, placesAfter, completes, disclosed, disclosedBy, originalCompletes, originalAfter, originalDiscloses, numbersFrom, perPlace, position, deployedNumbers}
 use Rattle.definitions.specs.Owners.{withLink, nameOf, ownerOf, linksOfCondition, linksAfter}
-use Rattle.definitions.specs.Report.{tallies, insert, sorted, digits, reportText}
+use Rattle.definitions.specs.Report.{tallies, insert, sorted, digits, reportText, reportNumber, reportLength, outputAfterReport}
 use Rattle.definitions.specs.Rewriting.{kept, onePart, twoParts, supplying, reading, stepsBefore, single, inSequence, inBranch, inBranches, rewriteStatement, privateParameters, openings, rewriteFunction, rewrite, inBody, inCircuit, size, numbered, bodyTree, circuitTree, commandTree, sizes, numberedAll, eachOnce, constraintBytes, functionBytes, functionsBytes, contractBytes, writtenFile, writeNumber, writtenLength, outputAfterWriting}
-use Rattle.definitions.specs.View.{Request, runAtDeployment, isTaken, runAfter, disclosedIn, viewsAfter, disclosures, itemFor, itemsFor, itemBytes, viewBytes, viewNumber, viewLength, outputAfterView}
+use Rattle.definitions.specs.View.{Request, runAtDeployment, isTaken, runAfter, disclosedIn, disclosedOn, disclosedNumber, disclosedLength, outputAfterDisclosing, viewsAfter, disclosures, itemFor, itemsFor, itemBytes, viewBytes, viewNumber, viewLength, outputAfterView}
 
 pub data Case : Type 0 where
   -- a file, and its number from checking
   hasNumber : List ℕ → ℕ → Case
+  -- a file, the number of a section, and the number that asking for it gets; and that part
+  hasSectionNumber : List ℕ → ℕ → ℕ → Case
+  hasSection : List ℕ → ℕ → List ℕ → Case
   -- a file, and the file written for it
   isWritten : List ℕ → List ℕ → Case
+  -- a file and the lent output; writing's number and length, and the output afterwards
+  writes : List ℕ → List ℕ → ℕ → ℕ → List ℕ → Case
   -- a file, and its report
   isReported : List ℕ → List ℕ → Case
-  -- a file, the number of a section, and that part
-  hasSection : List ℕ → ℕ → List ℕ → Case
-  -- two uints, and their sum
-  adds : ℕ → ℕ → ℕ → Case
-  -- a file, the finals' addresses, calls, a party, and its view after each call
+  -- a file and the lent output; the report's number and length, and the output afterwards
+  reports : List ℕ → List ℕ → ℕ → ℕ → List ℕ → Case
+  -- a file, the finals' addresses, and the deployment's number
+  hasDeployNumber : List ℕ → List ℕ → ℕ → Case
+  -- a ledger, a call on it, and its number
+  hasCallNumber : Ledger → Request → ℕ → Case
+  -- a file, the finals' addresses, a first call, and whether it is taken
+  isTakenOrNot : List ℕ → List ℕ → Request → Bool → Case
+  -- a ledger, a party and the lent output; the view's number and length, and the output afterwards
+  looks : Ledger → ℕ → List ℕ → ℕ → ℕ → List ℕ → Case
+  -- a ledger, a call on it, a party and the lent output; number and length of what the call would disclose, and the output afterwards
+  tells : Ledger → Request → ℕ → List ℕ → ℕ → ℕ → List ℕ → Case
+  -- an operator, two numbers, and what it gives
+  computes : Operator → ℕ → ℕ → ℕ → Case
+  -- a file, the finals' addresses, calls, a party, and its view after deployment and after each call
   isViewed : List ℕ → List ℕ → List Request → ℕ → List (List ℕ) → Case
   -- the same, and what each call discloses to the party
   isDisclosed : List ℕ → List ℕ → List Request → ℕ → List (List ℕ) → Case
 
+-- A request's number and length, then what the lent output holds.
+abbrev answered : ℕ → ℕ → List ℕ → List ℕ
+answered number long output = number ∷ long ∷ output
+
+abbrev written : List ℕ → List ℕ → List ℕ
+written file out = answered (writeNumber file (length out)) (writtenLength file (length out)) (outputAfterWriting file out)
+
+abbrev reported : List ℕ → List ℕ → List ℕ
+reported file out = answered (reportNumber file (length out)) (reportLength file (length out)) (outputAfterReport file out)
+
+abbrev looked : Ledger → ℕ → List ℕ → List ℕ
+looked l party out = answered (viewNumber party l (length out)) (viewLength party l (length out)) (outputAfterView party l out)
+
+abbrev told : Ledger → Request → ℕ → List ℕ → List ℕ
+told l r party out =
+    let asked : ℕ = length out in
+    answered (disclosedNumber l (r .function) (r .caller) (r .arguments) party asked)
+    (disclosedLength l (r .function) (r .caller) (r .arguments) party asked)
+    (outputAfterDisclosing l (r .function) (r .caller) (r .arguments) party out)
+
 abbrev pub Holds : Case → Type 0
 Holds (hasNumber file n) = checkNumber file ≡ n
-Holds (isWritten file bytes) = writtenFile file ≡ bytes
-Holds (isReported file text) = reportText file ≡ text
+Holds (hasSectionNumber file n number) = sectionNumber file n ≡ number
 Holds (hasSection file n part) = sectionAnswer file n ≡ part
-Holds (adds left right sum) = operate plus left right ≡ sum
+Holds (isWritten file bytes) = writtenFile file ≡ bytes
+Holds (writes file out number long after) = written file out ≡ answered number long after
+Holds (isReported file text) = reportText file ≡ text
+Holds (reports file out number long after) = reported file out ≡ answered number long after
+Holds (hasDeployNumber file addresses n) = deployNumber file addresses ≡ n
+Holds (hasCallNumber l r n) = callNumber l (r .function) (r .caller) (r .arguments) ≡ n
+Holds (isTakenOrNot file addresses r taken) = isTaken (runAtDeployment file addresses) r ≡ taken
+Holds (looks l party out number long after) = looked l party out ≡ answered number long after
+Holds (tells l r party out number long after) = told l r party out ≡ answered number long after
+Holds (computes o left right result) = operate o left right ≡ result
 Holds (isViewed file addresses requests party views) = viewsAfter party (runAtDeployment file addresses) requests ≡ views
 Holds (isDisclosed file addresses requests party lists) = disclosures party (runAtDeployment file addresses) requests ≡ lists
 
@@ -72,27 +116,49 @@ same-lists [] (n ∷ ns) t = absurd t
 same-lists (m ∷ ms) [] t = absurd t
 same-lists (m ∷ ms) (n ∷ ns) t = let h = both (sameNumbers m n) (sameLists ms ns) t in ap₂ (λ x xs. x ∷ xs) (same-numbers m n (h .0)) (same-lists ms ns (h .1))
 
+same-bit : (a b : Bool) → bit a ≡ bit b → a ≡ b
+same-bit true true e = refl
+same-bit false false e = refl
+same-bit true false e = absurd (false≢true (ap (eqb 0) e))
+same-bit false true e = absurd (false≢true (ap (eqb 1) e))
+
 -- The test of a case, and of a whole table, which antt computes.
 abbrev pub passes : Case → Bool
 passes (hasNumber file n) = eqb (checkNumber file) n
-passes (isWritten file bytes) = sameNumbers (writtenFile file) bytes
-passes (isReported file text) = sameNumbers (reportText file) text
+passes (hasSectionNumber file n number) = eqb (sectionNumber file n) number
 passes (hasSection file n part) = sameNumbers (sectionAnswer file n) part
-passes (adds left right sum) = eqb (operate plus left right) sum
+passes (isWritten file bytes) = sameNumbers (writtenFile file) bytes
+passes (writes file out number long after) = sameNumbers (written file out) (answered number long after)
+passes (isReported file text) = sameNumbers (reportText file) text
+passes (reports file out number long after) = sameNumbers (reported file out) (answered number long after)
+passes (hasDeployNumber file addresses n) = eqb (deployNumber file addresses) n
+passes (hasCallNumber l r n) = eqb (callNumber l (r .function) (r .caller) (r .arguments)) n
+passes (isTakenOrNot file addresses r taken) = eqb (bit (isTaken (runAtDeployment file addresses) r)) (bit taken)
+passes (looks l party out number long after) = sameNumbers (looked l party out) (answered number long after)
+passes (tells l r party out number long after) = sameNumbers (told l r party out) (answered number long after)
+passes (computes o left right result) = eqb (operate o left right) result
 passes (isViewed file addresses requests party views) = sameLists (viewsAfter party (runAtDeployment file addresses) requests) views
 passes (isDisclosed file addresses requests party lists) = sameLists (disclosures party (runAtDeployment file addresses) requests) lists
 
 holds : (c : Case) → T (passes c) → Holds c
 holds (hasNumber file n) t = eqb→eq _ n t
-holds (isWritten file bytes) t = same-numbers _ bytes t
-holds (isReported file text) t = same-numbers _ text t
+holds (hasSectionNumber file n number) t = eqb→eq _ number t
 holds (hasSection file n part) t = same-numbers _ part t
-holds (adds left right sum) t = eqb→eq _ sum t
+holds (isWritten file bytes) t = same-numbers _ bytes t
+holds (writes file out number long after) t = same-numbers _ (answered number long after) t
+holds (isReported file text) t = same-numbers _ text t
+holds (reports file out number long after) t = same-numbers _ (answered number long after) t
+holds (hasDeployNumber file addresses n) t = eqb→eq _ n t
+holds (hasCallNumber l r n) t = eqb→eq _ n t
+holds (isTakenOrNot file addresses r taken) t = same-bit _ taken (eqb→eq _ _ t)
+holds (looks l party out number long after) t = same-numbers _ (answered number long after) t
+holds (tells l r party out number long after) t = same-numbers _ (answered number long after) t
+holds (computes o left right result) t = eqb→eq _ result t
 holds (isViewed file addresses requests party views) t = same-lists _ views t
 holds (isDisclosed file addresses requests party lists) t = same-lists _ lists t
 
 unfoldable pub allPass : List Case → Bool
-unfolding all any anyNumbered countIf largest flatMap firstThatHolds deployNumber deployed allFit publicOf isWellFormed notCallable argumentsOff callNumber callWith honestContents honestVariables honestParameters ledgerAfterCall functionsEnd nodesAt fieldRecords parameterRecords functionRecords nodeRecords sectionsOf sectionPart fieldOf parameterOf typeOf circuitValue contentOf isWalked stateAfter walkCompletes kindOf nodeOfKind expressionParts statementParts fieldsNamed chainLength expressionOf expressionAt statementOf statementAt contractOf endsWrongly countOffLimits fieldInTables parameterInTables kindInTables outsideTables namesNothing usesOf usedOtherThanOnce tooDeep wrongSort expressionFaults statementFaults contractFaults checkNumber sectionNumber sectionAnswer value isWorkedOut placesAfter completes disclosed disclosedBy originalCompletes originalAfter originalDiscloses withLink nameOf ownerOf linksOfCondition linksAfter numbersFrom perPlace position deployedNumbers tallies insert sorted digits reportText kept onePart twoParts supplying reading stepsBefore single inSequence inBranch inBranches rewriteStatement privateParameters openings rewriteFunction rewrite inBody inCircuit runAtDeployment isTaken runAfter disclosedIn viewsAfter disclosures sameName itemFor itemsFor itemBytes viewBytes viewNumber viewLength outputAfterView size numbered bodyTree circuitTree commandTree sizes numberedAll eachOnce constraintBytes functionBytes functionsBytes contractBytes writtenFile writeNumber writtenLength outputAfterWriting zipWith sameNumbers sameLists
+unfolding all any anyNumbered countIf largest flatMap firstThatHolds deployNumber deployed allFit publicOf isWellFormed notCallable argumentsOff callNumber callWith honestContents honestVariables honestParameters ledgerAfterCall functionsEnd nodesAt fieldRecords parameterRecords functionRecords nodeRecords sectionsOf sectionPart fieldOf parameterOf typeOf circuitValue contentOf isWalked stateAfter walkCompletes kindOf nodeOfKind expressionParts statementParts fieldsNamed chainLength expressionOf expressionAt statementOf statementAt contractOf endsWrongly countOffLimits fieldInTables parameterInTables kindInTables outsideTables namesNothing usesOf usedOtherThanOnce tooDeep wrongSort expressionFaults statementFaults contractFaults checkNumber sectionNumber sectionAnswer value isWorkedOut placesAfter completes disclosed disclosedBy originalCompletes originalAfter originalDiscloses withLink nameOf ownerOf linksOfCondition linksAfter numbersFrom perPlace position deployedNumbers tallies insert sorted digits reportText reportNumber reportLength outputAfterReport kept onePart twoParts supplying reading stepsBefore single inSequence inBranch inBranches rewriteStatement privateParameters openings rewriteFunction rewrite inBody inCircuit runAtDeployment isTaken runAfter disclosedIn disclosedOn disclosedNumber disclosedLength outputAfterDisclosing viewsAfter disclosures sameName itemFor itemsFor itemBytes viewBytes viewNumber viewLength outputAfterView size numbered bodyTree circuitTree commandTree sizes numberedAll eachOnce constraintBytes functionBytes functionsBytes contractBytes writtenFile writeNumber writtenLength outputAfterWriting zipWith sameNumbers sameLists
 allPass [] = true
 allPass (c ∷ cs) = passes c && allPass cs
 
@@ -103,3 +169,7 @@ each-holds [] t c m = absurd (List·Memᴰ·not-nil m)
 each-holds (d ∷ cases) t c m =
     let h = both (passes d) (allPass cases) t in
     ⊎-elim (λ e. subst Holds (sym e) (holds d (h .0))) (λ n. each-holds cases (h .1) c n) (List·Memᴰ·cases-cons m)
+
+-- A single case, by its test.
+pub by-test : (c : Case) → T (allPass (c ∷ [])) → Holds c
+by-test c t = each-holds (c ∷ []) t c (List·Memᴰ·head refl)

@@ -1,3 +1,11 @@
-pub mod Products
+pub mod AlikeCases
 pub mod Cases
+pub mod Contracts
+pub mod DisclosureCases
+pub mod Files
+pub mod LedgerCases
 pub mod Marked
+pub mod NumberCases
+pub mod Products
+pub mod ViewCases
+pub mod WrittenCases

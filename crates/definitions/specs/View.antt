@@ -1,8 +1,9 @@
--- 01, Runs and views: what a party sees, as items and as bytes; number 21;
+-- 01, Runs and views: what a party sees, as items and as bytes; number 21; what a call would disclose to a party;
 -- whole lists of calls beside the original, and when two are alike for a party.
 use Rattle.definitions.specs.Basics.{_||_, cond, not, List, [], _∷_, _++_, map, ℕ, eqb, ltb, length, drop, flatMap, twoBytes, _%_}
 use Rattle.definitions.specs.Basics.{_/_, firstThatHolds, _≡_, Bool, true, false, getD, isZero}
-use Rattle.definitions.specs.Ledger.{Content, plain, cell, Ledger, isWellFormed, deployed, callNumber, ledgerAfterCall}
+use Rattle.definitions.specs.Numbers.{orElse}
+use Rattle.definitions.specs.Ledger.{Content, plain, cell, Ledger, openedNumber, isWellFormed, deployed, callNumber, ledgerAfterCall}
 use Rattle.definitions.specs.ContractFile.{Contract, functionAt, parameterAt, contractIn}
 use Rattle.definitions.specs.Original.{deployedNumbers, originalAfter, originalDiscloses}
 
@@ -59,6 +60,28 @@ outputAfterView party l out =
     (viewBytes party l ++ drop (length (viewBytes party l)) out)
     out
 
+-- What a call on a ledger would disclose to a party, told before the call is made: the original works on the places opened.
+-- "Each reveal to all or to the party's address, once worked out, adds its value to what the call discloses to the party, up to a failure."
+module _ (l : Ledger) (function caller : ℕ) (arguments : List ℕ) (party : ℕ) where
+  unfoldable pub disclosedOn : List ℕ
+  disclosedOn = originalDiscloses (contractIn (l .file)) (map openedNumber (l .places)) function caller arguments party
+
+  -- The call's own number, 18 to 20; then 21 as for a view: "its party is above 15, or its output is too short". The room is in values.
+  unfoldable pub disclosedNumber : ℕ → ℕ
+  disclosedNumber room =
+      orElse
+      (callNumber l function caller arguments)
+      (firstThatHolds 21 ((ltb 15 party || ltb room (length disclosedOn)) ∷ []))
+
+  unfoldable pub disclosedLength : ℕ → ℕ
+  disclosedLength room = cond (eqb (disclosedNumber room) 0) (length disclosedOn) 0
+
+  unfoldable pub outputAfterDisclosing : List ℕ → List ℕ
+  outputAfterDisclosing out =
+      cond (eqb (disclosedNumber (length out)) 0)
+      (disclosedOn ++ drop (length disclosedOn) out)
+      out
+
 -- A call as it is asked for; it may be refused.
 pub record Request : Type 0 where
   pub function : ℕ
@@ -96,13 +119,14 @@ disclosedIn party run r =
     (originalDiscloses (contractIn ((run .ledger) .file)) (run .original) (r .function) (r .caller) (r .arguments) party)
     []
 
--- After each call of a list: the party's view, and what that call disclosed to it.
+-- The party's views: of the ledger that the run begins with, at deployment the deployed one, and after each call of a list.
 unfoldable pub viewsAfter : ℕ → Run → List Request → List (List ℕ)
-viewsAfter party run [] = []
+viewsAfter party run [] = viewBytes party (run .ledger) ∷ []
 viewsAfter party run (r ∷ rs) =
-    viewBytes party ((runAfter run r) .ledger)
+    viewBytes party (run .ledger)
     ∷ viewsAfter party (runAfter run r) rs
 
+-- What each call of a list discloses to the party.
 unfoldable pub disclosures : ℕ → Run → List Request → List (List ℕ)
 disclosures party run [] = []
 disclosures party run (r ∷ rs) =

@@ -3,7 +3,7 @@ use ledger_contents::Content;
 use ledger_contents::Place;
 ghost use mathlib.Core.Path.{_≡_};
 ghost use lib.ListN.{length};
-ghost use Prim.Native.Nat.{_*_, _/_, _<_, _≤_, min};
+ghost use Prim.Native.Nat.{ℕ, _*_, _/_, _<_, _≤_, min};
 ghost use Rattle.ledger_contents.specs.Contents.{contentsOf};
 ghost use Rattle.ledger_struct.specs.Ledgers.{ledgerOf, contentsIn, withCall, withParameters, withVariables, withPlaces};
 
@@ -63,37 +63,59 @@ pub fn filled(flat: &[u32]) -> [Place; 1024]
     places
 }
 
-// The same for the eight places of parameters.
-pub fn flatten_eight(places: [Place; 8], count: usize, flat: &mut [u32])
-    requires { ⌜ length (now flat) ≡ 5 * min count 8 ⌝ }
-    ensures { λ _. ⌜ contentsOf (now (flat .exit)) ≡ contentsIn count places ⌝ }
+// The eight places of parameters at the front of as many as there can be variables, so that one loop serves all.
+pub fn among_many(places: [Place; 8]) -> [Place; 1024]
+    ensures { λ r. ⌜ ((n : ℕ) → n ≤ 8 → contentsIn n r ≡ contentsIn n places) ⌝ }
 {
-    let many = at_most(count, 8);
-    let mut i: usize = 0;
-    while i < many {
-        let place = places[i];
-        let content = place.content;
-        ledger_contents::put_content(flat, i, content);
-        i += 1;
-    }
+    let zero = Place {
+        content: Content::Plain(0),
+    };
+    let mut many = [zero; 1024];
+    many[0] = places[0];
+    many[1] = places[1];
+    many[2] = places[2];
+    many[3] = places[3];
+    many[4] = places[4];
+    many[5] = places[5];
+    many[6] = places[6];
+    many[7] = places[7];
+    many
 }
 
-// The same for the eight places of parameters.
-pub fn filled_eight(flat: &[u32]) -> [Place; 8]
-    requires { ⌜ length (now flat) / 5 ≤ 8 ⌝ }
-    ensures { λ r. ⌜ contentsIn (length (now (flat .entry)) / 5) r ≡ contentsOf (now (flat .entry)) ⌝ }
+// The first eight of many places, back in the room of parameters.
+fn first_eight(many: [Place; 1024]) -> [Place; 8]
+    ensures { λ r. ⌜ ((n : ℕ) → n ≤ 8 → contentsIn n r ≡ contentsIn n many) ⌝ }
 {
     let zero = Place {
         content: Content::Plain(0),
     };
     let mut places = [zero; 8];
-    let mut i: usize = 0;
-    while i < flat.len() / 5 {
-        let content = ledger_contents::content_at(flat, i);
-        places[i] = Place { content: content };
-        i += 1;
-    }
+    places[0] = many[0];
+    places[1] = many[1];
+    places[2] = many[2];
+    places[3] = many[3];
+    places[4] = many[4];
+    places[5] = many[5];
+    places[6] = many[6];
+    places[7] = many[7];
     places
+}
+
+// The same for the eight places of parameters.
+pub fn flatten_eight(places: [Place; 8], count: usize, flat: &mut [u32])
+    requires { ⌜ length (now flat) ≡ 5 * min count 8 ⌝ }
+    ensures { λ _. ⌜ contentsOf (now (flat .exit)) ≡ contentsIn count places ⌝ }
+{
+    let many = among_many(places);
+    flatten(many, at_most(count, 8), flat);
+}
+
+pub fn filled_eight(flat: &[u32]) -> [Place; 8]
+    requires { ⌜ length (now flat) / 5 ≤ 8 ⌝ }
+    ensures { λ r. ⌜ contentsIn (length (now (flat .entry)) / 5) r ≡ contentsOf (now (flat .entry)) ⌝ }
+{
+    let many = filled(flat);
+    first_eight(many)
 }
 
 // The ledger's own contents as flat numbers.

@@ -1,15 +1,11 @@
-// Reads a contract file from standard input and prints its report: each function's crossings, or `refused` and the file's number.
-use libc::STDIN_FILENO;
-use libc::STDOUT_FILENO;
+// Reads a contract file and prints its report: each function's crossings, or `refused` and the file's number. It is the file that the
+// one argument names, or standard input.
+use program_input::contract_room;
+use program_input::read_input;
+use program_output::print;
+use program_output::print_refused;
 ghost use mathlib.Core.Path.{_≡_};
 ghost use lib.ListN.{length};
-
-// One byte more than a consistent file can have: a longer input has number 1, and so has its beginning.
-fn room() -> [u8; 655865]
-    ensures { λ r. ⌜ 655865 ≡ length r ⌝ }
-{
-    [0; 655865]
-}
 
 // Room for the longest report.
 fn text_room() -> [u8; 691]
@@ -19,10 +15,17 @@ fn text_room() -> [u8; 691]
 }
 
 fn main() {
-    let mut file = room();
-    let mut text = text_room();
-    let length = io::read_full(STDIN_FILENO, &mut file);
-    let answer = report_contract::report(&file[..length], &mut text);
-    let end = answer.length;
-    io::write_all(STDOUT_FILENO, &text[..end]);
+    let mut file = contract_room();
+    let input = read_input(b"report", 1, &mut file);
+    let length = input.length;
+    if input.ready {
+        let mut text = text_room();
+        let answer = report_contract::report(&file[..length], &mut text);
+        let end = answer.length;
+        if answer.number == 0 {
+            print(b"report", &text[..end]);
+        } else {
+            print_refused(b"report", answer.number);
+        }
+    }
 }

@@ -1,100 +1,116 @@
--- The report's text: what it is of an accepted and of a refused file, how long it can be, and what stands in the output.
+-- The report's text: what it is of an accepted file, how long it can be, and what stands in the output.
 use mathlib.Core.Path.{_≡_, refl, ap, sym, _∙_}
-use mathlib.Core.Bool.{Bool, true, false, cond}
-use mathlib.Core.List.{List, _++_, map}
-use Prim.Native.Nat.{ℕ, _+_, _<_, _≤_}
+use mathlib.Core.Bool.{false≢true}
+use mathlib.Core.List.{List, [], _∷_, _++_, map}
+use Prim.Native.Nat.{ℕ, zero, suc, _+_, _<_, _≤_}
 use native.Mathlib.Omega.{arith}
-use borrow.Author.Tests.{eq-eqb, ne-eqb, lt-ltb, le-ltb, eqb-true, eqb-false}
-use lib.Dec.{eqb}
+use borrow.Author.Tests.{eq-eqb, ne-eqb, lt-ltb, le-ltb}
+use lib.Dec.{eqb, ltb}
 use lib.ListN.{length, take, drop, length-map}
 use lib.Seq.{length-take-le, take-at}
+use Rattle.definitions.specs.Basics.{firstThatHolds}
 use Rattle.definitions.specs.ContractFile.{sectionsOf, contractOf}
-use Rattle.definitions.specs.Numbers.{checkNumber}
+use Rattle.definitions.specs.Numbers.{checkNumber, orElse}
 use Rattle.definitions.specs.Rewriting.{rewrite}
-use Rattle.definitions.specs.Report.{crossings, refusedLine, reportText, heading, tallyLine, sorted, tallies}
+use Rattle.definitions.specs.Report.{crossings, reportText, reportNumber, reportLength, outputAfterReport}
+use Rattle.theory_laws.proofs.Rooms.{within-room}
 use Rattle.memory_buffer.specs.Buffer.{stored}
 use Rattle.memory_append.specs.Append.{Appended}
 use Rattle.memory_append.proofs.Appending.{appended-length}
 use Rattle.report_text.specs.Lines.{reportLines}
-use Rattle.report_text.proofs.Lines.{report-is, report-length, refused-length}
+use Rattle.report_text.proofs.Lines.{report-is, report-length}
 use Rattle.write_function_room.specs.Functions.{writtenFunctions}
 use Rattle.write_function_room.proofs.Written.{functions-counted}
 use Rattle.write_function_room.proofs.Room.{functions-few}
 use Rattle.report_crossings.specs.Counting.{CountsStand}
-use Rattle.report_contract.specs.Report.{reportedLength, outputAfterReporting}
-use Rattle.definitions.specs.Basics.{flatMap}
+
+-- What is answered where a number refuses.
+pub record Refused (file out : List ℕ) (number : ℕ) : Type 0 where
+  pub given : number ≡ reportNumber file (length out)
+  pub long : 0 ≡ reportLength file (length out)
+  pub output : out ≡ outputAfterReport file out
+
+refused-by : (file out : List ℕ) (number : ℕ) → number ≡ reportNumber file (length out) → (number ≡ 0 → ⊥) → Refused file out number
+unfolding reportLength outputAfterReport
+refused-by file out number e refused =
+    let not-clear = ne-eqb (reportNumber file (length out)) 0 (λ h. refused (e ∙ h)) in
+    record { given = e; long = rw not-clear; output = rw not-clear }
+
+-- What is reported stays inside the output.
+pub reported-within : (file : List ℕ) (room long : ℕ) → long ≡ reportLength file room → long ≤ room
+unfolding reportLength reportNumber
+reported-within file room long e = let w = within-room (checkNumber file) 15 room (length (reportText file)) in omega arith
 
 module _ (file : List ℕ) where
-  abbrev text : Bool → List ℕ
-  text accepted = cond accepted (heading ++ flatMap tallyLine (sorted (tallies 0 ((rewrite (contractOf (sectionsOf file))) .functions)))) (refusedLine (checkNumber file))
-
-  accepted-text : checkNumber file ≡ 0 → reportText file ≡ reportLines (map crossings (writtenFunctions file))
+  accepted-text : reportText file ≡ reportLines (map crossings (writtenFunctions file))
   unfolding reportText
-  accepted-text h = ap text (eq-eqb (checkNumber file) 0 h) ∙ report-is (rewrite (contractOf (sectionsOf file)))
+  accepted-text = report-is (rewrite (contractOf (sectionsOf file)))
 
-  pub refused-text : (checkNumber file ≡ 0 → ⊥) → reportText file ≡ refusedLine (checkNumber file)
-  unfolding reportText
-  refused-text h = ap text (ne-eqb (checkNumber file) 0 h)
+  -- "Checking uses 1 to 15": a refused file's number goes before that of the room.
+  pub file-refused : (out : List ℕ) (number : ℕ) → number ≡ checkNumber file → (number ≡ 0 → ⊥) → Refused file out number
+  unfolding reportNumber
+  file-refused out zero e refused = absurd (refused refl)
+  file-refused out (suc n) e refused =
+      refused-by file out (suc n)
+      (ap (λ (m : ℕ). orElse m (firstThatHolds 16 (ltb (length out) (length (reportText file)) ∷ []))) e) refused
 
-  lines-few : checkNumber file ≡ 0 → length (reportLines (map crossings (writtenFunctions file))) ≤ 691
-  lines-few h =
-      report-length (map crossings (writtenFunctions file)) (omega (arith, length-map (writtenFunctions file) crossings, functions-counted file, functions-few file h))
+  module _ (accepted : checkNumber file ≡ 0) where
+    lines-few : length (reportLines (map crossings (writtenFunctions file))) ≤ 691
+    lines-few =
+        report-length (map crossings (writtenFunctions file))
+        (omega (arith, length-map (writtenFunctions file) crossings, functions-counted file, functions-few file accepted))
 
-  pub text-few : length (reportText file) ≤ 691
-  text-few = go (eqb (checkNumber file) 0) refl
-    where
-      go : (b : Bool) → eqb (checkNumber file) 0 ≡ b → length (reportText file) ≤ 691
-      go true e =
-          let h = eqb-true (checkNumber file) 0 e in
-          omega (arith, ap length (accepted-text h), lines-few h)
-      go false e = omega (arith, ap length (refused-text (eqb-false (checkNumber file) 0 e)), refused-length (checkNumber file))
+    text-few : length (reportText file) ≤ 691
+    text-few = omega (arith, ap length accepted-text, lines-few)
 
-  -- The lines of the functions' counts.
-  module _ (accepted : checkNumber file ≡ 0) (counts : List ℕ) (functions : ℕ) (stand : CountsStand file counts functions) where
-    pub counts-taken : functions ≡ length (take functions counts)
-    counts-taken =
-        omega (arith, ap length (stand .stand), length-map (writtenFunctions file) crossings, functions-counted file, stand .all)
+    -- The lines of the functions' counts.
+    module _ (counts : List ℕ) (functions : ℕ) (stand : CountsStand file counts functions) where
+      pub counts-taken : functions ≡ length (take functions counts)
+      counts-taken =
+          omega (arith, ap length (stand .stand), length-map (writtenFunctions file) crossings, functions-counted file, stand .all)
 
-    pub lines-fit : (room : ℕ) → 691 ≤ room → (length (take functions counts) ≤ 16) × (length (reportLines (take functions counts)) ≤ room)
-    lines-fit room long =
-        (omega (arith, counts-taken, stand .few), omega (arith, ap (λ (l : List ℕ). length (reportLines l)) (stand .stand), lines-few accepted))
+      pub lines-fit : (room : ℕ) → 691 ≤ room → (length (take functions counts) ≤ 16) × (length (reportLines (take functions counts)) ≤ room)
+      lines-fit room long =
+          (omega (arith, counts-taken, stand .few), omega (arith, ap (λ (l : List ℕ). length (reportLines l)) (stand .stand), lines-few))
 
-    pub lines-told : (before after : List ℕ) (end : ℕ) → Appended before after 0 (reportLines (take functions counts)) end → Appended before after 0 (reportText file) end
-    lines-told before after end a = rw (accepted-text accepted, ← stand .stand) a
+      pub lines-told : (before after : List ℕ) (end : ℕ) → Appended before after 0 (reportLines (take functions counts)) end → Appended before after 0 (reportText file) end
+      lines-told before after end a = rw (accepted-text, ← stand .stand) a
 
-  -- The line of a refused file's number.
-  pub line-fits : (number room : ℕ) → 691 ≤ room → length (refusedLine number) ≤ room
-  line-fits number room long = omega (arith, refused-length number)
+    room-number : (out : List ℕ) → reportNumber file (length out) ≡ firstThatHolds 16 (ltb (length out) (length (reportText file)) ∷ [])
+    unfolding reportNumber
+    room-number out = ap (λ (n : ℕ). orElse n (firstThatHolds 16 (ltb (length out) (length (reportText file)) ∷ []))) accepted
 
-  pub line-told : (number : ℕ) → number ≡ checkNumber file → (number ≡ 0 → ⊥) → (before after : List ℕ) (end : ℕ) → Appended before after 0 (refusedLine number) end
-      → Appended before after 0 (reportText file) end
-  line-told number e refused before after end a = rw (refused-text (λ h. refused (e ∙ h)), ← e) a
+    -- The text stands in front of the local room, and goes to the output where that is long enough.
+    module _ (before after : List ℕ) (n : ℕ) (a : Appended before after 0 (reportText file) n) (room : 691 ≡ length before) where
+      pub text-end : n ≤ 691
+      text-end = omega (arith, a .place, text-few)
 
-  -- The text stands in front of the local room, and goes to the output where that is long enough.
-  module _ (before after : List ℕ) (n : ℕ) (a : Appended before after 0 (reportText file) n) (room : 691 ≡ length before) where
-    pub text-end : n ≤ 691
-    text-end = omega (arith, a .place, text-few)
+      pub text-taken : n ≡ length (take n after)
+      text-taken = sym (length-take-le n after (omega (arith, text-end, appended-length before 0 after (reportText file) n a (omega (arith, text-few)))))
 
-    pub text-taken : n ≡ length (take n after)
-    text-taken = sym (length-take-le n after (omega (arith, text-end, appended-length before 0 after (reportText file) n a (omega (arith, text-few)))))
+      text-front : take n after ≡ reportText file
+      unfolding stored
+      text-front = ap (take n) (a .contents) ∙ take-at (reportText file) (drop (0 + length (reportText file)) before) n (omega (arith, a .place))
 
-    text-front : take n after ≡ reportText file
-    unfolding stored
-    text-front = ap (take n) (a .contents) ∙ take-at (reportText file) (drop (0 + length (reportText file)) before) n (omega (arith, a .place))
+      module _ (out : List ℕ) where
+        pub too-short : length out < n → Refused file out 16
+        unfolding firstThatHolds
+        too-short h =
+            let short = lt-ltb (length out) (length (reportText file)) (omega (arith, a .place)) in
+            refused-by file out 16 (sym (room-number out ∙ ap (λ b. firstThatHolds 16 (b ∷ [])) short)) (λ h. false≢true (ap (eqb 0) h))
 
-    module _ (out : List ℕ) where
-      pub too-short : length out < n → (0 ≡ reportedLength file (length out)) × (out ≡ outputAfterReporting file out)
-      unfolding reportedLength outputAfterReporting
-      too-short h =
-          let short = lt-ltb (length out) (length (reportText file)) (omega (arith, a .place)) in
-          (rw short, rw short)
+        pub text-fits : n ≤ length out → 0 + length (take n after) ≤ length out
+        text-fits h = omega (arith, text-taken)
 
-      pub text-fits : n ≤ length out → 0 + length (take n after) ≤ length out
-      text-fits h = omega (arith, text-taken)
-
-      pub reported : n ≤ length out → (now : List ℕ) (end : ℕ) → Appended out now 0 (take n after) end → (n ≡ reportedLength file (length out)) × (now ≡ outputAfterReporting file out)
-      unfolding reportedLength outputAfterReporting stored
-      reported h now end b =
-          let long = le-ltb (length out) (length (reportText file)) (omega (arith, a .place)) in
-          let zero : 0 + length (reportText file) ≡ length (reportText file) = omega arith in
-          (rw long (omega (arith, a .place)), rw long (b .contents ∙ ap (stored out 0) text-front ∙ ap (λ (m : ℕ). reportText file ++ drop m out) zero))
+        pub reported : n ≤ length out → (now : List ℕ) (end : ℕ) → Appended out now 0 (take n after) end
+            → (0 ≡ reportNumber file (length out)) × (n ≡ reportLength file (length out)) × (now ≡ outputAfterReport file out)
+        unfolding reportLength outputAfterReport stored firstThatHolds
+        reported h now end b =
+            let long = le-ltb (length out) (length (reportText file)) (omega (arith, a .place)) in
+            let clear : reportNumber file (length out) ≡ 0 = room-number out ∙ ap (λ b. firstThatHolds 16 (b ∷ [])) long in
+            let same : 0 + length (reportText file) ≡ length (reportText file) = omega arith in
+            let zero = eq-eqb (reportNumber file (length out)) 0 clear in (
+              sym clear,
+              rw zero (omega (arith, a .place)),
+              rw zero (b .contents ∙ ap (stored out 0) text-front ∙ ap (λ (m : ℕ). reportText file ++ drop m out) same),
+            )

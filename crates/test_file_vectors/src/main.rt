@@ -82,10 +82,26 @@ fn writes(file: &[u8], number: u8, written: &[u8], out: &mut [u8]) -> bool
     agrees_in(file, number, written, out, length - 1)
 }
 
-fn reports(file: &[u8], number: u8, text: &[u8], out: &mut [u8]) -> bool {
+// An accepted file has its report; a refused one leaves the output as it was, and its number makes the recorded line.
+fn reports(file: &[u8], number: u8, text: &[u8], out: &mut [u8]) -> bool
+    requires { ⌜ 49152 ≤ length (now out) ⌝ }
+{
     fill(out);
     let answer = report_contract::report(file, out);
-    answer.number == number && answer.length == text.len() && holds(out, text)
+    if number == 0 {
+        return answer.number == 0 && answer.length == text.len() && holds(out, text);
+    }
+    if answer.number != number {
+        return false;
+    }
+    if answer.length != 0 {
+        return false;
+    }
+    if !holds(out, b"") {
+        return false;
+    }
+    report_text::refused_line(answer.number, out);
+    holds(out, text)
 }
 
 fn agrees(file: &[u8], number: u8, written: &[u8], text: &[u8], out: &mut [u8]) -> bool

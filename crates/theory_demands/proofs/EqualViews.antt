@@ -1,39 +1,37 @@
 -- Demand 3, by induction over two lists of calls.
-use mathlib.Core.Path.{_≡_, refl, ap, ap₂, sym, _∙_, subst}
+use mathlib.Core.Path.{_≡_, ap, ap₂, sym, _∙_, subst}
 use mathlib.Core.Bool.{true, _||_, cond, not}
 use mathlib.Core.List.{List, [], _∷_}
 use Prim.Native.Nat.{ℕ, zero, suc}
 use lib.Dec.{eqb}
 use lib.ListN.{getD, take}
 use Rattle.definitions.specs.ContractFile.{parameterAt, contractIn}
-use Rattle.definitions.specs.Original.{disclosedBy, originalDiscloses}
+use Rattle.definitions.specs.Original.{originalDiscloses}
 use Rattle.definitions.specs.Ledger.{Ledger, functionOfLedger, callNumber, ledgerAfterCall}
-use Rattle.definitions.specs.View.{viewBytes, Request, Run, isTaken, runAfter, disclosedIn, viewsAfter, disclosures, AlikeFor, Paired, finished, bothRefused, bothTaken}
+use Rattle.definitions.specs.View.{disclosedOn, Request, Run, isTaken, runAfter, disclosedIn, viewsAfter, disclosures, AlikeFor, Paired}
+use Rattle.definitions.specs.View.{finished, bothRefused, bothTaken}
 use Rattle.theory_secrecy.proofs.Views.{AlikeLedgers, alike-views}
-use Rattle.theory_demands.proofs.HonestCall.{addressOfCall, openedPlaces, bodyOfCall}
 use Rattle.theory_demands.proofs.Faithful.{FaithfulRun, taken-number, refused-run, same-file, faithful-after}
 use Rattle.theory_demands.proofs.AlikeCalls.{aligned, alike-after}
 
--- What a call discloses to the party, on the opened places.
-abbrev DisclosedOn : ℕ → Ledger → ℕ → ℕ → List ℕ → List ℕ
-DisclosedOn party l f c a = disclosedBy ((contractIn (l .file)) .fields) (addressOfCall l f c a) a party (openedPlaces l f c a) (bodyOfCall l f c a)
-
-disclosed-taken : (party : ℕ) (run : Run) → FaithfulRun run → (r : Request) → isTaken run r ≡ true
-    → disclosedIn party run r ≡ DisclosedOn party (run .ledger) (r .function) (r .caller) (r .arguments)
-unfolding disclosedIn originalDiscloses
-disclosed-taken party run h r e =
-    ap (λ b. cond b (originalDiscloses (contractIn ((run .ledger) .file)) (run .original) (r .function) (r .caller) (r .arguments) party) []) e
-    ∙ ap (λ (o : List ℕ). originalDiscloses (contractIn ((run .ledger) .file)) o (r .function) (r .caller) (r .arguments) party) (sym (h .opened))
+-- What is told of a call before it is made is what the call discloses: on a faithful run the opened places are the original's.
+pub told-is-disclosed : (party : ℕ) (run : Run) → FaithfulRun run → (r : Request) → isTaken run r ≡ true
+    → disclosedOn (run .ledger) (r .function) (r .caller) (r .arguments) party ≡ disclosedIn party run r
+unfolding disclosedOn disclosedIn
+told-is-disclosed party run h r e =
+    ap (λ (o : List ℕ). originalDiscloses (contractIn ((run .ledger) .file)) o (r .function) (r .caller) (r .arguments) party) (h .opened)
+    ∙ ap (λ b. cond b (originalDiscloses (contractIn ((run .ledger) .file)) (run .original) (r .function) (r .caller) (r .arguments) party) []) (sym e)
 
 -- The second call may stand on another ledger with the same file and call number, and name function and caller by equal numbers.
 module _ (party : ℕ) (l : Ledger) (f c : ℕ) (a a′ : List ℕ) (clear : callNumber l f c a ≡ 0)
     (arguments : (k : ℕ) → not ((parameterAt ((functionOfLedger l f) .parameters) k) .private) || eqb c party ≡ true → getD a k 0 ≡ getD a′ k 0) where
   abbrev SecondCall : Ledger → ℕ → ℕ → Type 0
   SecondCall m f′ c′ =
-      callNumber m f′ c′ a′ ≡ 0 → DisclosedOn party l f c a ≡ DisclosedOn party m f′ c′ a′
+      callNumber m f′ c′ a′ ≡ 0 → disclosedOn l f c a party ≡ disclosedOn m f′ c′ a′ party
       → AlikeLedgers party (ledgerAfterCall l f c a) (ledgerAfterCall m f′ c′ a′)
 
   alike-call : (m : Ledger) (f′ c′ : ℕ) → AlikeLedgers party l m → l .file ≡ m .file → f ≡ f′ → c ≡ c′ → SecondCall m f′ c′
+  unfolding disclosedOn originalDiscloses
   alike-call m f′ c′ h file function caller =
       let same : aligned l m ≡ m =
       λ i. record {
@@ -68,7 +66,7 @@ module _ (party : ℕ) where
         ledgers =
             alike-call party (run .ledger) (r .function) (r .caller) (r .arguments) (r′ .arguments) (taken-number run r e) (same .arguments) (run′ .ledger) (r′ .function)
             (r′ .caller) (h .ledgers) (h .file) (same .function) (same .caller) (taken-number run′ r′ e′)
-            (sym (disclosed-taken party run (h .faithful) r e) ∙ disclosed ∙ disclosed-taken party run′ (h .faithful′) r′ e′);
+            (told-is-disclosed party run (h .faithful) r e ∙ disclosed ∙ sym (told-is-disclosed party run′ (h .faithful′) r′ e′));
       }
 
   cons-head : {x y : List ℕ} {xs ys : List (List ℕ)} → x ∷ xs ≡ y ∷ ys → x ≡ y
@@ -77,23 +75,23 @@ module _ (party : ℕ) where
   cons-tail : {x y : List ℕ} {xs ys : List (List ℕ)} → x ∷ xs ≡ y ∷ ys → xs ≡ ys
   cons-tail e = cc
 
-  -- As far as the disclosures agree, so do the views.
+  -- As far as the disclosures agree, so do the views, and one more: the view that a call follows is there before it discloses anything.
   pub views-agree : {run run′ : Run} {rs rs′ : List Request} → Paired party run run′ rs rs′ → (n : ℕ) → AlikeRuns run run′
-      → take n (disclosures party run rs) ≡ take n (disclosures party run′ rs′) → take n (viewsAfter party run rs) ≡ take n (viewsAfter party run′ rs′)
+      → take n (disclosures party run rs) ≡ take n (disclosures party run′ rs′)
+      → take (suc n) (viewsAfter party run rs) ≡ take (suc n) (viewsAfter party run′ rs′)
   unfolding viewsAfter disclosures
-  views-agree finished n h d = refl
-  views-agree (bothRefused e e′ pairs) zero h d = refl
-  views-agree (bothTaken e e′ same pairs) zero h d = refl
+  views-agree finished n h d = ap (λ v. take (suc n) (v ∷ [])) (alike-views (h .ledgers))
+  views-agree (bothRefused e e′ pairs) zero h d = ap (λ v. v ∷ []) (alike-views (h .ledgers))
+  views-agree (bothTaken e e′ same pairs) zero h d = ap (λ v. v ∷ []) (alike-views (h .ledgers))
   views-agree (bothRefused {run} {run′} {r} {r′} {rs} {rs′} e e′ pairs) (suc n) h d =
       let s = refused-run run r e in
       let s′ = refused-run run′ r′ e′ in
       let later : take n (disclosures party run rs) ≡ take n (disclosures party run′ rs′) =
       ap (λ (x : Run). take n (disclosures party x rs)) (sym s) ∙ cons-tail d ∙ ap (λ (x : Run). take n (disclosures party x rs′)) s′ in
-      let views : take n (viewsAfter party (runAfter run r) rs) ≡ take n (viewsAfter party (runAfter run′ r′) rs′) =
-      ap (λ (x : Run). take n (viewsAfter party x rs)) s ∙ views-agree pairs n h later ∙ ap (λ (x : Run). take n (viewsAfter party x rs′)) (sym s′) in
-      let now : viewBytes party ((runAfter run r) .ledger) ≡ viewBytes party ((runAfter run′ r′) .ledger) =
-      ap (λ (x : Run). viewBytes party (x .ledger)) s ∙ alike-views (h .ledgers) ∙ ap (λ (x : Run). viewBytes party (x .ledger)) (sym s′) in
-      ap₂ (λ x y. x ∷ y) now views
+      let views : take (suc n) (viewsAfter party (runAfter run r) rs) ≡ take (suc n) (viewsAfter party (runAfter run′ r′) rs′) =
+      ap (λ (x : Run). take (suc n) (viewsAfter party x rs)) s ∙ views-agree pairs n h later
+      ∙ ap (λ (x : Run). take (suc n) (viewsAfter party x rs′)) (sym s′) in
+      ap₂ (λ x y. x ∷ y) (alike-views (h .ledgers)) views
   views-agree (bothTaken {run} {run′} {r} {r′} {rs} {rs′} e e′ same pairs) (suc n) h d =
       let k = alike-runs-after run run′ h r r′ e e′ same (cons-head d) in
-      ap₂ (λ x y. x ∷ y) (alike-views (k .ledgers)) (views-agree pairs n k (cons-tail d))
+      ap₂ (λ x y. x ∷ y) (alike-views (h .ledgers)) (views-agree pairs n k (cons-tail d))

@@ -8,4 +8,5 @@ pub mod Faithful
 pub mod AlikeCalls
 pub mod EqualViews
 pub mod Demands
+pub mod Computed
 pub mod Examples

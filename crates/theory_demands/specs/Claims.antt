@@ -7,7 +7,7 @@ use Rattle.definitions.specs.Basics.{all}
 use Rattle.definitions.specs.ContractFile.{contractIn}
 use Rattle.definitions.specs.Original.{placeReaders, originalCompletes}
 use Rattle.definitions.specs.Ledger.{Content, plain, cell, Ledger, contentAt, constraintHolds, lastAddress, functionOfLedger}
-use Rattle.definitions.specs.Ledger.{honestParametersOf, honestVariablesOf}
+use Rattle.definitions.specs.Ledger.{callNumber, honestParametersOf, honestVariablesOf}
 use Rattle.definitions.specs.Rewriting.{rewriteFunction}
 use Rattle.definitions.specs.View.{Request, Run, runAfter}
 use Rattle.theory_relations.specs.Standing.{AllStand}
@@ -16,6 +16,13 @@ use Rattle.theory_relations.specs.Standing.{AllStand}
 unfoldable pub runAfterAll : Run → List Request → Run
 runAfterAll run [] = run
 runAfterAll run (r ∷ rs) = runAfterAll (runAfter run r) rs
+
+-- The numbers of a list's calls.
+unfoldable pub callNumbers : Run → List Request → List ℕ
+callNumbers run [] = []
+callNumbers run (r ∷ rs) =
+    callNumber (run .ledger) (r .function) (r .caller) (r .arguments)
+    ∷ callNumbers (runAfter run r) rs
 
 -- "every place then stands for the same value": private ones as a cell of the right owner address, public ones plain.
 abbrev pub PlacesStand : Run → Type 0

@@ -3,3 +3,4 @@ pub mod Lists
 pub mod Codes
 pub mod Records
 pub mod Written
+pub mod Rooms

@@ -1,25 +1,20 @@
-// Reads a contract file from standard input and prints `accepted`, or `refused` and its number.
-use libc::STDIN_FILENO;
-use libc::STDOUT_FILENO;
-ghost use mathlib.Core.Path.{_≡_};
-ghost use lib.ListN.{length};
-
-// One byte more than a consistent file can have: a longer input has number 1, and so has its beginning.
-fn room() -> [u8; 655865]
-    ensures { λ r. ⌜ 655865 ≡ length r ⌝ }
-{
-    [0; 655865]
-}
+// Reads a contract file and prints `accepted`, or `refused` and its number. It is the file that the one argument names, or standard
+// input.
+use program_input::contract_room;
+use program_input::read_input;
+use program_output::print;
+use program_output::print_refused;
 
 fn main() {
-    let mut file = room();
-    let length = io::read_full(STDIN_FILENO, &mut file);
-    let number = check_contract::check(&file[..length]);
-    if number == 0 {
-        io::write_all(STDOUT_FILENO, b"accepted\n");
-    } else {
-        io::write_all(STDOUT_FILENO, b"refused ");
-        io::print_decimal(STDOUT_FILENO, number as u64);
-        io::write_all(STDOUT_FILENO, b"\n");
+    let mut file = contract_room();
+    let input = read_input(b"verdict", 1, &mut file);
+    let length = input.length;
+    if input.ready {
+        let number = check_contract::check(&file[..length]);
+        if number == 0 {
+            print(b"verdict", b"accepted\n");
+        } else {
+            print_refused(b"verdict", number);
+        }
     }
 }

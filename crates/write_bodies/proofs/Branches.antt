@@ -4,20 +4,20 @@ use mathlib.Core.List.{List}
 use Prim.Native.Nat.{ℕ, _+_, _*_, _-_, _<_, _≤_}
 use native.Mathlib.Omega.{arith}
 use lib.ListN.{length}
-use Rattle.definitions.specs.ContractFile.{NodeRecord, node}
-use Rattle.definitions.specs.Rewriting.{Tree, leaf, twoChildren, setting, nodeBytes, bodyTree, commandTree}
+use Rattle.definitions.specs.ContractFile.{boolean, NodeRecord, node}
+use Rattle.definitions.specs.Rewriting.{BodyExpression, Command, Tree, twoChildren, size, nodeBytes, bodyTree, commandTree}
 use Rattle.memory_buffer.specs.Buffer.{stored}
 use Rattle.file_accepted.proofs.Statements.{branches-below}
 use Rattle.write_nodes.specs.Numbering.{Room, Numbered}
-use Rattle.write_nodes.proofs.TreeNodes.{room-left, room-right, room-above-two, numbered-leaf, numbered-two, room-as, room-any, numbered-as}
-use Rattle.write_nodes.proofs.Parents.{room-setting, numbered-setting, room-second, room-third, room-above-three, numbered-three}
+use Rattle.write_nodes.proofs.TreeNodes.{room-left, room-right, room-above-two, numbered-two, room-as, numbered-as}
+use Rattle.write_nodes.proofs.Parents.{room-second, room-third, room-above-three, numbered-three}
 use Rattle.write_bodies.specs.declared.Extent.{Extent}
 use Rattle.write_bodies.specs.Parts.{statementTree, branchTree, recordAt}
 use Rattle.write_bodies.specs.Bodies.{StatementReady, StatementWritten, BranchReady, BranchWritten, elseGuard, BranchesReady, BranchesWritten}
 
 module _ (file : List ℕ) (functionStart nodesStart n j : ℕ) (scratch roots out : List ℕ) (at base : ℕ) (ready : BranchReady file functionStart nodesStart n j scratch roots out at base) where
   abbrev guardTree : Tree
-  guardTree = setting j (leaf 1 0 1 0)
+  guardTree = commandTree (Command.setVariable j (BodyExpression.constant boolean 1))
 
   tree-is : branchTree file functionStart n j ≡ twoChildren 17 0 guardTree (statementTree file functionStart n (j + 1))
   unfolding commandTree bodyTree
@@ -29,43 +29,38 @@ module _ (file : List ℕ) (functionStart nodesStart n j : ℕ) (scratch roots o
   room-guard : Room out at base guardTree
   room-guard = room-left out at base 17 0 _ _ room-own
 
-  pub leaf-room : at + 8 ≤ length out
-  leaf-room = room-any out at base guardTree room-guard
+  pub guard-room : (base + 2 ≤ 65535) × (at + 16 ≤ length out)
+  unfolding commandTree bodyTree size
+  guard-room = (omega (arith, room-guard .numbers), omega (arith, room-guard .bytes))
 
-  module _ (first : List ℕ) (h : first ≡ stored out at (nodeBytes (node 1 0 1 0 0))) where
-    one : Numbered out first at base (leaf 1 0 1 0) 1
-    one = numbered-leaf out at base first 1 0 1 0 h
+  module _ (second : List ℕ) (count : ℕ) (put : Numbered out second at base guardTree count) where
+    two : Numbered out second at base guardTree 2
+    unfolding commandTree bodyTree size
+    two = record { contents = put .contents; nodes = refl }
 
-    pub guard-room : (1 ≤ 1) × ((base + 1 ≤ 65535) × (at + 8 * 1 + 8 ≤ length first))
-    guard-room = room-setting out at base j (leaf 1 0 1 0) room-guard first 1 one
+    pub inside-ready : StatementReady file functionStart nodesStart n (j + 1) scratch roots second (at + 16) (base + 2)
+    inside-ready =
+        record {
+          inside = ready .inside;
+          context = ready .context;
+          space = omega (arith, ready .space);
+          steps = omega (arith, ready .steps);
+          few = omega (arith, ready .few);
+          room = room-right out at base 17 0 _ _ room-own second 2 two;
+        }
 
-    module _ (second : List ℕ) (k : second ≡ stored first (at + 8 * 1) (nodeBytes (node 22 0 j (base + 1 - 1) 0))) where
-      two : Numbered out second at base guardTree 2
-      two = numbered-setting out at base j (leaf 1 0 1 0) room-guard first 1 one second k
+    module _ (later : List ℕ) (e : Extent) (w : StatementWritten file functionStart n (j + 1) second later (at + 16) (base + 2) e) where
+      pub branch-parent : (1 ≤ 2) × ((base + 2 + e .nodes ≤ 65535) × (at + 8 * 2 + 8 * e .nodes + 8 ≤ length later))
+      branch-parent = room-above-two out at base 17 0 _ _ room-own second 2 two later (e .nodes) (w .written)
 
-      pub inside-ready : StatementReady file functionStart nodesStart n (j + 1) scratch roots second (at + 16) (base + 2)
-      inside-ready =
+      pub branch-written : (after : List ℕ) (nodes : ℕ)
+          → after ≡ stored later (at + 8 * 2 + 8 * e .nodes) (nodeBytes (node 17 0 (base + 2 - 1) (base + 2 + e .nodes - 1) 0))
+          → nodes ≡ 2 + e .nodes + 1 → BranchWritten file functionStart n j out after at base (record { nodes = nodes; next = e .next })
+      branch-written after nodes m total =
           record {
-            inside = ready .inside;
-            context = ready .context;
-            space = omega (arith, ready .space);
-            steps = omega (arith, ready .steps);
-            few = omega (arith, ready .few);
-            room = room-right out at base 17 0 _ _ room-own second 2 two;
+            written = numbered-as out at base after _ _ _ nodes tree-is total (numbered-two out at base 17 0 _ _ room-own second 2 two later (e .nodes) (w .written) after m);
+            next = omega (arith, w .next);
           }
-
-      module _ (later : List ℕ) (e : Extent) (w : StatementWritten file functionStart n (j + 1) second later (at + 16) (base + 2) e) where
-        pub branch-parent : (1 ≤ 2) × ((base + 2 + e .nodes ≤ 65535) × (at + 8 * 2 + 8 * e .nodes + 8 ≤ length later))
-        branch-parent = room-above-two out at base 17 0 _ _ room-own second 2 two later (e .nodes) (w .written)
-
-        pub branch-written : (after : List ℕ) (nodes : ℕ)
-            → after ≡ stored later (at + 8 * 2 + 8 * e .nodes) (nodeBytes (node 17 0 (base + 2 - 1) (base + 2 + e .nodes - 1) 0))
-            → nodes ≡ 2 + e .nodes + 1 → BranchWritten file functionStart n j out after at base (record { nodes = nodes; next = e .next })
-        branch-written after nodes m total =
-            record {
-              written = numbered-as out at base after _ _ _ nodes tree-is total (numbered-two out at base 17 0 _ _ room-own second 2 two later (e .nodes) (w .written) after m);
-              next = omega (arith, w .next);
-            }
 
 module _ (file : List ℕ) (functionStart nodesStart n form j : ℕ) (scratch roots out : List ℕ) (at base : ℕ) (r : NodeRecord) (same : r ≡ recordAt file nodesStart n)
     (given : BranchesReady file functionStart nodesStart n (recordAt file nodesStart n) form j scratch roots out at base) where

@@ -4,10 +4,9 @@ use rewrite_expressions::body_log;
 use rewrite_log::Position;
 use rewrite_statements::statement_log;
 use write_body_expressions::write_body_form;
+use write_guards::put_guard;
 use write_nodes::put_above_three;
 use write_nodes::put_above_two;
-use write_nodes::put_leaf;
-use write_nodes::put_setting;
 use write_stepped_statements::write_single;
 use write_steps::close_steps;
 use write_steps::put_steps;
@@ -135,8 +134,7 @@ fn write_branch(
     requires { ⌜ BranchReady (now file) «function_at» «nodes_at» n j (now scratch) (now roots) (now out) at base ⌝ }
     ensures { λ r. ⌜ BranchWritten (now (file .entry)) «function_at» n j (now (out .entry)) (now (out .exit)) at base r ⌝ }
 {
-    put_leaf(1, 0, 1, 0, out, at);
-    put_setting(j, 1, out, at, base);
+    put_guard(j, out, at, base);
     let inside = write_statement(
         file,
         function_at,

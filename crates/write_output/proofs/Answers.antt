@@ -4,12 +4,13 @@ use mathlib.Core.Bool.{Bool, true, false, cond}
 use mathlib.Core.List.{List, _++_}
 use Prim.Native.Nat.{ℕ, zero, suc, _+_, _<_, _≤_}
 use native.Mathlib.Omega.{arith}
-use borrow.Author.Tests.{lt-ltb, le-ltb, ltb-false, ne-eqb}
+use borrow.Author.Tests.{lt-ltb, le-ltb, ne-eqb}
 use lib.Dec.{eqb, ltb}
 use lib.ListN.{length, drop, length-append}
 use Rattle.definitions.specs.Basics.{twoBytes, firstThatHolds}
-use Rattle.definitions.specs.Numbers.{checkNumber, orElse}
+use Rattle.definitions.specs.Numbers.{checkNumber}
 use Rattle.definitions.specs.Rewriting.{writtenFile, writeNumber, writtenLength, outputAfterWriting}
+use Rattle.theory_laws.proofs.Rooms.{within-room}
 use Rattle.memory_buffer.specs.Buffer.{stored}
 use Rattle.memory_append.specs.Append.{Appended}
 use Rattle.write_output.specs.Answers.{Promised, HandedOut}
@@ -66,16 +67,8 @@ accepted-parts file headings nodes front back held after count number long z w f
 
 -- What is written stays inside the output.
 written-within : (file : List ℕ) (room : ℕ) → writtenLength file room ≤ room
-unfolding writtenLength writeNumber firstThatHolds
-written-within file room = go (checkNumber file) (ltb room (length (writtenFile file))) refl
-  where
-    none : (n : ℕ) (b : Bool) → eqb n 0 ≡ false → cond (eqb n 0) (length (writtenFile file)) 0 ≤ room
-    none n b e = rw e (omega arith)
-
-    go : (n : ℕ) (short : Bool) → ltb room (length (writtenFile file)) ≡ short → cond (eqb (orElse n (cond short 16 0)) 0) (length (writtenFile file)) 0 ≤ room
-    go (suc n) short e = none (suc n) short (ne-eqb (suc n) 0 (λ z. omega arith))
-    go zero true e = omega arith
-    go zero false e = ltb-false room (length (writtenFile file)) e
+unfolding writtenLength writeNumber
+written-within file room = within-room (checkNumber file) 15 room (length (writtenFile file))
 
 pub promised-within : (file held after : List ℕ) (number long : ℕ) → Promised file held after number long → long ≤ length held
 promised-within file held after number long p = let e = p .1 .0 in let w = written-within file (length held) in omega arith

@@ -1,12 +1,16 @@
 -- 01, Numbers, 16: "49,152 bytes always suffice."
-use mathlib.Core.Path.{_≡_}
+use mathlib.Core.Path.{_≡_, refl, ap}
+use mathlib.Core.Bool.{cond}
 use mathlib.Core.List.{List, [], _∷_, map}
-use Prim.Native.Nat.{ℕ, _≤_}
+use Prim.Native.Nat.{ℕ, zero, suc, _≤_}
+use borrow.Author.Tests.{le-ltb}
 use native.Mathlib.Omega.{arith}
+use lib.Dec.{ltb}
 use lib.ListN.{length, length-map}
+use Rattle.definitions.specs.Basics.{firstThatHolds}
 use Rattle.definitions.specs.ContractFile.{FunctionRecord, sectionsOf, fieldOf, Node, nodeOf, functionOf, contractOf}
-use Rattle.definitions.specs.Numbers.{checkNumber}
-use Rattle.definitions.specs.Rewriting.{writtenFile}
+use Rattle.definitions.specs.Numbers.{checkNumber, orElse}
+use Rattle.definitions.specs.Rewriting.{writtenFile, writeNumber}
 use Rattle.theory_trees.specs.Trees.{Falling}
 use Rattle.write_room.specs.Sizes.{bodiesSize}
 use Rattle.write_room.specs.Counting.{sumOf}
@@ -43,3 +47,12 @@ room-suffices file accepted =
     let f = length-map (s .fields) fieldOf in
     let g = length-map (s .functions) (functionOf nodes) in
     omega arith
+
+-- So number 16 is never given in that room: the number of writing is the file's own.
+pub room-is-never-short : (file : List ℕ) → writeNumber file 49152 ≡ checkNumber file
+unfolding writeNumber firstThatHolds
+room-is-never-short file = go (checkNumber file) refl
+  where
+    go : (n : ℕ) → checkNumber file ≡ n → orElse n (firstThatHolds 16 (ltb 49152 (length (writtenFile file)) ∷ [])) ≡ n
+    go zero e = ap (λ b. cond {A = ℕ} b 16 0) (le-ltb 49152 (length (writtenFile file)) (room-suffices file e))
+    go (suc n) e = refl

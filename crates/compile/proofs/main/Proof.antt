@@ -1,4 +1,4 @@
--- What is printed is the front of the output.
+-- What is delivered is the front of the output.
 use mathlib.Core.Path.{sym}
 use native.Mathlib.Omega.{arith}
 use lib.Seq.{length-take-le}
@@ -10,10 +10,9 @@ use Rattle.compile.proofs.main.Tie as tie
 pub main-spec : {M : Type 1} → statement M
 main-spec =
     tie.close (tie.spec
-    (λ c κs. search needs) (λ c κs. search needs) (λ c. search needs) (λ c κs. search needs) (λ c. search needs) (λ c. search needs)
-    (λ c. search needs) (λ c κs. search needs)
-    (λ c. omega (arith, promised-within _ _ _ _ _ (c .before .before .before .write .ensures)))
-    (λ c. let write = c .before .before .before .before .write in
+    (λ c κs. search needs) (λ c. search needs) (λ c. search needs) (λ c κs. search needs) (λ c κs. search needs) (λ c. search needs)
+    (λ c. search needs) (λ c. search needs) (λ c κs. search needs) (λ c. search needs)
+    (λ c. omega (arith, promised-within _ _ _ _ _ (c .before .before .before .before .write .ensures)))
+    (λ c. let write = c .before .before .before .before .before .write in
     sym (length-take-le (write .result .length) (write .last .1 .0) (omega (arith, promised-within _ _ _ _ _ (write .ensures)))))
-    (λ c κs. search needs) (λ c. search needs) (λ c κs. search needs) (λ c. search needs) (λ c κs. search needs) (λ c. search needs)
-    (λ c κs. search needs) (λ c. search needs) (λ c. search needs))
+    (λ c κs. search needs) (λ c. search needs) (λ c κs. search needs) (λ c. search needs) (λ c. search needs) (λ c. search needs))

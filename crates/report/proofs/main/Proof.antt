@@ -2,7 +2,7 @@
 use mathlib.Core.Path.{sym}
 use native.Mathlib.Omega.{arith}
 use lib.Seq.{length-take-le}
-use Rattle.report.proofs.Within.{report-within}
+use Rattle.report_contract.proofs.Texts.{reported-within}
 use borrow.Author.Needs.{needs}
 use Rattle.report.proofs.main.Statement.{statement}
 use Rattle.report.proofs.main.Tie as tie
@@ -10,9 +10,9 @@ use Rattle.report.proofs.main.Tie as tie
 pub main-spec : {M : Type 1} → statement M
 main-spec =
     tie.close (tie.spec
-    (λ c κs. search needs) (λ c κs. search needs) (λ c. search needs) (λ c κs. search needs) (λ c. search needs) (λ c. search needs)
-    (λ c. search needs) (λ c κs. search needs)
-    (λ c. omega (arith, report-within _ _ _ (c .before .report .ensures .1)))
-    (λ c. let report = c .before .before .report in
-    sym (length-take-le (report .result .length) (report .last .1 .0) (omega (arith, report-within _ _ _ (report .ensures .1)))))
-    (λ c κs. search needs) (λ c. search needs))
+    (λ c κs. search needs) (λ c. search needs) (λ c. search needs) (λ c κs. search needs) (λ c κs. search needs) (λ c. search needs)
+    (λ c. search needs) (λ c. search needs) (λ c κs. search needs) (λ c. search needs)
+    (λ c. omega (arith, reported-within _ _ _ (c .before .before .before .before .report .ensures .1)))
+    (λ c. let report = c .before .before .before .before .before .report in
+    sym (length-take-le (report .result .length) (report .last .1 .0) (omega (arith, reported-within _ _ _ (report .ensures .1)))))
+    (λ c κs. search needs) (λ c. search needs) (λ c κs. search needs) (λ c. search needs) (λ c. search needs) (λ c. search needs))

@@ -80,6 +80,40 @@ supply-log-at t = and 2 supply-log-kinds.ps (is 2 supply-log-kinds.ps μ-supply-
 abbrev supply-log-below : ℕ → In 2 supply-log-kinds.ps
 supply-log-below t = and 2 supply-log-kinds.ps (falls 2 supply-log-kinds.ps _<_ μ-supply-log t) supply-log.Pre
 
+abbrev circuit-log-claims : ℕ → circuit-log-lts.Claims
+circuit-log-claims t = (
+  read-code-reads.Asked,
+  read-code-reads.Learnt,
+  circuit-parts-log-below t,
+  circuit-parts-log.Post,
+  body-parts-log-below t,
+  body-parts-log.Post,
+  log-entry-reads.Asked,
+  log-entry-reads.Learnt,
+)
+
+abbrev supply-log-claims : ℕ → supply-log-lts.Claims
+supply-log-claims t = (log-entry-reads.Asked, log-entry-reads.Learnt, circuit-log-below t, circuit-log.Post)
+
+-- What is logged of a read and of a supply stands above the other answers: a read before its key, or a claim under another guard, is
+-- refused here first.
+read-returns : (t : ℕ) → circuit-log-lts.Need-returns-2 (circuit-log-claims t) (circuit-log-at t) circuit-log.Post
+read-returns t c =
+    let start = c .before .before .before .before .before .before .before .before .before .before .before .before in let args = start .args in
+    let (_, ready) = start .pre in
+    let read-code = c .before .before .before .before .before .before .before .before .before .read-code .ensures in
+    let if1-left = c .before .before .before .before .before .before .before .before .if1 .left in
+    let body-parts-log-2 = c .before .before .before .before .before .before .body-parts-log .ensures in
+    read-done _ _ (args .nodes-at) (args .guard) _ _ read-code _ _ if1-left ready _ _ body-parts-log-2 _ _ (c .before .before .log-entry .ensures)
+
+supply-returns : (t : ℕ) → supply-log-lts.Need-returns (supply-log-claims t) (supply-log-at t) supply-log.Post
+supply-returns t c =
+    let start = c .before .before .before .before .before .before .before .before .before .before .before .before .before .before in
+    let args-guard = start .args .guard in let (_, ready-to-supply) = start .pre in
+    let log-entry = c .before .before .before .before .before .before .before .before .before .before .log-entry .ensures in
+    let circuit-log-2 = c .before .before .before .before .before .before .circuit-log .ensures in
+    supplied-done _ _ _ _ args-guard _ (omega arith) _ _ ready-to-supply _ _ log-entry _ _ circuit-log-2 _ _ (c .before .before .log-entry2 .ensures)
+
 pub +body-log+body-parts-log+circuit-log+circuit-parts-log+supply-log-spec :
     {M : Type 1} → statement M
 +body-log+body-parts-log+circuit-log+circuit-parts-log+supply-log-spec =
@@ -133,16 +167,7 @@ pub +body-log+body-parts-log+circuit-log+circuit-parts-log+supply-log-spec :
     let if1-left = c .before .before .before .before .before .before .before .before .before .before .if1 .left in
     let body-log-2 = c .before .before .before .before .before .before .before .before .body-log .ensures in
     two-logged _ _ _ _ _ _ parts-of _ _ ready if1-left _ _ body-log-2 (c .before .before .before .before .if2 .left) _ _ (c .before .before .body-log2 .ensures)))
-    (λ t. circuit-log-lts.spec (
-      read-code-reads.Asked,
-      read-code-reads.Learnt,
-      circuit-parts-log-below t,
-      circuit-parts-log.Post,
-      body-parts-log-below t,
-      body-parts-log.Post,
-      log-entry-reads.Asked,
-      log-entry-reads.Learnt,
-    )
+    (λ t. circuit-log-lts.spec (circuit-log-claims t)
     (circuit-log-at t) circuit-log.Post
     (λ c κs. let (_, ready) = c .before .before .pre in (ready .inside, ready .context))
     (λ c κs. let start = c .before .before .before .before .before in let args = start .args in let (_, ready) = start .pre in
@@ -160,12 +185,7 @@ pub +body-log+body-parts-log+circuit-log+circuit-parts-log+supply-log-spec :
     let read-code = c .before .before .before .before .before .read-code .ensures in
     circuit-logged _ _ (args .nodes-at) (args .guard) _ _ read-code _ _ _ _ (c .before .before .before .before .if1 .taken) (c .before .before .circuit-parts-log .ensures))
     (λ c. c .before .before .log-entry .kept .0 ∙ c .before .before .before .before .before .before .body-parts-log .kept .1 .1 .1 .1 .1 .0)
-    (λ c. let start = c .before .before .before .before .before .before .before .before .before .before .before .before in let args = start .args in
-    let (_, ready) = start .pre in
-    let read-code = c .before .before .before .before .before .before .before .before .before .read-code .ensures in
-    let if1-left = c .before .before .before .before .before .before .before .before .if1 .left in
-    let body-parts-log-2 = c .before .before .before .before .before .before .body-parts-log .ensures in
-    read-done _ _ (args .nodes-at) (args .guard) _ _ read-code _ _ if1-left ready _ _ body-parts-log-2 _ _ (c .before .before .log-entry .ensures)))
+    (read-returns t))
     (λ t. circuit-parts-log-lts.spec (parts-of-reads.Asked, parts-of-reads.Learnt, circuit-log-below t, circuit-log.Post)
     (circuit-parts-log-at t) circuit-parts-log.Post
     (λ c κs. let (_, ready) = c .before .before .pre in (ready .inside, ready .context))
@@ -192,8 +212,7 @@ pub +body-log+body-parts-log+circuit-log+circuit-parts-log+supply-log-spec :
     let if1-left = c .before .before .before .before .before .before .before .before .before .before .if1 .left in
     let circuit-log-2 = c .before .before .before .before .before .before .before .before .circuit-log .ensures in
     two-logged _ _ _ _ _ _ parts-of _ _ ready if1-left _ _ circuit-log-2 (c .before .before .before .before .if2 .left) _ _ (c .before .before .circuit-log2 .ensures)))
-    λ t. supply-log-lts.spec
-    (log-entry-reads.Asked, log-entry-reads.Learnt, circuit-log-below t, circuit-log.Post)
+    λ t. supply-log-lts.spec (supply-log-claims t)
     (supply-log-at t) supply-log.Post
     (λ c κs. let start = c .before .before .before in let args-guard = start .args .guard in let (_, ready-to-supply) = start .pre in
     (variable-slot _ _ _ _ args-guard _ (omega arith) _ _ ready-to-supply, variable-small _ _ _ _ args-guard _ (omega arith) _ _ ready-to-supply))
@@ -208,8 +227,4 @@ pub +body-log+body-parts-log+circuit-log+circuit-parts-log+supply-log-spec :
     (λ c. let log-entry-kept = c .before .before .before .before .before .before .before .before .before .before .log-entry .kept .0 in
     let circuit-log-kept = c .before .before .before .before .before .before .circuit-log .kept .1 .1 .1 .1 .1 .0 in
     c .before .before .log-entry2 .kept .0 ∙ circuit-log-kept ∙ log-entry-kept)
-    (λ c. let start = c .before .before .before .before .before .before .before .before .before .before .before .before .before .before in
-    let args-guard = start .args .guard in let (_, ready-to-supply) = start .pre in
-    let log-entry = c .before .before .before .before .before .before .before .before .before .before .log-entry .ensures in
-    let circuit-log-2 = c .before .before .before .before .before .before .circuit-log .ensures in
-    supplied-done _ _ _ _ args-guard _ (omega arith) _ _ ready-to-supply _ _ log-entry _ _ circuit-log-2 _ _ (c .before .before .log-entry2 .ensures))
+    (supply-returns t)

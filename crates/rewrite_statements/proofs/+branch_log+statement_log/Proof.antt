@@ -38,13 +38,43 @@ statement-log-at t = and 2 statement-log-kinds.ps (is 2 statement-log-kinds.ps �
 abbrev statement-log-below : ℕ → In 2 statement-log-kinds.ps
 statement-log-below t = and 2 statement-log-kinds.ps (falls 2 statement-log-kinds.ps _<_ μ-statement-log t) statement-log.Pre
 
-pub +branch-log+statement-log-spec : {M : Type 1} → statement M
-+branch-log+statement-log-spec = close μ-branch-log μ-statement-log (λ t. branch-log-lts.spec (
-  log-entry-reads.Asked,
-  log-entry-reads.Learnt,
+abbrev branch-log-claims : ℕ → branch-log-lts.Claims
+branch-log-claims t = (log-entry-reads.Asked, log-entry-reads.Learnt, statement-log-below t, statement-log.Post)
+
+abbrev statement-log-claims : ℕ → statement-log-lts.Claims
+statement-log-claims t = (
+  node-at-reads.Asked,
+  node-at-reads.Learnt,
   statement-log-below t,
   statement-log.Post,
+  assign-field-log-reads.Asked,
+  assign-field-log-reads.Learnt,
+  assign-entry-log-reads.Asked,
+  assign-entry-log-reads.Learnt,
+  body-log-reads.Asked,
+  body-log-reads.Learnt,
+  branch-log-below t,
+  branch-log.Post,
 )
+
+-- What is logged of a branch and of a sequence stands above the other answers: another guard or order is refused here first.
+branch-returns : (t : ℕ) → branch-log-lts.Need-returns (branch-log-claims t) (branch-log-at t) branch-log.Post
+branch-returns t c =
+    let (_, ready) = c .before .before .before .before .before .before .before .before .before .before .pre in
+    let log-entry = c .before .before .before .before .before .before .log-entry .ensures in
+    branch-done _ _ _ _ _ _ ready _ _ log-entry _ _ (c .before .before .statement-log .ensures)
+
+sequence-returns : (t : ℕ) → statement-log-lts.Need-returns (statement-log-claims t) (statement-log-at t) statement-log.Post
+sequence-returns t c =
+    let start = c .before .before .before .before .before .before .before .before .before .before .before .before in
+    let args-guard = start .args .guard in let (_, ready) = start .pre in
+    let node-at-same = c .before .before .before .before .before .before .before .before .before .node-at .ensures .same in
+    let match-keys1 = c .before .before .before .before .before .before .before .before .match .keys1 in
+    let statement-log-2 = c .before .before .before .before .before .before .statement-log .ensures in
+    sequence-logged _ _ _ args-guard _ _ _ ready _ node-at-same match-keys1 _ _ statement-log-2 _ _ (c .before .before .statement-log2 .ensures)
+
+pub +branch-log+statement-log-spec : {M : Type 1} → statement M
++branch-log+statement-log-spec = close μ-branch-log μ-statement-log (λ t. branch-log-lts.spec (branch-log-claims t)
     (branch-log-at t) branch-log.Post
     (λ c κs. let (_, ready) = c .before .before .before .pre in (guard-slot _ _ _ _ _ _ ready, guard-small _ _ _ _ _ _ ready))
     (λ c. let (_, ready) = c .before .before .before .before .before .before .pre in omega (arith, guard-slot _ _ _ _ _ _ ready .few))
@@ -52,23 +82,8 @@ pub +branch-log+statement-log-spec : {M : Type 1} → statement M
     (λ c κs. let (_, ready) = c .before .before .before .before .before .before .before .pre in
     (omega arith, inside-ready _ _ _ _ _ _ ready _ _ (c .before .before .before .log-entry .ensures)))
     (λ c. c .before .before .statement-log .kept .1 .1 .1 .1 .1 .0 ∙ c .before .before .before .before .before .before .log-entry .kept .0)
-    (λ c. let (_, ready) = c .before .before .before .before .before .before .before .before .before .before .pre in
-    let log-entry = c .before .before .before .before .before .before .log-entry .ensures in
-    branch-done _ _ _ _ _ _ ready _ _ log-entry _ _ (c .before .before .statement-log .ensures)))
-    λ t. statement-log-lts.spec (
-      node-at-reads.Asked,
-      node-at-reads.Learnt,
-      statement-log-below t,
-      statement-log.Post,
-      assign-field-log-reads.Asked,
-      assign-field-log-reads.Learnt,
-      assign-entry-log-reads.Asked,
-      assign-entry-log-reads.Learnt,
-      body-log-reads.Asked,
-      body-log-reads.Learnt,
-      branch-log-below t,
-      branch-log.Post,
-    )
+    (branch-returns t))
+    λ t. statement-log-lts.spec (statement-log-claims t)
     (statement-log-at t) statement-log.Post
     (λ c κs. let (_, ready) = c .before .before .pre in (ready .context .nearNodes, omega (arith, ready .inside, ready .context .fewNodes)))
     (λ c κs. let start = c .before .before .before .before .before in let args-guard = start .args .guard in let (_, ready) = start .pre in
@@ -99,12 +114,7 @@ pub +branch-log+statement-log-spec : {M : Type 1} → statement M
     let body-log2 = c .before .before .before .before .before .before .before .body-log2 .ensures in
     let less = branches-less _ _ _ args-guard _ _ _ ready _ node-at-same match-keys5 in (omega arith, else-ready _ _ _ args-guard _ _ _ ready _ node-at-same match-keys5 _ _ body-log2 _ _ (c .before .before .before .branch-log .ensures)))
     (λ c. c .before .before .statement-log2 .kept .1 .1 .1 .1 .1 .0 ∙ c .before .before .before .before .before .before .statement-log .kept .1 .1 .1 .1 .1 .0)
-    (λ c. let start = c .before .before .before .before .before .before .before .before .before .before .before .before in
-    let args-guard = start .args .guard in let (_, ready) = start .pre in
-    let node-at-same = c .before .before .before .before .before .before .before .before .before .node-at .ensures .same in
-    let match-keys1 = c .before .before .before .before .before .before .before .before .match .keys1 in
-    let statement-log-2 = c .before .before .before .before .before .before .statement-log .ensures in
-    sequence-logged _ _ _ args-guard _ _ _ ready _ node-at-same match-keys1 _ _ statement-log-2 _ _ (c .before .before .statement-log2 .ensures))
+    (sequence-returns t)
     (λ c. c .before .before .assign-field-log .kept .1 .1 .1 .1 .1 .1 .0)
     (λ c. let start = c .before .before .before .before .before .before .before .before in let args-guard = start .args .guard in
     let (_, ready) = start .pre in let node-at-same = c .before .before .before .before .before .node-at .ensures .same in

@@ -47,7 +47,7 @@ pub +learn-spec : {M : Type 1} → statement M
     let inside = s .pre .1 .0 in
     let h = right-below _ (s .pre .1 .1 .settled) _ _ (here t (c .before .before .before)) (c .before .before .if1 .taken) in
     (omega arith, s .pre .1 .1))
-    (λ c κs. (c .before .judge .ensures .nameListed, c .judge2 .ensures .nameListed))
+    (λ c κs. search needs)
     (λ c κs. let s = c .before .before .before .before in
     let inside = s .pre .1 .0 in
     let h = left-below _ (s .pre .1 .1 .settled) _ _ (here t (c .before .before)) (c .before .if1 .taken) in

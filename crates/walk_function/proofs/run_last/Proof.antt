@@ -1,5 +1,6 @@
 -- The parts that are lent have the lengths asked for, and the last node is among them.
 use mathlib.Core.Path.{sym}
+use native.Mathlib.Omega.{arith}
 use lib.Seq.{length-take-le}
 use Rattle.walk_function.proofs.Fronts.{last-below}
 use borrow.Author.Needs.{needs}
@@ -11,7 +12,8 @@ run-last-spec =
     tie.close (tie.spec
     (λ c. search needs) (λ c. search needs)
     (λ c. let s = c .before .before .before .before .before .before .before .before in sym (length-take-le _ (s .args .nodes .now) (s .pre .bytes)))
-    (λ c. let s = c .before .before .before .before .before .before .before .before .before in sym (length-take-le _ (s .args .numbers .now) (s .pre .space)))
+    (λ c. let s = c .before .before .before .before .before .before .before .before .before in let space = s .pre .space in
+    sym (length-take-le _ (s .args .numbers .now) (omega arith)))
     (λ c. search needs)
     (λ c κs. let s = c .before .before .before .before .before .before .before .before .before .before .before in
     (last-below (s .args .nodes .now) (s .args .count) (s .pre .some) (s .pre .bytes), (s .pre .readable, s .pre .fewFields)))

@@ -8,7 +8,7 @@ use borrow.Rule.Slice.PartMut.{putMid, take-put}
 use Rattle.theory_laws.proofs.Records.{kind-as}
 use Rattle.write_bodies.proofs.Logged.{others-simple}
 use Rattle.write_bodies.proofs.Sequences.{parts-less, first-ready, second-room, second-ready, parent-ready, sequence-written}
-use Rattle.write_bodies.proofs.Branches.{leaf-room, guard-room, inside-ready, branch-parent, branch-written, branches-less, then-ready, else-room, else-ready, branches-parent, branches-written}
+use Rattle.write_bodies.proofs.Branches.{guard-room, inside-ready, branch-parent, branch-written, branches-less, then-ready, else-room, else-ready, branches-parent, branches-written}
 use Rattle.write_bodies.proofs.Conditionals.{condition-ready, condition-fits, branches-ready, close-room, conditional-written}
 use Prim.Native.Nat.{ℕ, _<_}
 use borrow.Fn.Kinds.{In}
@@ -31,10 +31,9 @@ use Rattle.write_bodies.proofs.+write_branch+write_branches+write_condi
 use Rattle.write_bodies.proofs.write_condition.Reads as write-condition-reads
 use Rattle.write_bodies.proofs.write_simple.Reads as write-simple-reads
 use Rattle.file_bytes.proofs.node_at.Reads as node-at-reads
+use Rattle.write_guards.proofs.put_guard.Reads as put-guard-reads
 use Rattle.write_nodes.proofs.put_above_three.Reads as put-above-three-reads
 use Rattle.write_nodes.proofs.put_above_two.Reads as put-above-two-reads
-use Rattle.write_nodes.proofs.put_leaf.Reads as put-leaf-reads
-use Rattle.write_nodes.proofs.put_setting.Reads as put-setting-reads
 use Rattle.write_steps.proofs.close_steps.Reads as close-steps-reads
 use Rattle.write_bodies.proofs.+write_branch+write_branches+write_conditional+write_sequence+write_statement.{statement}
 use Rattle.write_bodies.proofs.+write_branch+write_branches+write_conditional+write_sequence+write_statement.Tie.{close}
@@ -90,7 +89,7 @@ abbrev write-statement-below : ℕ → In 4 write-statement-kinds.ps
 write-statement-below t = and 4 write-statement-kinds.ps (falls 4 write-statement-kinds.ps _<_ μ-write-statement t) write-statement.Pre
 
 abbrev write-branch-claims : ℕ → write-branch-lts.Claims
-write-branch-claims t = (put-leaf-reads.Asked, put-leaf-reads.Learnt, put-setting-reads.Asked, put-setting-reads.Learnt, write-statement-below t, write-statement.Post, put-above-two-reads.Asked, put-above-two-reads.Learnt)
+write-branch-claims t = (put-guard-reads.Asked, put-guard-reads.Learnt, write-statement-below t, write-statement.Post, put-above-two-reads.Asked, put-above-two-reads.Learnt)
 
 abbrev write-branches-claims : ℕ → write-branches-lts.Claims
 write-branches-claims t = (node-at-reads.Asked, node-at-reads.Learnt, write-branch-below t, write-branch.Post, put-above-three-reads.Asked, put-above-three-reads.Learnt)
@@ -114,47 +113,39 @@ pub +write-branch+write-branches+write-conditional+write-sequence+write-statemen
 +write-branch+write-branches+write-conditional+write-sequence+write-statement-spec =
     close μ-write-branch μ-write-branches μ-write-conditional μ-write-sequence μ-write-statement
     (λ t. write-branch-lts.spec (write-branch-claims t) (write-branch-at t) write-branch.Post
-    (λ c κs. let (_, branch-ready) = c .before .before .before .before .before .pre in leaf-room _ _ _ _ _ _ _ _ _ _ branch-ready)
-    (λ c κs. let (_, branch-ready) = c .before .before .before .before .before .before .before .before .before .pre in
-    guard-room _ _ _ _ _ _ _ _ _ _ branch-ready _ (c .before .before .before .put-leaf .ensures .0))
-    (λ c. let (_, branch-ready) = c .before .before .before .before .before .before .before .before .before .before .before .before .pre in
-    let put-leaf = c .before .before .before .before .before .before .put-leaf .ensures .0 in
-    let ready = inside-ready _ _ _ _ _ _ _ _ _ _ branch-ready _ put-leaf _ (c .before .before .put-setting .ensures .0) in
+    (λ c κs. let (_, branch-ready) = c .before .before .before .before .before .pre in
+    guard-room _ _ _ _ _ _ _ _ _ _ branch-ready)
+    (λ c. let (_, branch-ready) = c .before .before .before .before .before .before .before .before .pre in
+    let ready = inside-ready _ _ _ _ _ _ _ _ _ _ branch-ready _ _ (c .before .before .put-guard .ensures) in
     omega (arith, ready .few))
-    (λ c. let good = c .before .before .before .before .before .before .before .before .before .before .before .before .before .before .before .good .1 .1 .1 .1 .1 .1 .1 .0 in
-    let (_, branch-ready) = c .before .before .before .before .before .before .before .before .before .before .before .before .before .before .before .pre in
-    let put-leaf = c .before .before .before .before .before .before .before .before .before .put-leaf in
-    let put-setting = c .before .before .before .before .before .put-setting in
-    let ready = inside-ready _ _ _ _ _ _ _ _ _ _ branch-ready _ (put-leaf .ensures .0) _ (put-setting .ensures .0) in
+    (λ c. let good = c .before .before .before .before .before .before .before .before .before .before .before .good .1 .1 .1 .1 .1 .1 .1 .0 in
+    let (_, branch-ready) = c .before .before .before .before .before .before .before .before .before .before .before .pre in
+    let put-guard = c .before .before .before .before .before .put-guard in
+    let ready = inside-ready _ _ _ _ _ _ _ _ _ _ branch-ready _ _ (put-guard .ensures) in
     let room = ready .room in
-    omega (arith, room .bytes, put-setting .kept .1 .1 .0, put-leaf .kept .1 .1 .1 .1 .0, good))
-    (λ c. let (_, branch-ready) = c .before .before .before .before .before .before .before .before .before .before .before .before .before .before .before .pre in
-    let put-leaf = c .before .before .before .before .before .before .before .before .before .put-leaf .ensures .0 in
-    let put-setting = c .before .before .before .before .before .put-setting .ensures .0 in
-    let ready = inside-ready _ _ _ _ _ _ _ _ _ _ branch-ready _ put-leaf _ put-setting in
+    omega (arith, room .bytes, put-guard .kept .1 .0, good))
+    (λ c. let (_, branch-ready) = c .before .before .before .before .before .before .before .before .before .before .before .pre in
+    let put-guard = c .before .before .before .before .before .put-guard .ensures in
+    let ready = inside-ready _ _ _ _ _ _ _ _ _ _ branch-ready _ _ put-guard in
     let room = ready .room in
     omega (arith, room .numbers))
-    (λ c κs. let (measure, branch-ready) = c .before .before .before .before .before .before .before .before .before .before .before .before .before .before .before .pre in
-    let put-leaf = c .before .before .before .before .before .before .before .before .before .put-leaf .ensures .0 in
-    let put-setting = c .before .before .before .before .before .put-setting .ensures .0 in
-    (omega arith, inside-ready _ _ _ _ _ _ _ _ _ _ branch-ready _ put-leaf _ put-setting))
-    (λ c κs. let (_, branch-ready) = c .before .before .before .before .before .before .before .before .before .before .before .before .before .before .before .before .before .before .before .before .before .before .before .pre in
-    let put-leaf = c .before .before .before .before .before .before .before .before .before .before .before .before .before .before .before .before .before .put-leaf .ensures .0 in
-    let put-setting = c .before .before .before .before .before .before .before .before .before .before .before .before .before .put-setting .ensures .0 in
+    (λ c κs. let (measure, branch-ready) = c .before .before .before .before .before .before .before .before .before .before .before .pre in
+    let put-guard = c .before .before .before .before .before .put-guard .ensures in
+    (omega arith, inside-ready _ _ _ _ _ _ _ _ _ _ branch-ready _ _ put-guard))
+    (λ c κs. let (_, branch-ready) = c .before .before .before .before .before .before .before .before .before .before .before .before .before .before .before .before .before .before .before .pre in
+    let put-guard = c .before .before .before .before .before .before .before .before .before .before .before .before .before .put-guard .ensures in
     let write-statement-2 = c .before .before .before .before .before .before .before .write-statement .ensures in
-    branch-parent _ _ _ _ _ _ _ _ _ _ branch-ready _ put-leaf _ put-setting _ _ write-statement-2)
+    branch-parent _ _ _ _ _ _ _ _ _ _ branch-ready _ _ put-guard _ _ write-statement-2)
     (λ c. c .before .before .before .before .before .before .before .before .before .before .write-statement .kept .1 .1 .1 .1 .1 .0)
     (λ c. c .before .before .before .before .before .before .before .before .before .before .write-statement .kept .1 .1 .1 .1 .1 .1 .0)
-    (λ c. let put-leaf-kept = c .before .before .before .before .before .before .before .before .before .before .before .before .before .before .before .before .before .before .before .before .put-leaf .kept .1 .1 .1 .1 .0 in
-    let put-setting-kept = c .before .before .before .before .before .before .before .before .before .before .before .before .before .before .before .before .put-setting .kept .1 .1 .0 in
+    (λ c. let put-guard-kept = c .before .before .before .before .before .before .before .before .before .before .before .before .before .before .before .before .put-guard .kept .1 .0 in
     let write-statement-kept = c .before .before .before .before .before .before .before .before .before .before .write-statement .kept .1 .1 .1 .1 .1 .1 .1 .0 in
-    c .before .before .put-above-two .kept .1 .1 .1 .1 .0 ∙ write-statement-kept ∙ put-setting-kept ∙ put-leaf-kept)
-    (λ c. let (_, branch-ready) = c .before .before .before .before .before .before .before .before .before .before .before .before .before .before .before .before .before .before .before .before .before .before .before .before .before .before .pre in
-    let put-leaf = c .before .before .before .before .before .before .before .before .before .before .before .before .before .before .before .before .before .before .before .before .put-leaf .ensures .0 in
-    let put-setting = c .before .before .before .before .before .before .before .before .before .before .before .before .before .before .before .before .put-setting .ensures .0 in
+    c .before .before .put-above-two .kept .1 .1 .1 .1 .0 ∙ write-statement-kept ∙ put-guard-kept)
+    (λ c. let (_, branch-ready) = c .before .before .before .before .before .before .before .before .before .before .before .before .before .before .before .before .before .before .before .before .before .before .pre in
+    let put-guard = c .before .before .before .before .before .before .before .before .before .before .before .before .before .before .before .before .put-guard .ensures in
     let write-statement-2 = c .before .before .before .before .before .before .before .before .before .before .write-statement .ensures in
     let put-above-two = c .before .before .put-above-two .ensures in
-    branch-written _ _ _ _ _ _ _ _ _ _ branch-ready _ put-leaf _ put-setting _ _ write-statement-2 _ _ (put-above-two .0) (put-above-two .1)))
+    branch-written _ _ _ _ _ _ _ _ _ _ branch-ready _ _ put-guard _ _ write-statement-2 _ _ (put-above-two .0) (put-above-two .1)))
     (λ t. write-branches-lts.spec (write-branches-claims t) (write-branches-at t) write-branches.Post
     (λ c κs. let (_, branches-ready-2) = c .before .before .before .before .pre in
     (branches-ready-2 .context .nearNodes, omega (arith, branches-ready-2 .inside, branches-ready-2 .context .fewNodes)))

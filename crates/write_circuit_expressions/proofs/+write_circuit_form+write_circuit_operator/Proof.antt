@@ -180,25 +180,25 @@ pub +write-circuit-form+write-circuit-operator-spec : {M : Type 1} → statement
     let is-public-division = c .before .before .before .is-public-division .ensures in let if1-left = c .before .before .if1 .left in
     let less = operands-below _ _ _ context _ n-bound _ node-at-same (kind-as _ _ 6 (sym node-at-same) kind-at-is) in
     let count = operator-variables _ _ _ context _ n-bound _ node-at-same _ is-public-division if1-left (kind-as _ _ 6 (sym node-at-same) kind-at-is) in
-    (omega arith, (omega arith, (context, (omega (arith, i-bound), room-left _ _ _ _ _ _ _ (room-as _ _ _ _ _ (operator-circuit _ _ _ context _ n-bound _ node-at-same _ is-public-division if1-left _ (kind-as _ _ 6 (sym node-at-same) kind-at-is) _ (c .before .circuit-count .ensures)) room))))))
+    (omega arith, (omega arith, (context, (omega (arith, i-bound), room-left _ _ _ _ _ _ _ (room-as _ _ _ _ _ (operator-circuit _ _ _ context _ n-bound _ node-at-same _ is-public-division if1-left _ (kind-as _ _ 6 (sym node-at-same) kind-at-is) _ refl) room))))))
     (λ c. let (_, (kind-at-is, (n-bound, (context, (_, room))))) = c .before .before .before .before .before .before .before .before .before .before .before .pre in
     let node-at-same = c .before .before .before .before .before .before .before .before .node-at .ensures .same in
     let is-public-division = c .before .before .before .before .before .before .is-public-division .ensures in
     let if1-left = c .before .before .before .before .before .if1 .left in
-    let right = room-right _ _ _ _ _ _ _ (room-as _ _ _ _ _ (operator-circuit _ _ _ context _ n-bound _ node-at-same _ is-public-division if1-left _ (kind-as _ _ 6 (sym node-at-same) kind-at-is) _ (c .before .before .before .before .circuit-count .ensures)) room) _ _ (c .before .before .write-circuit-form .ensures) in
+    let right = room-right _ _ _ _ _ _ _ (room-as _ _ _ _ _ (operator-circuit _ _ _ context _ n-bound _ node-at-same _ is-public-division if1-left _ (kind-as _ _ 6 (sym node-at-same) kind-at-is) _ refl) room) _ _ (c .before .before .write-circuit-form .ensures) in
     omega (arith, right .numbers))
     (λ c. let good = c .before .before .before .before .before .before .before .before .before .before .before .good in
     let (_, (kind-at-is, (n-bound, (context, (_, room))))) = c .before .before .before .before .before .before .before .before .before .before .before .pre in
     let node-at-same = c .before .before .before .before .before .before .before .before .node-at .ensures .same in
     let is-public-division = c .before .before .before .before .before .before .is-public-division .ensures in
     let if1-left = c .before .before .before .before .before .if1 .left in
-    let right = room-right _ _ _ _ _ _ _ (room-as _ _ _ _ _ (operator-circuit _ _ _ context _ n-bound _ node-at-same _ is-public-division if1-left _ (kind-as _ _ 6 (sym node-at-same) kind-at-is) _ (c .before .before .before .before .circuit-count .ensures)) room) _ _ (c .before .before .write-circuit-form .ensures) in
+    let right = room-right _ _ _ _ _ _ _ (room-as _ _ _ _ _ (operator-circuit _ _ _ context _ n-bound _ node-at-same _ is-public-division if1-left _ (kind-as _ _ 6 (sym node-at-same) kind-at-is) _ refl) room) _ _ (c .before .before .write-circuit-form .ensures) in
     omega (arith, right .bytes, good))
     (λ c. let (_, (kind-at-is, (n-bound, (context, (_, room))))) = c .before .before .before .before .before .before .before .before .before .before .before .pre in
     let node-at-same = c .before .before .before .before .before .before .before .before .node-at .ensures .same in
     let is-public-division = c .before .before .before .before .before .before .is-public-division .ensures in
     let if1-left = c .before .before .before .before .before .if1 .left in
-    let right = room-right _ _ _ _ _ _ _ (room-as _ _ _ _ _ (operator-circuit _ _ _ context _ n-bound _ node-at-same _ is-public-division if1-left _ (kind-as _ _ 6 (sym node-at-same) kind-at-is) _ (c .before .before .before .before .circuit-count .ensures)) room) _ _ (c .before .before .write-circuit-form .ensures) in
+    let right = room-right _ _ _ _ _ _ _ (room-as _ _ _ _ _ (operator-circuit _ _ _ context _ n-bound _ node-at-same _ is-public-division if1-left _ (kind-as _ _ 6 (sym node-at-same) kind-at-is) _ refl) room) _ _ (c .before .before .write-circuit-form .ensures) in
     omega (arith, right .numbers))
     (λ c κs. let (_, (kind-at-is, (n-bound, (context, (i-bound, room))))) = c .before .before .before .before .before .before .before .before .before .before .before .before .pre in
     let node-at-same = c .before .before .before .before .before .before .before .before .before .node-at .ensures .same in

@@ -26,6 +26,17 @@ put-circuits-below t = and 4 put-circuits-kinds.ps (falls 4 put-circuits-kinds.p
 abbrev put-circuits-claims : ℕ → put-circuits-lts.Claims
 put-circuits-claims t = (put-circuit-reads.Asked, put-circuit-reads.Learnt, put-claim-reads.Asked, put-claim-reads.Learnt, put-circuits-below t, put-circuits.Post)
 
+-- What is put for a claim stands above the other answers: another root, or numbers in another place, are refused here first.
+claim-returns : (t : ℕ) → put-circuits-lts.Need-returns-2 (put-circuits-claims t) (put-circuits-at t) put-circuits.Post
+claim-returns t c =
+    let (_, (_, (_, circuits-room))) = c .before .before .before .before .before .before .before .before .before .before .before .before .before .before .before .before .before .before .before .before .before .before .before .before .pre in
+    let if1-left = c .before .before .before .before .before .before .before .before .before .before .before .before .before .before .before .before .before .before .before .if1 .left in
+    let if2-taken = c .before .before .before .before .before .before .before .before .before .before .before .before .before .before .before .before .before .if2 .taken in
+    let put-circuit = c .before .before .before .before .before .before .before .before .before .before .before .before .before .before .before .put-circuit .ensures in
+    let put-claim = c .before .before .before .before .before .before .before .before .before .before .before .put-claim .ensures in
+    let put-circuits-2 = c .before .before .before .before .before .before .put-circuits .ensures in
+    put-same _ _ _ _ _ _ _ _ _ _ (claims-claim _ _ _ _ _ if1-left if2-taken) (put-first _ _ _ _ _ _ _ (room-same _ _ _ _ _ _ _ (claims-claim _ _ _ _ _ if1-left if2-taken) circuits-room) _ _ _ (record { circuit = put-circuit; claim = put-claim }) _ _ _ put-circuits-2)
+
 pub +put-circuits-spec : {M : Type 1} → statement M
 +put-circuits-spec =
     close μ-put-circuits
@@ -125,13 +136,7 @@ pub +put-circuits-spec : {M : Type 1} → statement M
     (λ c. let put-circuit-kept = c .before .before .before .before .before .before .before .before .before .before .before .before .before .before .before .put-circuit .kept .1 .1 .1 .1 .1 .0 in
     let put-circuits-kept = c .before .before .before .before .before .before .put-circuits .kept .1 .1 .1 .1 .1 .1 .1 .1 .0 in
     put-circuits-kept ∙ put-circuit-kept)
-    (λ c. let (_, (_, (_, circuits-room))) = c .before .before .before .before .before .before .before .before .before .before .before .before .before .before .before .before .before .before .before .before .before .before .before .before .pre in
-    let if1-left = c .before .before .before .before .before .before .before .before .before .before .before .before .before .before .before .before .before .before .before .if1 .left in
-    let if2-taken = c .before .before .before .before .before .before .before .before .before .before .before .before .before .before .before .before .before .if2 .taken in
-    let put-circuit = c .before .before .before .before .before .before .before .before .before .before .before .before .before .before .before .put-circuit .ensures in
-    let put-claim = c .before .before .before .before .before .before .before .before .before .before .before .put-claim .ensures in
-    let put-circuits-2 = c .before .before .before .before .before .before .put-circuits .ensures in
-    put-same _ _ _ _ _ _ _ _ _ _ (claims-claim _ _ _ _ _ if1-left if2-taken) (put-first _ _ _ _ _ _ _ (room-same _ _ _ _ _ _ _ (claims-claim _ _ _ _ _ if1-left if2-taken) circuits-room) _ _ _ (record { circuit = put-circuit; claim = put-claim }) _ _ _ put-circuits-2))
+    (claim-returns t)
     (λ c. c .before .before .before .before .put-circuits2 .kept .1 .1 .1 .1 .1 .1 .0)
     (λ c. c .before .before .before .before .put-circuits2 .kept .1 .1 .1 .1 .1 .1 .1 .1 .0)
     (λ c. let if1-left = c .before .before .before .before .before .before .before .before .before .if1 .left in

@@ -5,6 +5,18 @@ use borrow.Author.Needs.{needs}
 use Rattle.write_function_bodies.proofs.write_passage.Statement.{statement}
 use Rattle.write_function_bodies.proofs.write_passage.Tie as tie
 
+-- What is written with a verify stands above the other answers: another node in its place is refused here first.
+returns : tie.Need-returns
+returns c =
+    let pre = c .before .before .before .before .before .before .before .before .before .before .before .before .before .before .before .before .before .before .before .before .before .before .before .before .before .pre in
+    let function-end = c .before .before .before .before .before .before .before .before .before .before .before .before .before .before .before .before .before .before .before .before .function-end .ensures .0 in
+    let two-bytes-at = c .before .before .before .before .before .before .before .before .before .before .before .before .before .before .before .before .before .before .before .two-bytes-at .ensures .0 in
+    let write-statement = c .before .before .before .before .before .before .before .before .before .before .before .before .before .before .before .write-statement .ensures in
+    let if1-taken = c .before .before .before .before .before .before .before .before .if1 .taken in
+    let put-leaf = c .before .before .before .before .before .before .put-leaf .ensures .0 in
+    let put-above-two = c .before .before .put-above-two .ensures in
+    verified-written _ _ _ _ _ _ _ _ _ _ pre _ _ function-end two-bytes-at _ _ write-statement if1-taken _ put-leaf _ _ (put-above-two .0) (put-above-two .1)
+
 pub write-passage-spec : {M : Type 1} → statement M
 write-passage-spec =
     tie.close (tie.spec
@@ -36,14 +48,7 @@ write-passage-spec =
     let if1-taken = c .before .before .before .before .before .if1 .taken in
     verified-parent _ _ _ _ _ _ _ _ _ _ pre _ _ function-end two-bytes-at _ _ write-statement if1-taken _ (c .before .before .before .put-leaf .ensures .0))
     (λ c. search needs) (λ c. search needs) (λ c. search needs)
-    (λ c. let pre = c .before .before .before .before .before .before .before .before .before .before .before .before .before .before .before .before .before .before .before .before .before .before .before .before .before .pre in
-    let function-end = c .before .before .before .before .before .before .before .before .before .before .before .before .before .before .before .before .before .before .before .before .function-end .ensures .0 in
-    let two-bytes-at = c .before .before .before .before .before .before .before .before .before .before .before .before .before .before .before .before .before .before .before .two-bytes-at .ensures .0 in
-    let write-statement = c .before .before .before .before .before .before .before .before .before .before .before .before .before .before .before .write-statement .ensures in
-    let if1-taken = c .before .before .before .before .before .before .before .before .if1 .taken in
-    let put-leaf = c .before .before .before .before .before .before .put-leaf .ensures .0 in
-    let put-above-two = c .before .before .put-above-two .ensures in
-    verified-written _ _ _ _ _ _ _ _ _ _ pre _ _ function-end two-bytes-at _ _ write-statement if1-taken _ put-leaf _ _ (put-above-two .0) (put-above-two .1))
+    returns
     (λ c. search needs) (λ c. search needs) (λ c. search needs)
     (λ c. let pre = c .before .before .before .before .before .before .before .before .before .before .before .before .before .before .before .before .before .pre in
     let function-end = c .before .before .before .before .before .before .before .before .before .before .before .before .function-end .ensures .0 in

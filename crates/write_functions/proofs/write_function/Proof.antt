@@ -1,6 +1,7 @@
 -- The circuits, then the body, then the heading.
-use mathlib.Core.Path.{refl, _∙_}
+use mathlib.Core.Path.{_∙_}
 use native.Mathlib.Omega.{arith}
+use borrow.Author.Needs.{needs}
 use Rattle.write_functions.proofs.Functions.{circuits-ready, nodes-few, constraints-fit, body-ready, total-few, heading-ready, function-written}
 use Rattle.write_functions.proofs.write_function.Statement.{statement}
 use Rattle.write_functions.proofs.write_function.Tie as tie
@@ -25,7 +26,7 @@ write-function-spec =
     (λ c κs. let start = c .before .before .before .before .before .before .before .before .before .before .before .before .before .before .before .before .before .before .before .before .before .before .before in
     let args-nodes-at = start .args .nodes-at in let pre = start .pre in
     let write-circuits = c .before .before .before .before .before .before .before .before .before .before .before .write-circuits .ensures in
-    body-ready _ _ args-nodes-at _ _ _ _ _ _ _ _ _ pre _ _ _ _ write-circuits _ refl)
+    body-ready _ _ args-nodes-at _ _ _ _ _ _ _ _ _ pre _ _ _ _ write-circuits _ (search needs))
     (λ c. let start = c .before .before .before .before .before .before .before .before .before .before .before .before .before .before .before .before .before .before .before .before .before .before .before .before .before .before .before .before .before .before .before in
     let args-nodes-at = start .args .nodes-at in let pre = start .pre in
     let write-circuits = c .before .before .before .before .before .before .before .before .before .before .before .before .before .before .before .before .before .before .before .write-circuits .ensures in

@@ -1,0 +1,9 @@
+-- All of so many bytes, or none, are not more than those.
+use mathlib.Core.Bool.{Bool, true, false}
+use Prim.Native.Nat.{ℕ, _≤_}
+use native.Mathlib.Omega.{arith}
+use Rattle.program_output.specs.Counts.{allOrNone}
+
+pub kept-within : (whole : Bool) (long : ℕ) → allOrNone whole long ≤ long
+kept-within true long = omega arith
+kept-within false long = omega arith

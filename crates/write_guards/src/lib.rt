@@ -1,0 +1,18 @@
+// 01, Rewriting: "Each branch begins by setting a guard variable of its own to true": the nodes of that setting.
+use write_nodes::put_leaf;
+use write_nodes::put_setting;
+ghost use Prim.Native.Nat.{_+_, _≤_};
+ghost use lib.ListN.{length};
+ghost use Rattle.definitions.specs.ContractFile.{boolean};
+ghost use Rattle.definitions.specs.Rewriting.{BodyExpression, Command, commandTree};
+ghost use Rattle.write_nodes.specs.Numbering.{Numbered};
+
+// A guard variable set to true; the answer is that this takes two nodes.
+pub fn put_guard(variable: usize, out: &mut [u8], at: usize, base: usize) -> usize
+    requires { ⌜ (base + 2 ≤ 65535) × (at + 16 ≤ length (now out)) ⌝ }
+    ensures { λ r. ⌜ Numbered (now (out .entry)) (now (out .exit)) at base
+        (commandTree (Command.setVariable variable (BodyExpression.constant boolean 1))) r ⌝ }
+{
+    put_leaf(1, 0, 1, 0, out, at);
+    put_setting(variable, 1, out, at, base)
+}
