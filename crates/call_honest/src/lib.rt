@@ -23,7 +23,7 @@ ghost use Rattle.ledger_struct.specs.Ledgers.{ledgerOf};
 ghost use Rattle.call_honest.specs.Honest.{Opened, LogRoom, LogPut, Told, WorkedOut, ContentsRoom};
 
 // The original works on the places opened.
-fn opened_places(l: Ledger, flat: &mut [u32], numbers: &mut [u32])
+pub fn opened_places(l: Ledger, flat: &mut [u32], numbers: &mut [u32])
     requires { ⌜ (length (now flat) ≡ 5 * min (l .«place_count») 1024) × (length (now numbers) ≡ min (l .«place_count») 1024) ⌝ }
     ensures { λ _. ⌜ now (numbers .exit) ≡ map openedNumber ((ledgerOf l) .places) ⌝ }
 {

@@ -24,7 +24,7 @@ ghost use Rattle.honest_variables.specs.Variables.{codesOf, contentOfSlo
 ghost use Rattle.honest_variables.specs.Variables.{EntryReady, EntryPut};
 
 // The root of the function that begins at a place.
-fn root_at(file: &[u8], function_at: usize) -> usize
+pub fn root_at(file: &[u8], function_at: usize) -> usize
     requires { ⌜ «function_at» ≤ 200000 ⌝ }
     ensures { λ r. ⌜ r ≡ rootAt (now (file .entry)) «function_at» ⌝ }
 {

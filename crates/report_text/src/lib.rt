@@ -13,7 +13,7 @@ ghost use Rattle.report_order.specs.Counts.{orderedTallies};
 ghost use Rattle.report_text.specs.Lines.{spacedCount, reportLines};
 
 // A number's decimal digits, as many as there are levels at most.
-fn append_digits(levels: usize, number: usize, out: &mut [u8], at: usize) -> usize
+pub fn append_digits(levels: usize, number: usize, out: &mut [u8], at: usize) -> usize
     requires { ⌜ at + length (digits levels number) ≤ length (now out) ⌝ }
     ensures { λ r. ⌜ Appended (now (out .entry)) (now (out .exit)) at (digits levels number) r ⌝ }
 {

@@ -6,18 +6,19 @@ use Prim.Native.Nat.{ℕ, zero, suc}
 use lib.ListN.{getD, take}
 use Rattle.definitions.specs.ContractFile.{contractIn}
 use Rattle.definitions.specs.Original.{originalCompletes}
-use Rattle.definitions.specs.View.{Request, Run, runAtDeployment, viewsAfter}
+use Rattle.definitions.specs.View.{Request, Run, runAtDeployment, viewsAfter, disclosures, disclosedOn}
 use Rattle.theory_demands.specs.Claims.{runAfterAll, PlacesStand}
 use Rattle.theory_demands.proofs.Demands.{rewritten-stands-for-original, rewritten-completes-as-original}
-use Rattle.theory_demands.proofs.Demands.{ledgers-stay-well-formed, equal-views}
+use Rattle.theory_demands.proofs.Demands.{ledgers-stay-well-formed, equal-views, told-before-is-disclosed}
 use Rattle.ledger_struct.specs.declared.Ledger as code
 use Rattle.ledger_struct.specs.Ledgers.{ledgerOf}
 use Rattle.theory_entries.specs.Traces.{Trace, Shown, Calls, ended, called, numbersIn, structIn, numbers, lent, shown, structAfter}
 use Rattle.theory_entries.specs.Traces.{originalPlaces, requestAt, StructStands, DiscloseAlike, PairedAnswers}
-use Rattle.theory_entries.proofs.Following.{shownOf, file-of-run, taken-at}
+use Rattle.theory_entries.proofs.Following.{shownOf, file-of-run, taken-at, disclosed-at}
 use Rattle.theory_entries.proofs.Following.{deployment-accepted, numbers-of-trace, run-of-trace, shown-of-trace}
 use Rattle.theory_entries.proofs.Pairs.{pairs-of-answers}
 
+-- A call that is answered with a number above 0 leaves the struct as it was.
 refused-in : {party : ℕ} {l : code.Ledger} {rs : List Request} (n : ℕ) (calls : Calls party l rs) → (getD (numbersIn calls) n 0 ≡ 0 → ⊥)
     → structIn (suc n) calls ≡ structIn n calls
 unfolding numbersIn structIn
@@ -25,6 +26,7 @@ refused-in n ended refuses = absurd (refuses refl)
 refused-in zero (called answer on look rest) refuses = on .kept (λ e. refuses (on .number ∙ e))
 refused-in (suc n) (called answer on look rest) refuses = refused-in n rest refuses
 
+-- The first pairs of two lists are the pairs of their first elements.
 take-zip : {A B C : Type 0} (f : A → B → C) (n : ℕ) (xs : List A) (ys : List B)
     → take n (zipWith f xs ys) ≡ zipWith f (take n xs) (take n ys)
 unfolding zipWith
@@ -69,6 +71,20 @@ module _ {party : ℕ} {file addresses : List ℕ} {requests : List Request} (tr
   -- given.
   pub refused-calls-change-nothing : (n : ℕ) → (getD (numbers trace) n 0 ≡ 0 → ⊥) → structAfter trace (suc n) ≡ structAfter trace n
   refused-calls-change-nothing n = refused-in n (trace .calls)
+
+  -- What is told of the next call on the struct is what demand 3 counts of it: "Each reveal to all or to the party's address, once worked
+  -- out, adds its value to what the call discloses to the party, up to a failure."
+  pub told-before-counts : (n : ℕ) → getD (numbers trace) n 18 ≡ 0
+      → disclosedOn (ledgerOf (structAfter trace n))
+      ((requestAt requests n) .function) ((requestAt requests n) .caller) ((requestAt requests n) .arguments) party
+      ≡ getD (disclosures party start requests) n []
+  told-before-counts n zero-number =
+      let r = requestAt requests n in
+      let number = ap (λ (ns : List ℕ). getD ns n 18) (sym (numbers-of-trace trace)) ∙ zero-number in
+      let taken = (taken-at start requests n number) .taken in
+      ap (λ (run : Run). disclosedOn (run .ledger) (r .function) (r .caller) (r .arguments) party) (run-of-trace trace n)
+      ∙ told-before-is-disclosed file addresses (deployment-accepted trace) (take n requests) r party taken
+      ∙ disclosed-at party start requests n number
 
   -- What the first looks show comes of the views and of the lent memory, since no ledger of the trace is ill formed.
   first-looks : (n : ℕ)

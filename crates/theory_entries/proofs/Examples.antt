@@ -8,15 +8,16 @@ use lib.ListN.{length, getD, take}
 use Rattle.definitions.specs.ContractFile.{contractIn}
 use Rattle.definitions.specs.Original.{Reader, anyone, only, placeReaders, originalCompletes}
 use Rattle.definitions.specs.Ledger.{Content, contentAt, openedNumber, isContentOf}
-use Rattle.definitions.specs.View.{Run}
+use Rattle.definitions.specs.View.{Run, disclosedOn}
 use Rattle.theory_relations.specs.Standing.{Stands}
 use Rattle.theory_demands.specs.Example.{tagged, pay, show, calls, start, after}
 use Rattle.theory_demands.proofs.Computed.{computed}
+use Rattle.ledger_struct.specs.Ledgers.{ledgerOf}
 use Rattle.theory_entries.specs.Traces.{Trace, PairedAnswers, numbers, lent, shown, structAfter, originalPlaces, placesIn}
 use Rattle.theory_entries.proofs.Answers.{answered, refuses, answers-paired, two-disclose-alike}
 use Rattle.theory_entries.proofs.Following.{file-of-run, numbers-of-trace, run-of-trace}
 use Rattle.theory_entries.proofs.Entries.{entries-stand-for-original, entries-complete-as-original}
-use Rattle.theory_entries.proofs.Entries.{refused-calls-change-nothing, equal-looks}
+use Rattle.theory_entries.proofs.Entries.{refused-calls-change-nothing, told-before-counts, equal-looks}
 use Rattle.theory_entries.proofs.Existing.{traces-exist, lent-there}
 
 module _ (trace : Trace 4 tagged [] (calls 7)) where
@@ -69,6 +70,13 @@ module _ (trace : Trace 4 tagged [] (calls 7)) where
   second-changes-nothing : structAfter trace 2 ≡ structAfter trace 1
   second-changes-nothing =
       refused-calls-change-nothing trace 1 (λ e. refuses (ap (λ (ns : List ℕ). getD ns 1 0) (sym numbers-answered) ∙ e))
+
+  -- Told on the struct before the third call: it would disclose 7 to address 4.
+  told-before : disclosedOn (ledgerOf (structAfter trace 2)) 1 3 [] 4 ≡ 7 ∷ []
+  unfolding start calls show
+  told-before =
+      told-before-counts trace 2 (ap (λ (ns : List ℕ). getD ns 2 18) numbers-answered)
+      ∙ ap (λ (ds : List (List ℕ)). getD ds 2 []) (computed .disclosed)
 
   -- Beside a trace with secret 8 and the same lent memory: the looks after deployment and after two calls show address 4 the same.
   looks-agree-before : (trace′ : Trace 4 tagged [] (calls 8)) → lent trace ≡ lent trace′ → take 3 (shown trace) ≡ take 3 (shown trace′)

@@ -10,7 +10,7 @@ use Rattle.definitions.specs.ContractFile.{contractIn}
 use Rattle.definitions.specs.Original.{deployedNumbers, originalAfter}
 use Rattle.definitions.specs.Ledger.{Ledger, isWellFormed, deployNumber, deployed}
 use Rattle.definitions.specs.View.{viewBytes, viewNumber, viewLength, outputAfterView, viewsAfter}
-use Rattle.definitions.specs.View.{Request, Run, runAtDeployment, isTaken, runAfter}
+use Rattle.definitions.specs.View.{Request, Run, runAtDeployment, isTaken, runAfter, disclosedIn, disclosures}
 use Rattle.theory_demands.specs.Claims.{runAfterAll, callNumbers}
 use Rattle.theory_demands.proofs.Faithful.{same-file}
 use Rattle.ledger_struct.specs.declared.Ledger as code
@@ -114,6 +114,14 @@ taken-at run (r ∷ rs) zero e = record { taken = ap isZero e; after = refl }
 taken-at run (r ∷ rs) (suc n) e =
     let h = taken-at (runAfter run r) rs n e in
     record { taken = h .taken; after = h .after }
+
+-- What such a call discloses is the n-th of what the list's calls disclose.
+pub disclosed-at : (party : ℕ) (run : Run) (rs : List Request) (n : ℕ) → getD (callNumbers run rs) n 18 ≡ 0
+    → disclosedIn party (runAfterAll run (take n rs)) (requestAt rs n) ≡ getD (disclosures party run rs) n []
+unfolding callNumbers runAfterAll disclosures
+disclosed-at party run [] n e = absurd (false≢true (ap isZero e))
+disclosed-at party run (r ∷ rs) zero e = refl
+disclosed-at party run (r ∷ rs) (suc n) e = disclosed-at party (runAfter run r) rs n e
 
 -- A whole trace beside the run from its deployment.
 module _ {party : ℕ} {file addresses : List ℕ} {requests : List Request} (trace : Trace party file addresses requests) where

@@ -53,7 +53,7 @@ fn given_place(file: &[u8], places: &[u32], f: usize, key: u32, walked: bool) ->
 }
 
 // "A zero divisor fails the call."
-fn divides(code: usize, divisor: u32) -> bool
+pub fn divides(code: usize, divisor: u32) -> bool
     ensures { λ r. ⌜ r ≡ operates (operatorOf code) divisor ⌝ }
 {
     if divisor == 0 {

@@ -1,0 +1,19 @@
+-- The body is worked out from its root, on the addresses that the places give.
+use mathlib.Core.Path.{refl}
+use borrow.Author.Needs.{needs}
+use Rattle.disclose_call.proofs.Bodies.{addresses-room, body-ready, body-disclosed}
+use Rattle.disclose_call.proofs.disclose_body.Statement.{statement}
+use Rattle.disclose_call.proofs.disclose_body.Tie as tie
+
+pub disclose-body-spec : {M : Type 1} → statement M
+disclose-body-spec =
+    tie.close (tie.spec
+    (λ c. search needs)
+    (λ c κs. addresses-room _ _ _ _ _ _ _ (c .before .before .before .before .before .before .pre) _ refl)
+    (λ c κs. search needs)
+    (λ c κs. c .before .before .before .before .before .before .before .before .before .pre .context .nearFunction)
+    (λ c. search needs)
+    (λ c κs. body-ready _ _ _ _ _ _ _ (c .before .before .before .before .before .before .before .before .before .before .before .before .before .pre) _ (c .before .before .before .before .before .before .put-addresses .ensures) _ _ refl (c .before .before .before .before .read-layout .ensures .nodesStart) refl refl (c .before .before .before .root-at .ensures))
+    (λ c. search needs)
+    (λ c. search needs)
+    (λ c. body-disclosed _ _ _ _ _ _ _ (c .before .before .before .before .before .before .before .before .before .before .before .before .before .before .before .before .before .before .pre) _ (c .before .before .before .before .before .before .before .before .before .before .before .put-addresses .ensures) _ _ _ _ (c .before .before .before .before .before .before .before .before .root-at .ensures) (c .before .before .before .before .disclose-statement .ensures)))

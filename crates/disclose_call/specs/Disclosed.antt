@@ -1,0 +1,39 @@
+-- 01, Runs and views: what a request for a call's disclosures gives.
+use mathlib.Core.Path.{_≡_}
+use mathlib.Core.Bool.{cond}
+use mathlib.Core.List.{List, _++_}
+use Prim.Native.Nat.{ℕ, _<_, _≤_}
+use lib.Dec.{ltb}
+use lib.ListN.{length, drop}
+use Rattle.definitions.specs.ContractFile.{nodesAt, nodeCount}
+use Rattle.definitions.specs.Original.{addressIn, disclosedBy}
+use Rattle.definitions.specs.Ledger as ledger
+use Rattle.definitions.specs.View.{disclosedNumber, disclosedLength, outputAfterDisclosing}
+use Rattle.theory_trees.specs.Trees.{statementIn}
+use Rattle.file_accepted.specs.Context.{Context, nodesIn, fieldsIn, scopeIn}
+use Rattle.file_accepted.specs.Functions.{rootAt}
+use Rattle.disclose_call.specs.declared.Answer.{Answer}
+
+-- What the body of the function that begins at a place discloses, where the places hold these numbers.
+unfoldable pub bodyDiscloses : List ℕ → ℕ → ℕ → List ℕ → List ℕ → ℕ → List ℕ
+bodyDiscloses file at caller arguments numbers party =
+    disclosedBy (fieldsIn file) (addressIn (scopeIn file at) caller arguments numbers) arguments party numbers
+    (statementIn (nodesIn file) (rootAt file at))
+
+-- The function that begins at a place can be worked out, and there is room for all that its body discloses.
+pub record BodyReady (file : List ℕ) (at caller : ℕ) (arguments numbers : List ℕ) (party : ℕ) (values : List ℕ) : Type 0 where
+  pub context : Context file at (nodesAt file)
+  pub root : rootAt file at < nodeCount file
+  pub room : length (bodyDiscloses file at caller arguments numbers party) ≤ length values
+
+-- Values are handed over where there is room for them.
+pub record HandedOver (values before after : List ℕ) (r : Answer) : Type 0 where
+  pub number : r .number ≡ cond (ltb (length before) (length values)) 21 0
+  pub long : r .length ≡ cond (ltb (length before) (length values)) 0 (length values)
+  pub output : after ≡ cond (ltb (length before) (length values)) before (values ++ drop (length values) before)
+
+pub record DisclosedTo (l : ledger.Ledger) (function caller : ℕ) (arguments : List ℕ) (party : ℕ) (before after : List ℕ)
+    (r : Answer) : Type 0 where
+  pub number : r .number ≡ disclosedNumber l function caller arguments party (length before)
+  pub long : r .length ≡ disclosedLength l function caller arguments party (length before)
+  pub output : after ≡ outputAfterDisclosing l function caller arguments party before

@@ -1,0 +1,206 @@
+// 01, Runs and views: "Each reveal to all or to the party's address, once worked out, adds its value to what the call discloses to the
+// party, up to a failure." The expressions of the original, on numbers in all places.
+use file_bytes::node_at;
+use honest_values::value;
+use walk_claims::address_of;
+use walk_expressions::divides;
+ghost use mathlib.Core.Path.{_≡_};
+ghost use mathlib.Core.List.{[], _∷_};
+ghost use Prim.Native.Nat.{_+_, _≤_};
+ghost use lib.ListN.{length};
+ghost use Rattle.definitions.specs.ContractFile.{ownerOfCode};
+ghost use Rattle.definitions.specs.Original.{mayRead, readerOf};
+ghost use Rattle.theory_trees.specs.Trees.{expressionIn};
+ghost use Rattle.memory_append.specs.Append.{Appended};
+ghost use Rattle.file_accepted.specs.Context.{nodesIn};
+ghost use Rattle.ledger_circuits.specs.Circuits.{addressFrom};
+ghost use Rattle.honest_values.specs.Values.{kindAt};
+ghost use Rattle.disclose_expressions.specs.Expressions.{ExpressionReady, ExpressionDisclosed};
+
+// Which function is worked out, for which caller, and the party that is told.
+pub struct Asked {
+    pub function_at: usize,
+    pub nodes_at: usize,
+    pub caller: u8,
+    pub party: u8,
+}
+
+// The place behind the disclosed values, and whether all was worked out to its end.
+pub struct Told {
+    pub at: usize,
+    pub finished: bool,
+}
+
+// One value behind others.
+fn append_value(value: u32, out: &mut [u32], at: usize) -> usize
+    requires { ⌜ at + 1 ≤ length (now out) ⌝ }
+    ensures { λ r. ⌜ Appended (now (out .entry)) (now (out .exit)) at (value ∷ []) r ⌝ }
+{
+    out[at] = value;
+    at + 1
+}
+
+// A reveal to all tells every party, any other the party at its address alone.
+fn may_read(addresses: &[u32], code: usize, party: u8) -> bool
+    ensures { λ r. ⌜ r ≡ mayRead party (readerOf (addressFrom (now (addresses .entry))) (ownerOfCode code)) ⌝ }
+{
+    if code == 0 {
+        true
+    } else {
+        address_of(addresses, code) == party as u32
+    }
+}
+
+// What node n discloses, appended.
+pub fn disclose_expression(
+    file: &[u8],
+    asked: Asked,
+    numbers: &[u32],
+    arguments: &[u32],
+    addresses: &[u32],
+    n: usize,
+    out: &mut [u32],
+    at: usize,
+) -> Told
+    requires { ⌜ ExpressionReady (now file) (now arguments) (now addresses) (now numbers) asked n (now out) at ⌝ }
+    ensures { λ r. ⌜ ExpressionDisclosed (now (file .entry)) (now (arguments .entry)) (now (addresses .entry)) (now (numbers .entry))
+        (asked .party) (expressionIn (nodesIn (now (file .entry))) n) (now (out .entry)) (now (out .exit)) at r ⌝ }
+{
+    let node = node_at(file, asked.nodes_at, n);
+    let kind = node.kind;
+    match kind {
+        4 => disclose_expression(
+            file,
+            asked,
+            numbers,
+            arguments,
+            addresses,
+            node.first,
+            out,
+            at,
+        ),
+        6 => disclose_operator(file, asked, numbers, arguments, addresses, n, out, at),
+        7 => disclose_expression(
+            file,
+            asked,
+            numbers,
+            arguments,
+            addresses,
+            node.first,
+            out,
+            at,
+        ),
+        8 => disclose_reveal(file, asked, numbers, arguments, addresses, n, out, at),
+        _ => Told {
+            at: at,
+            finished: true,
+        },
+    }
+}
+
+// The left operand first; the right one discloses nothing where the left one fails.
+fn disclose_operator(
+    file: &[u8],
+    asked: Asked,
+    numbers: &[u32],
+    arguments: &[u32],
+    addresses: &[u32],
+    n: usize,
+    out: &mut [u32],
+    at: usize,
+) -> Told
+    requires { ⌜ (kindAt (now file) (asked .«nodes_at») n ≡ 6)
+        × (ExpressionReady (now file) (now arguments) (now addresses) (now numbers) asked n (now out) at) ⌝ }
+    ensures { λ r. ⌜ ExpressionDisclosed (now (file .entry)) (now (arguments .entry)) (now (addresses .entry)) (now (numbers .entry))
+        (asked .party) (expressionIn (nodesIn (now (file .entry))) n) (now (out .entry)) (now (out .exit)) at r ⌝ }
+{
+    let node = node_at(file, asked.nodes_at, n);
+    let left = disclose_expression(
+        file,
+        asked,
+        numbers,
+        arguments,
+        addresses,
+        node.first,
+        out,
+        at,
+    );
+    if !left.finished {
+        return left;
+    }
+    let right = disclose_expression(
+        file,
+        asked,
+        numbers,
+        arguments,
+        addresses,
+        node.second,
+        out,
+        left.at,
+    );
+    if !right.finished {
+        return right;
+    }
+    let divisor = value(
+        file,
+        asked.function_at,
+        asked.nodes_at,
+        numbers,
+        arguments,
+        asked.caller,
+        node.second,
+    );
+    Told {
+        at: right.at,
+        finished: divides(node.arg, divisor),
+    }
+}
+
+// A reveal's part first, and then its own value.
+fn disclose_reveal(
+    file: &[u8],
+    asked: Asked,
+    numbers: &[u32],
+    arguments: &[u32],
+    addresses: &[u32],
+    n: usize,
+    out: &mut [u32],
+    at: usize,
+) -> Told
+    requires { ⌜ (kindAt (now file) (asked .«nodes_at») n ≡ 8)
+        × (ExpressionReady (now file) (now arguments) (now addresses) (now numbers) asked n (now out) at) ⌝ }
+    ensures { λ r. ⌜ ExpressionDisclosed (now (file .entry)) (now (arguments .entry)) (now (addresses .entry)) (now (numbers .entry))
+        (asked .party) (expressionIn (nodesIn (now (file .entry))) n) (now (out .entry)) (now (out .exit)) at r ⌝ }
+{
+    let node = node_at(file, asked.nodes_at, n);
+    let part = disclose_expression(
+        file,
+        asked,
+        numbers,
+        arguments,
+        addresses,
+        node.first,
+        out,
+        at,
+    );
+    if !part.finished {
+        return part;
+    }
+    if !may_read(addresses, node.arg, asked.party) {
+        return part;
+    }
+    let shown = value(
+        file,
+        asked.function_at,
+        asked.nodes_at,
+        numbers,
+        arguments,
+        asked.caller,
+        node.first,
+    );
+    let next = append_value(shown, out, part.at);
+    Told {
+        at: next,
+        finished: true,
+    }
+}

@@ -1,0 +1,2 @@
+pub mod StatementsByKind
+pub mod Bounds

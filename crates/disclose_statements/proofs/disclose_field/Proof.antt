@@ -1,0 +1,21 @@
+-- A field's assignment discloses what its value does, and puts that value in its place.
+use native.Mathlib.Omega.{arith}
+use borrow.Author.Needs.{needs}
+use Rattle.honest_values.proofs.ValuesByKind.{kind-as}
+use Rattle.disclose_expressions.proofs.ExpressionsByKind.{value-here}
+use Rattle.file_accepted.proofs.Statements.{assign-field-is, value-below}
+use Rattle.disclose_statements.proofs.StatementsByKind.{expression-ready, field-room, field-disclosed}
+use Rattle.disclose_statements.proofs.disclose_field.Statement.{statement}
+use Rattle.disclose_statements.proofs.disclose_field.Tie as tie
+
+pub disclose-field-spec : {M : Type 1} → statement M
+disclose-field-spec =
+    tie.close (tie.spec
+    (λ c κs. let (_, ready) = c .before .before .before .before .before .pre in (ready .context .nearNodes, omega (arith, ready .context .fewNodes, ready .inside)))
+    (λ c κs. let (kind-at-is, ready) = c .before .before .before .before .before .before .before .before .pre in let same = c .before .before .node-at .ensures .same in let kind = kind-as _ _ _ same kind-at-is in let less = value-below _ _ _ (ready .context) _ (ready .inside) _ same kind in expression-ready _ _ _ _ _ _ _ _ _ _ _ ready less (field-room _ _ _ _ _ _ _ _ (assign-field-is _ _ _ (ready .context) _ (ready .inside) _ same kind) (c .before .before .before .before .before .before .before .before .args .out .now) _ (ready .room)))
+    (λ c κs. let (kind-at-is, ready) = c .before .before .before .before .before .before .before .before .before .before .before .before .pre in let same = c .before .before .before .before .before .before .node-at .ensures .same in let kind = kind-as _ _ _ same kind-at-is in let less = value-below _ _ _ (ready .context) _ (ready .inside) _ same kind in (omega (arith, ready .inside, less), ready .context))
+    (λ c κs. let (_, ready) = c .before .before .before .before .before .before .before .before .before .before .before .before .before .pre in (ready .context .fewFields, omega arith))
+    (λ c κs. search needs)
+    (λ c. search needs)
+    (λ c. search needs)
+    (λ c. let (kind-at-is, ready) = c .before .before .before .before .before .before .before .before .before .before .before .before .before .before .before .before .before .before .pre in let same = c .before .before .before .before .before .before .before .before .before .before .before .before .node-at .ensures .same in let kind = kind-as _ _ _ same kind-at-is in field-disclosed _ _ _ _ _ _ _ _ (assign-field-is _ _ _ (ready .context) _ (ready .inside) _ same kind) _ _ _ _ _ _ _ (c .before .before .before .before .before .before .before .before .before .disclose-expression .ensures) (value-here _ _ _ _ _ _ _ (ready .called) (c .before .before .before .before .before .value .ensures)) (c .before .before .before .before .position .ensures) (c .before .before .put-number .ensures)))

@@ -1,0 +1,300 @@
+// 01, Runs and views: what a statement of the original discloses to a party, with the numbers that it leaves in the places: "In a call it
+// works out parts first, second, third, of an if the condition and the taken branch; a false require fails the call."
+use disclose_expressions::Asked;
+use disclose_expressions::Told;
+use disclose_expressions::disclose_expression;
+use file_bytes::node_at;
+use honest_values::value;
+use ledger_places::position;
+use ledger_places::put_number;
+ghost use mathlib.Core.Path.{_≡_};
+ghost use mathlib.Core.Bool.{cond, _&&_};
+ghost use Rattle.definitions.specs.Basics.{isTrue};
+ghost use Rattle.theory_trees.specs.Trees.{statementIn};
+ghost use Rattle.file_accepted.specs.Context.{nodesIn};
+ghost use Rattle.honest_values.specs.Values.{kindAt};
+ghost use Rattle.disclose_statements.specs.Statements.{StatementReady, StatementDisclosed};
+
+// The branch of an if that is taken.
+fn branch_of(condition: u32, then: usize, other: usize) -> usize
+    ensures { λ r. ⌜ r ≡ cond (isTrue condition) then other ⌝ }
+{
+    if condition == 0 { other } else { then }
+}
+
+// A false require fails, and so does one that is not worked out.
+fn holds(finished: bool, condition: u32) -> bool
+    ensures { λ r. ⌜ r ≡ (finished && isTrue condition) ⌝ }
+{
+    if finished { condition != 0 } else { false }
+}
+
+// A field takes a value.
+fn disclose_field(
+    file: &[u8],
+    asked: Asked,
+    numbers: &mut [u32],
+    arguments: &[u32],
+    addresses: &[u32],
+    n: usize,
+    out: &mut [u32],
+    at: usize,
+) -> Told
+    requires { ⌜ (kindAt (now file) (asked .«nodes_at») n ≡ 18)
+        × (StatementReady (now file) (now arguments) (now addresses) (now numbers) asked n (now out) at) ⌝ }
+    ensures { λ r. ⌜ StatementDisclosed (now (file .entry)) (now (arguments .entry)) (now (addresses .entry)) (now (numbers .entry))
+        (asked .party) (statementIn (nodesIn (now (file .entry))) n) (now (numbers .exit)) (now (out .entry)) (now (out .exit)) at r ⌝ }
+{
+    let node = node_at(file, asked.nodes_at, n);
+    let told = disclose_expression(
+        file,
+        asked,
+        numbers,
+        arguments,
+        addresses,
+        node.first,
+        out,
+        at,
+    );
+    let v = value(
+        file,
+        asked.function_at,
+        asked.nodes_at,
+        numbers,
+        arguments,
+        asked.caller,
+        node.first,
+    );
+    let p = position(file, node.arg, 0);
+    put_number(numbers, p, v);
+    told
+}
+
+// A mapping's entry takes a value; its key is worked out first.
+fn disclose_entry(
+    file: &[u8],
+    asked: Asked,
+    numbers: &mut [u32],
+    arguments: &[u32],
+    addresses: &[u32],
+    n: usize,
+    out: &mut [u32],
+    at: usize,
+) -> Told
+    requires { ⌜ (kindAt (now file) (asked .«nodes_at») n ≡ 19)
+        × (StatementReady (now file) (now arguments) (now addresses) (now numbers) asked n (now out) at) ⌝ }
+    ensures { λ r. ⌜ StatementDisclosed (now (file .entry)) (now (arguments .entry)) (now (addresses .entry)) (now (numbers .entry))
+        (asked .party) (statementIn (nodesIn (now (file .entry))) n) (now (numbers .exit)) (now (out .entry)) (now (out .exit)) at r ⌝ }
+{
+    let node = node_at(file, asked.nodes_at, n);
+    let key = disclose_expression(
+        file,
+        asked,
+        numbers,
+        arguments,
+        addresses,
+        node.first,
+        out,
+        at,
+    );
+    if !key.finished {
+        return key;
+    }
+    let told = disclose_expression(
+        file,
+        asked,
+        numbers,
+        arguments,
+        addresses,
+        node.second,
+        out,
+        key.at,
+    );
+    let k = value(
+        file,
+        asked.function_at,
+        asked.nodes_at,
+        numbers,
+        arguments,
+        asked.caller,
+        node.first,
+    );
+    let v = value(
+        file,
+        asked.function_at,
+        asked.nodes_at,
+        numbers,
+        arguments,
+        asked.caller,
+        node.second,
+    );
+    let p = position(file, node.arg, k as usize);
+    put_number(numbers, p, v);
+    told
+}
+
+// What a condition discloses is disclosed even where it is false.
+fn disclose_require(
+    file: &[u8],
+    asked: Asked,
+    numbers: &[u32],
+    arguments: &[u32],
+    addresses: &[u32],
+    n: usize,
+    out: &mut [u32],
+    at: usize,
+) -> Told
+    requires { ⌜ (kindAt (now file) (asked .«nodes_at») n ≡ 20)
+        × (StatementReady (now file) (now arguments) (now addresses) (now numbers) asked n (now out) at) ⌝ }
+    ensures { λ r. ⌜ StatementDisclosed (now (file .entry)) (now (arguments .entry)) (now (addresses .entry)) (now (numbers .entry))
+        (asked .party) (statementIn (nodesIn (now (file .entry))) n) (now (numbers .entry)) (now (out .entry)) (now (out .exit)) at r ⌝ }
+{
+    let node = node_at(file, asked.nodes_at, n);
+    let told = disclose_expression(
+        file,
+        asked,
+        numbers,
+        arguments,
+        addresses,
+        node.first,
+        out,
+        at,
+    );
+    let condition = value(
+        file,
+        asked.function_at,
+        asked.nodes_at,
+        numbers,
+        arguments,
+        asked.caller,
+        node.first,
+    );
+    Told {
+        at: told.at,
+        finished: holds(told.finished, condition),
+    }
+}
+
+// What node n discloses, appended, and the numbers that it leaves where it completes.
+pub fn disclose_statement(
+    file: &[u8],
+    asked: Asked,
+    numbers: &mut [u32],
+    arguments: &[u32],
+    addresses: &[u32],
+    n: usize,
+    out: &mut [u32],
+    at: usize,
+) -> Told
+    requires { ⌜ StatementReady (now file) (now arguments) (now addresses) (now numbers) asked n (now out) at ⌝ }
+    ensures { λ r. ⌜ StatementDisclosed (now (file .entry)) (now (arguments .entry)) (now (addresses .entry)) (now (numbers .entry))
+        (asked .party) (statementIn (nodesIn (now (file .entry))) n) (now (numbers .exit)) (now (out .entry)) (now (out .exit)) at r ⌝ }
+{
+    let node = node_at(file, asked.nodes_at, n);
+    let kind = node.kind;
+    match kind {
+        17 => disclose_sequence(file, asked, numbers, arguments, addresses, n, out, at),
+        18 => disclose_field(file, asked, numbers, arguments, addresses, n, out, at),
+        19 => disclose_entry(file, asked, numbers, arguments, addresses, n, out, at),
+        20 => disclose_require(file, asked, numbers, arguments, addresses, n, out, at),
+        21 => disclose_conditional(file, asked, numbers, arguments, addresses, n, out, at),
+        _ => Told {
+            at: at,
+            finished: true,
+        },
+    }
+}
+
+// The second of two statements discloses nothing where the first one fails.
+fn disclose_sequence(
+    file: &[u8],
+    asked: Asked,
+    numbers: &mut [u32],
+    arguments: &[u32],
+    addresses: &[u32],
+    n: usize,
+    out: &mut [u32],
+    at: usize,
+) -> Told
+    requires { ⌜ (kindAt (now file) (asked .«nodes_at») n ≡ 17)
+        × (StatementReady (now file) (now arguments) (now addresses) (now numbers) asked n (now out) at) ⌝ }
+    ensures { λ r. ⌜ StatementDisclosed (now (file .entry)) (now (arguments .entry)) (now (addresses .entry)) (now (numbers .entry))
+        (asked .party) (statementIn (nodesIn (now (file .entry))) n) (now (numbers .exit)) (now (out .entry)) (now (out .exit)) at r ⌝ }
+{
+    let node = node_at(file, asked.nodes_at, n);
+    let first = disclose_statement(
+        file,
+        asked,
+        numbers,
+        arguments,
+        addresses,
+        node.first,
+        out,
+        at,
+    );
+    if !first.finished {
+        return first;
+    }
+    disclose_statement(
+        file,
+        asked,
+        numbers,
+        arguments,
+        addresses,
+        node.second,
+        out,
+        first.at,
+    )
+}
+
+// The condition first, and then the taken branch alone.
+fn disclose_conditional(
+    file: &[u8],
+    asked: Asked,
+    numbers: &mut [u32],
+    arguments: &[u32],
+    addresses: &[u32],
+    n: usize,
+    out: &mut [u32],
+    at: usize,
+) -> Told
+    requires { ⌜ (kindAt (now file) (asked .«nodes_at») n ≡ 21)
+        × (StatementReady (now file) (now arguments) (now addresses) (now numbers) asked n (now out) at) ⌝ }
+    ensures { λ r. ⌜ StatementDisclosed (now (file .entry)) (now (arguments .entry)) (now (addresses .entry)) (now (numbers .entry))
+        (asked .party) (statementIn (nodesIn (now (file .entry))) n) (now (numbers .exit)) (now (out .entry)) (now (out .exit)) at r ⌝ }
+{
+    let node = node_at(file, asked.nodes_at, n);
+    let condition = value(
+        file,
+        asked.function_at,
+        asked.nodes_at,
+        numbers,
+        arguments,
+        asked.caller,
+        node.first,
+    );
+    let branch = branch_of(condition, node.second, node.third);
+    let told = disclose_expression(
+        file,
+        asked,
+        numbers,
+        arguments,
+        addresses,
+        node.first,
+        out,
+        at,
+    );
+    if !told.finished {
+        return told;
+    }
+    disclose_statement(
+        file,
+        asked,
+        numbers,
+        arguments,
+        addresses,
+        branch,
+        out,
+        told.at,
+    )
+}
