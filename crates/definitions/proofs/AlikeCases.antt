@@ -1,5 +1,5 @@
--- 01, Runs and views: "Pair by pair, both calls are refused or both are taken (done or failed) and alike for the party": calls that are alike,
--- and calls that are not. Demand 3 is the stronger the more pairs it is about.
+-- 01, Runs and views: "Pair by pair, both calls are refused or both are taken (done or failed) and alike for the party": calls that are
+-- alike, and calls that are not. Demand 3 is the stronger the more pairs it is about.
 use mathlib.Core.Path.{_≡_, refl, ap, sym, _∙_}
 use mathlib.Core.Bool.{true, false, not, _||_, false≢true}
 use mathlib.Core.List.{List, [], _∷_}

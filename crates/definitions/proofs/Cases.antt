@@ -8,14 +8,29 @@ use Prim.Native.Nat.{ℕ}
 use lib.Dec.{T, eqb, eqb→eq}
 use lib.ListN.{length}
 use Rattle.definitions.specs.Basics.{bit, all, any, anyNumbered, countIf, largest, flatMap, firstThatHolds}
-use Rattle.definitions.specs.Ledger.{Ledger, deployNumber, deployed, allFit, publicOf, isWellFormed, notCallable, argumentsOff, callNumber, callWith, honestContents, honestVariables, honestParameters, ledgerAfterCall, circuitValue, contentOf, isWalked, stateAfter, walkCompletes}
-use Rattle.definitions.specs.ContractFile.{functionsEnd, nodesAt, fieldRecords, parameterRecords, functionRecords, nodeRecords, sectionsOf, sectionPart, fieldOf, parameterOf, typeOf, kindOf, nodeOfKind, expressionParts, statementParts, fieldsNamed, chainLength, expressionOf, expressionAt, statementOf, statementAt, contractOf, Operator, sameName}
-use Rattle.definitions.specs.Numbers.{endsWrongly, countOffLimits, fieldInTables, parameterInTables, kindInTables, outsideTables, namesNothing, usesOf, usedOtherThanOnce, tooDeep, wrongSort, expressionFaults, statementFaults, contractFaults, checkNumber, sectionNumber, sectionAnswer}
-use Rattle.definitions.specs.Original.{operate, value, isWorkedOut, placesAfter, completes, disclosed, disclosedBy, originalCompletes, originalAfter, originalDiscloses, numbersFrom, perPlace, position, deployedNumbers}
+use Rattle.definitions.specs.Ledger.{Ledger, deployNumber, deployed, allFit, publicOf, isWellFormed, notCallable, argumentsOff}
+use Rattle.definitions.specs.Ledger.{callNumber, callWith, honestContents, honestVariables, honestParameters, ledgerAfterCall}
+use Rattle.definitions.specs.Ledger.{circuitValue, contentOf, isWalked, stateAfter, walkCompletes}
+use Rattle.definitions.specs.ContractFile.{functionsEnd, nodesAt, fieldRecords, parameterRecords, functionRecords, nodeRecords}
+use Rattle.definitions.specs.ContractFile.{sectionsOf, sectionPart, fieldOf, parameterOf, typeOf, kindOf, nodeOfKind}
+use Rattle.definitions.specs.ContractFile.{expressionParts, statementParts, fieldsNamed, chainLength, expressionOf, expressionAt}
+use Rattle.definitions.specs.ContractFile.{statementOf, statementAt, contractOf, Operator, sameName}
+use Rattle.definitions.specs.Numbers.{endsWrongly, countOffLimits, fieldInTables, parameterInTables, kindInTables, outsideTables}
+use Rattle.definitions.specs.Numbers.{namesNothing, usesOf, usedOtherThanOnce, tooDeep, wrongSort, expressionFaults}
+use Rattle.definitions.specs.Numbers.{statementFaults, contractFaults, checkNumber, sectionNumber, sectionAnswer}
+use Rattle.definitions.specs.Original.{operate, value, isWorkedOut, placesAfter, completes, disclosed, disclosedBy}
+use Rattle.definitions.specs.Original.{originalCompletes, originalAfter, originalDiscloses, numbersFrom, perPlace, position}
+use Rattle.definitions.specs.Original.{deployedNumbers}
 use Rattle.definitions.specs.Owners.{withLink, nameOf, ownerOf, linksOfCondition, linksAfter}
 use Rattle.definitions.specs.Report.{tallies, insert, sorted, digits, reportText, reportNumber, reportLength, outputAfterReport}
-use Rattle.definitions.specs.Rewriting.{kept, onePart, twoParts, supplying, reading, stepsBefore, single, inSequence, inBranch, inBranches, rewriteStatement, privateParameters, openings, rewriteFunction, rewrite, inBody, inCircuit, size, numbered, bodyTree, circuitTree, commandTree, sizes, numberedAll, eachOnce, constraintBytes, functionBytes, functionsBytes, contractBytes, writtenFile, writeNumber, writtenLength, outputAfterWriting}
-use Rattle.definitions.specs.View.{Request, runAtDeployment, isTaken, runAfter, disclosedIn, disclosedOn, disclosedNumber, disclosedLength, outputAfterDisclosing, viewsAfter, disclosures, itemFor, itemsFor, itemBytes, viewBytes, viewNumber, viewLength, outputAfterView}
+use Rattle.definitions.specs.Rewriting.{kept, onePart, twoParts, supplying, reading, stepsBefore, single, inSequence, inBranch}
+use Rattle.definitions.specs.Rewriting.{inBranches, rewriteStatement, privateParameters, openings, rewriteFunction, rewrite, inBody}
+use Rattle.definitions.specs.Rewriting.{inCircuit, size, numbered, bodyTree, circuitTree, commandTree, sizes, numberedAll, eachOnce}
+use Rattle.definitions.specs.Rewriting.{constraintBytes, functionBytes, functionsBytes, contractBytes, writtenFile, writeNumber}
+use Rattle.definitions.specs.Rewriting.{writtenLength, outputAfterWriting}
+use Rattle.definitions.specs.View.{Request, runAtDeployment, isTaken, runAfter, disclosedIn, disclosedOn, disclosedNumber}
+use Rattle.definitions.specs.View.{disclosedLength, outputAfterDisclosing, viewsAfter, disclosures, itemFor, itemsFor, itemBytes}
+use Rattle.definitions.specs.View.{viewBytes, viewNumber, viewLength, outputAfterView}
 
 pub data Case : Type 0 where
   -- a file, and its number from checking
@@ -107,14 +122,18 @@ unfolding sameNumbers
 same-numbers [] [] t = refl
 same-numbers [] (n ∷ ns) t = absurd t
 same-numbers (m ∷ ms) [] t = absurd t
-same-numbers (m ∷ ms) (n ∷ ns) t = let h = both (eqb m n) (sameNumbers ms ns) t in ap₂ (λ x xs. x ∷ xs) (eqb→eq m n (h .0)) (same-numbers ms ns (h .1))
+same-numbers (m ∷ ms) (n ∷ ns) t =
+    let h = both (eqb m n) (sameNumbers ms ns) t in
+    ap₂ (λ x xs. x ∷ xs) (eqb→eq m n (h .0)) (same-numbers ms ns (h .1))
 
 same-lists : (ms ns : List (List ℕ)) → T (sameLists ms ns) → ms ≡ ns
 unfolding sameLists
 same-lists [] [] t = refl
 same-lists [] (n ∷ ns) t = absurd t
 same-lists (m ∷ ms) [] t = absurd t
-same-lists (m ∷ ms) (n ∷ ns) t = let h = both (sameNumbers m n) (sameLists ms ns) t in ap₂ (λ x xs. x ∷ xs) (same-numbers m n (h .0)) (same-lists ms ns (h .1))
+same-lists (m ∷ ms) (n ∷ ns) t =
+    let h = both (sameNumbers m n) (sameLists ms ns) t in
+    ap₂ (λ x xs. x ∷ xs) (same-numbers m n (h .0)) (same-lists ms ns (h .1))
 
 same-bit : (a b : Bool) → bit a ≡ bit b → a ≡ b
 same-bit true true e = refl

@@ -42,8 +42,8 @@ abbrev pub assignThenRequire : List ℕ
 assignThenRequire =
     contract (constant 1 5 ∷ assign 1 0 ∷ parameterRead 0 ∷ constant 1 1 ∷ operator 7 2 3 ∷ reveal 4 0 ∷ require 5 ∷ sequence 1 6 ∷ [])
 
--- A mapping in which each address owns its entry. Function 0: the caller's entry takes itself + r. Function 1: the entry of a public address
--- takes reveal of the caller's entry to it; the caller's takes 0.
+-- A mapping in which each address owns its entry. Function 0: the caller's entry takes itself + r. Function 1: the entry of a public
+-- address takes reveal of the caller's entry to it; the caller's takes 0.
 abbrev pub bank : List ℕ
 bank =
     file (taggedMapping ∷ []) (function (privateUint ∷ []) 5 ∷ function (publicAddress ∷ []) 14 ∷ []) (me ∷ me ∷ entryRead 0 1

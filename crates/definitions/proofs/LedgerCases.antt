@@ -65,8 +65,8 @@ nothingReported =
     102 ∷ 117 ∷ 110 ∷ 99 ∷ 116 ∷ 105 ∷ 111 ∷ 110 ∷ 32 ∷ 99 ∷ 114 ∷ 111 ∷ 115 ∷ 115 ∷ 105 ∷ 110 ∷ 103 ∷ 115 ∷ 10
     ∷ 48 ∷ 32 ∷ 48 ∷ 10 ∷ []
 
--- "A refusal returns it with length 0 ..; lent memory and ledger keep their contents. An accepted request changes only the output bytes that
--- its length covers, and its ledger."
+-- "A refusal returns it with length 0 ..; lent memory and ledger keep their contents. An accepted request changes only the output bytes
+-- that its length covers, and its ledger."
 unfoldable pub outputCases : List Case
 outputCases =
     -- "16. The lent output is too short": by one byte; the file's own number goes before it.

@@ -43,7 +43,8 @@ fn disclose_body(
 ) -> usize
     requires { ⌜ BodyReady (now file) «function_at» (question .caller) (now arguments) (now numbers) (question .party) (now values) ⌝ }
     ensures { λ r. ⌜ Appended (now (values .entry)) (now (values .exit)) 0
-        (bodyDiscloses (now (file .entry)) «function_at» (question .caller) (now (arguments .entry)) (now (numbers .entry)) (question .party)) r ⌝ }
+        (bodyDiscloses (now (file .entry)) «function_at» (question .caller) (now (arguments .entry)) (now (numbers .entry))
+        (question .party)) r ⌝ }
 {
     let mut addresses = [0u32; 136];
     put_addresses(

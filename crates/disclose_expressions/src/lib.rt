@@ -6,15 +6,15 @@ use walk_claims::address_of;
 use walk_expressions::divides;
 ghost use mathlib.Core.Path.{_≡_};
 ghost use mathlib.Core.List.{[], _∷_};
-ghost use Prim.Native.Nat.{_+_, _≤_};
+ghost use Prim.Native.Nat.{_+_, _<_, _≤_};
 ghost use lib.ListN.{length};
-ghost use Rattle.definitions.specs.ContractFile.{ownerOfCode};
+ghost use Rattle.definitions.specs.ContractFile.{nodeCount, ownerOfCode};
 ghost use Rattle.definitions.specs.Original.{mayRead, readerOf};
 ghost use Rattle.theory_trees.specs.Trees.{expressionIn};
 ghost use Rattle.memory_append.specs.Append.{Appended};
-ghost use Rattle.file_accepted.specs.Context.{nodesIn};
+ghost use Rattle.file_accepted.specs.Context.{Context, nodesIn};
 ghost use Rattle.ledger_circuits.specs.Circuits.{addressFrom};
-ghost use Rattle.honest_values.specs.Values.{kindAt};
+ghost use Rattle.honest_values.specs.Values.{kindAt, valueOf};
 ghost use Rattle.disclose_expressions.specs.Expressions.{ExpressionReady, ExpressionDisclosed};
 
 // Which function is worked out, for which caller, and the party that is told.
@@ -49,6 +49,23 @@ fn may_read(addresses: &[u32], code: usize, party: u8) -> bool
     } else {
         address_of(addresses, code) == party as u32
     }
+}
+
+// The value of node n for the caller.
+pub fn value_asked(file: &[u8], asked: Asked, numbers: &[u32], arguments: &[u32], n: usize) -> u32
+    requires { ⌜ (n < nodeCount (now file)) × (Context (now file) (asked .«function_at») (asked .«nodes_at»)) ⌝ }
+    ensures { λ r. ⌜ r ≡ valueOf (now (file .entry)) (now (arguments .entry)) (asked .caller) (now (numbers .entry))
+        (expressionIn (nodesIn (now (file .entry))) n) ⌝ }
+{
+    value(
+        file,
+        asked.function_at,
+        asked.nodes_at,
+        numbers,
+        arguments,
+        asked.caller,
+        n,
+    )
 }
 
 // What node n discloses, appended.
@@ -141,15 +158,7 @@ fn disclose_operator(
     if !right.finished {
         return right;
     }
-    let divisor = value(
-        file,
-        asked.function_at,
-        asked.nodes_at,
-        numbers,
-        arguments,
-        asked.caller,
-        node.second,
-    );
+    let divisor = value_asked(file, asked, numbers, arguments, node.second);
     Told {
         at: right.at,
         finished: divides(node.arg, divisor),
@@ -189,15 +198,7 @@ fn disclose_reveal(
     if !may_read(addresses, node.arg, asked.party) {
         return part;
     }
-    let shown = value(
-        file,
-        asked.function_at,
-        asked.nodes_at,
-        numbers,
-        arguments,
-        asked.caller,
-        node.first,
-    );
+    let shown = value_asked(file, asked, numbers, arguments, node.first);
     let next = append_value(shown, out, part.at);
     Told {
         at: next,

@@ -3,8 +3,8 @@
 use disclose_expressions::Asked;
 use disclose_expressions::Told;
 use disclose_expressions::disclose_expression;
+use disclose_expressions::value_asked;
 use file_bytes::node_at;
-use honest_values::value;
 use ledger_places::position;
 use ledger_places::put_number;
 ghost use mathlib.Core.Path.{_≡_};
@@ -56,15 +56,7 @@ fn disclose_field(
         out,
         at,
     );
-    let v = value(
-        file,
-        asked.function_at,
-        asked.nodes_at,
-        numbers,
-        arguments,
-        asked.caller,
-        node.first,
-    );
+    let v = value_asked(file, asked, numbers, arguments, node.first);
     let p = position(file, node.arg, 0);
     put_number(numbers, p, v);
     told
@@ -110,24 +102,8 @@ fn disclose_entry(
         out,
         key.at,
     );
-    let k = value(
-        file,
-        asked.function_at,
-        asked.nodes_at,
-        numbers,
-        arguments,
-        asked.caller,
-        node.first,
-    );
-    let v = value(
-        file,
-        asked.function_at,
-        asked.nodes_at,
-        numbers,
-        arguments,
-        asked.caller,
-        node.second,
-    );
+    let k = value_asked(file, asked, numbers, arguments, node.first);
+    let v = value_asked(file, asked, numbers, arguments, node.second);
     let p = position(file, node.arg, k as usize);
     put_number(numbers, p, v);
     told
@@ -160,15 +136,7 @@ fn disclose_require(
         out,
         at,
     );
-    let condition = value(
-        file,
-        asked.function_at,
-        asked.nodes_at,
-        numbers,
-        arguments,
-        asked.caller,
-        node.first,
-    );
+    let condition = value_asked(file, asked, numbers, arguments, node.first);
     Told {
         at: told.at,
         finished: holds(told.finished, condition),
@@ -264,15 +232,7 @@ fn disclose_conditional(
         (asked .party) (statementIn (nodesIn (now (file .entry))) n) (now (numbers .exit)) (now (out .entry)) (now (out .exit)) at r ⌝ }
 {
     let node = node_at(file, asked.nodes_at, n);
-    let condition = value(
-        file,
-        asked.function_at,
-        asked.nodes_at,
-        numbers,
-        arguments,
-        asked.caller,
-        node.first,
-    );
+    let condition = value_asked(file, asked, numbers, arguments, node.first);
     let branch = branch_of(condition, node.second, node.third);
     let told = disclose_expression(
         file,

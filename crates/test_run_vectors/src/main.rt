@@ -1,38 +1,14 @@
 // Runs each record on standard input and compares every number and every byte of every view with what is recorded, then prints
-// how many runs there were and how many differ. A record is: length of a contract file (2), the file, count of addresses (1),
-// the addresses, party (1), count of calls (1), length of the view after deployment (2), that view; then for each call:
-// function (1), caller (1), count of arguments (1), each argument (4), its number (1), length of the view that follows (2), that view.
-use file_bytes::byte_at;
+// how many runs there were and how many differ. A record is one of `test_runs`, with behind its count of calls, and behind each call's
+// number: length of the view that follows (2), that view.
 use file_bytes::two_bytes_at;
 use ledger_struct::Ledger;
 use libc::STDIN_FILENO;
-use libc::STDOUT_FILENO;
+use test_runs::Run;
+use test_runs::part;
 ghost use mathlib.Core.Path.{_≡_};
-ghost use Prim.Native.Nat.{_+_, _*_, _<_, _≤_};
+ghost use Prim.Native.Nat.{_+_, _<_, _≤_};
 ghost use lib.ListN.{length};
-
-struct Tally {
-    runs: usize,
-    different: usize,
-}
-
-// Where a run or a call ends in the input, whether all was as recorded, and the ledger after it.
-struct Step {
-    end: usize,
-    same: bool,
-    ledger: Ledger,
-}
-
-// The bytes from one place up to another; none where they are not all there.
-fn part<'a>(input: &'a [u8], start: usize, end: usize) -> &'a [u8] {
-    if input.len() < end {
-        return &input[0..0];
-    }
-    if end < start {
-        return &input[0..0];
-    }
-    &input[start..end]
-}
 
 fn same_bytes(left: &[u8], right: &[u8]) -> bool {
     if left.len() != right.len() {
@@ -62,124 +38,41 @@ fn view_is(ledger: Ledger, party: u8, due: &[u8]) -> bool {
     same_bytes(&view[..length], due)
 }
 
-// The numbers of four bytes from a place on.
-fn arguments(input: &[u8], from: usize, count: usize) -> [u32; 255]
-    requires { ⌜ (from ≤ 100000000) × (count ≤ 255) ⌝ }
-    ensures { λ r. ⌜ 255 ≡ length r ⌝ }
+// The run behind the view that is recorded at its place.
+fn viewed(bytes: &[u8], run: Run) -> Run
+    requires { ⌜ run .place ≤ 92000000 ⌝ }
+    ensures { λ r. ⌜ ((run .place ≤ r .place) × (r .place ≤ run .place + 65537)) × (r .left ≡ run .left) ⌝ }
 {
-    let mut made = [0u32; 255];
-    let mut i: usize = 0;
-    while i < count {
-        made[i] = rehearse_scripts::four_bytes_at(input, from + 4 * i);
-        i += 1;
-    }
-    made
-}
-
-// The call at a place.
-fn run_call(input: &[u8], at: usize, ledger: Ledger, party: u8) -> Step
-    requires { ⌜ at ≤ 90000000 ⌝ }
-    ensures { λ r. ⌜ (at ≤ r .end) × (r .end ≤ at + 70000) ⌝ }
-{
-    let function = byte_at(input, at) as u8;
-    let caller = byte_at(input, at + 1) as u8;
-    let count = byte_at(input, at + 2);
-    let behind = at + 3 + 4 * count;
-    let made = arguments(input, at + 3, count);
-    let called = call::call(ledger, function, caller, &made[..count]);
-    let after = called.ledger;
-    let end = behind + 3 + two_bytes_at(input, behind + 1);
-    let same = view_is(after, party, part(input, behind + 3, end));
-    let number = byte_at(input, behind) as u8;
-    Step {
-        end: end,
-        same: same && called.number == number,
-        ledger: after,
-    }
-}
-
-// All calls of a run.
-fn run_calls(input: &[u8], from: usize, calls: usize, start: Ledger, party: u8) -> Step
-    requires { ⌜ (from ≤ 2000000) × (calls ≤ 255) ⌝ }
-    ensures { λ r. ⌜ from ≤ r .end ⌝ }
-{
-    let mut at = from;
-    let mut same = true;
-    let mut ledger = start;
-    let mut k: usize = 0;
-    while k < calls {
-        let step = run_call(input, at, ledger, party);
-        at = step.end;
-        same = same && step.same;
-        let after = step.ledger;
-        ledger = after;
-        k += 1;
-    }
-    Step {
-        end: at,
-        same: same,
+    let start = run.place + 2;
+    let end = start + two_bytes_at(bytes, run.place);
+    let ledger = run.ledger;
+    let same = view_is(ledger, run.party, part(bytes, start, end));
+    Run {
+        place: end,
+        left: run.left,
+        party: run.party,
+        same: run.same && same,
         ledger: ledger,
     }
 }
 
-// The run at a place; one that is cut short is not as recorded.
-fn run(input: &[u8], at: usize) -> Step
-    requires { ⌜ at ≤ 1000000 ⌝ }
-    ensures { λ r. ⌜ at < r .end ⌝ }
+fn run(bytes: &[u8]) -> Run
+    ensures { λ r. ⌜ (0 < r .place) × (r .place ≤ 80000000) ⌝ }
 {
-    let file_end = at + 2 + two_bytes_at(input, at);
-    let addresses_end = file_end + 1 + byte_at(input, file_end);
-    let party = byte_at(input, addresses_end) as u8;
-    let calls = byte_at(input, addresses_end + 1);
-    let view_end = addresses_end + 4 + two_bytes_at(input, addresses_end + 2);
-    let deployment = deploy::deploy(
-        part(input, at + 2, file_end),
-        part(input, file_end + 1, addresses_end),
-    );
-    let ledger = deployment.ledger;
-    let same = view_is(ledger, party, part(input, addresses_end + 4, view_end));
-    let step = run_calls(input, view_end, calls, ledger, party);
-    let after = step.ledger;
-    Step {
-        end: step.end,
-        same: same && step.same && deployment.number == 0 && step.end <= input.len(),
-        ledger: after,
+    let mut run = viewed(bytes, test_runs::begun(bytes));
+    while 0 < run.left {
+        run = viewed(bytes, test_runs::called(bytes, run));
     }
-}
-
-fn compare(input: &[u8]) -> Tally
-    requires { ⌜ length (now input) ≤ 1000000 ⌝ }
-{
-    let mut runs: usize = 0;
-    let mut different: usize = 0;
-    let mut at: usize = 0;
-    while at < input.len() {
-        let step = run(input, at);
-        if !step.same {
-            different += 1;
-        }
-        runs += 1;
-        at = step.end;
-    }
-    Tally {
-        runs: runs,
-        different: different,
-    }
-}
-
-// Room for all records.
-fn room() -> [u8; 700000]
-    ensures { λ r. ⌜ 700000 ≡ length r ⌝ }
-{
-    [0; 700000]
+    run
 }
 
 fn main() {
-    let mut input = room();
+    let mut input = test_runs::room();
     let length = io::read_full(STDIN_FILENO, &mut input);
-    let tally = compare(&input[..length]);
-    io::print_decimal(STDOUT_FILENO, tally.runs as u64);
-    io::write_all(STDOUT_FILENO, b" runs, ");
-    io::print_decimal(STDOUT_FILENO, tally.different as u64);
-    io::write_all(STDOUT_FILENO, b" different\n");
+    let mut tally = test_runs::no_runs();
+    while tally.place < length {
+        let rest = part(&input[..length], tally.place, length);
+        tally = test_runs::counted(tally, run(rest), rest.len());
+    }
+    test_runs::print(tally);
 }

@@ -28,6 +28,8 @@ copy-values-spec =
     (λ c. search needs)
     (λ c. search needs)
     (λ c. search needs)
-    (λ c. let (copied, (_, same)) = c .before .before .loop .inv in (copied-more _ (c .before .before .before .args .values .now) _ (c .before .before .loop .i) copied (c .before .loop-test .taken) (c .before .before .before .pre) same, (omega arith, search needs)))
+    (λ c. let start = c .before .before .before in let (copied, (_, same)) = c .before .before .loop .inv in
+    (copied-more _ (start .args .values .now) _ (c .before .before .loop .i) copied (c .before .loop-test .taken) (start .pre) same, (omega arith, search needs)))
     (λ c. let (_, (_, same)) = c .before .loop .inv in same)
-    (λ c. let (copied, _) = c .before .loop .inv in copied-all _ 0 (c .before .before .args .values .now) _ (c .before .loop .i) copied (omega arith) (c .loop-test .left) .contents))
+    (λ c. let (copied, _) = c .before .loop .inv in
+    copied-all _ 0 (c .before .before .args .values .now) _ (c .before .loop .i) copied (omega arith) (c .loop-test .left) .contents))

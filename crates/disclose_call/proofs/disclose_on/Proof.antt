@@ -9,8 +9,10 @@ disclose-on-spec =
     tie.close (tie.spec
     (λ c κs. let (_, (lengths, _)) = c .before .before .before .before .before .before .before .pre in lengths)
     (λ c κs. search needs)
-    (λ c κs. let ((same-file, clear), (_, room)) = c .before .before .before .before .before .before .before .before .before .before .before .before .before .before .before .pre in called-ready _ _ _ _ _ _ (record { clear = clear; sameFile = same-file; begins = c .before .before .function-start .ensures .0 }) _ _ _ (c .before .before .before .before .before .before .before .opened-places .ensures) room)
+    (λ c κs. let ((same-file, clear), (_, room)) = c .before .before .before .before .before .before .before .before .before .before .before .before .before .before .before .pre in
+    called-ready _ _ _ _ _ _ (record { clear = clear; sameFile = same-file; begins = c .before .before .function-start .ensures .0 }) _ _ _ (c .before .before .before .before .before .before .before .opened-places .ensures) room)
     (λ c. search needs)
     (λ c. search needs)
     (λ c. search needs)
-    (λ c. let ((same-file, clear), _) = c .before .before .before .before .before .before .before .before .before .before .before .before .before .before .before .before .before .before .before .before .pre in called-disclosed _ _ _ _ _ _ (record { clear = clear; sameFile = same-file; begins = c .before .before .before .before .before .before .before .function-start .ensures .0 }) _ _ _ _ _ (c .before .before .before .before .before .before .before .before .before .before .before .before .opened-places .ensures) (c .before .before .before .before .disclose-body .ensures)))
+    (λ c. let ((same-file, clear), _) = c .before .before .before .before .before .before .before .before .before .before .before .before .before .before .before .before .before .before .before .before .pre in
+    called-disclosed _ _ _ _ _ _ (record { clear = clear; sameFile = same-file; begins = c .before .before .before .before .before .before .before .function-start .ensures .0 }) _ _ _ _ _ (c .before .before .before .before .before .before .before .before .before .before .before .before .opened-places .ensures) (c .before .before .before .before .disclose-body .ensures)))

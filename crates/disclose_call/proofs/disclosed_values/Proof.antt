@@ -29,7 +29,8 @@ disclosed-values-spec =
     (λ c κs. search needs)
     (λ c. search needs)
     (λ c. omega (arith, c .before .at-most .ensures, bytes (c .before .before .before .before .before)))
-    (λ c. sym (length-take-le (c .before .before .at-most .result) (c .before .before .before .before .before .before .args .l .file) (omega (arith, c .before .before .at-most .ensures, bytes (c .before .before .before .before .before .before)))))
+    (λ c. let start = c .before .before .before .before .before .before in
+    sym (length-take-le (c .before .before .at-most .result) (start .args .l .file) (omega (arith, c .before .before .at-most .ensures, bytes (start)))))
     (λ c. search needs)
     (λ c. taken-length _ _ (omega (arith, c .before .before .at-most2 .ensures)))
     (λ c. search needs)

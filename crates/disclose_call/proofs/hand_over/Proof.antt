@@ -12,4 +12,5 @@ hand-over-spec =
     (λ c. let args = c .before .before .before .args in short-handed (args .values .now) (args .out .now) _ refl refl (omega (arith, c .if1 .taken)))
     (λ c κs. search needs)
     (λ c. search needs)
-    (λ c. let args = c .before .before .before .before .before .before .before .args in all-handed (args .values .now) (args .out .now) _ _ refl refl (omega (arith, c .before .before .before .before .if1 .left)) (c .before .before .copy-values .ensures)))
+    (λ c. let args = c .before .before .before .before .before .before .before .args in
+    all-handed (args .values .now) (args .out .now) _ _ refl refl (omega (arith, c .before .before .before .before .if1 .left)) (c .before .before .copy-values .ensures)))

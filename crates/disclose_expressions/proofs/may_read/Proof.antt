@@ -11,4 +11,5 @@ may-read-spec =
     tie.close (tie.spec
     (λ c κs. search needs)
     (λ c. let args = c .before .before .args in reads-everyone (args .addresses .now) (args .code) (args .party) (omega arith))
-    (λ c. let args = c .before .before .before .args in reads-named (args .addresses .now) (args .code) (args .party) _ _ (c .address-of .ensures (c .before .if1 .left)) refl))
+    (λ c. let args = c .before .before .before .args in
+    reads-named (args .addresses .now) (args .code) (args .party) _ _ (c .address-of .ensures (c .before .if1 .left)) refl))

@@ -10,7 +10,12 @@ pub append-line-spec : {M : Type 1} → statement M
 append-line-spec =
     tie.close (tie.spec
     (λ c κs. omega (arith, digits-length 20 (c .before .before .before .args .number), c .before .before .before .pre))
-    (λ c κs. let args = c .before .before .before .before .before .before .before .args in let room = text-room (args .out .now) (args .values .now) (args .number) (c .before .before .before .before .before .before .before .pre) _ _ (c .before .before .before .append-digits .ensures) in omega arith)
-    (λ c κs. let args = c .before .before .before .before .before .before .before .before .before .before .before .args in end-room (args .out .now) (args .values .now) (args .number) (c .before .before .before .before .before .before .before .before .before .before .before .pre) _ _ (c .before .before .before .before .before .before .before .append-digits .ensures) _ _ (c .before .before .before .append-values .ensures))
+    (λ c κs. let start = c .before .before .before .before .before .before .before in let args = start .args in
+    let room = text-room (args .out .now) (args .values .now) (args .number) (start .pre) _ _ (c .before .before .before .append-digits .ensures) in
+    omega arith)
+    (λ c κs. let start = c .before .before .before .before .before .before .before .before .before .before .before in let args = start .args in
+    end-room (args .out .now) (args .values .now) (args .number) (start .pre) _ _ (c .before .before .before .before .before .before .before .append-digits .ensures) _ _ (c .before .before .before .append-values .ensures))
     (λ c. search needs)
-    (λ c. let args = c .before .before .before .before .before .before .before .before .before .before .before .before .before .before .args in line-appended (args .out .now) (args .values .now) (args .number) (c .before .before .before .before .before .before .before .before .before .before .before .before .before .before .pre) _ _ (c .before .before .before .before .before .before .before .before .before .before .append-digits .ensures) _ _ (c .before .before .before .before .before .before .append-values .ensures) _ _ (c .before .before .append-byte .ensures)))
+    (λ c. let start = c .before .before .before .before .before .before .before .before .before .before .before .before .before .before in
+    let args = start .args in
+    line-appended (args .out .now) (args .values .now) (args .number) (start .pre) _ _ (c .before .before .before .before .before .before .before .before .before .before .append-digits .ensures) _ _ (c .before .before .before .before .before .before .append-values .ensures) _ _ (c .before .before .append-byte .ensures)))

@@ -29,7 +29,8 @@ append-values-spec =
     (λ c κs. let (_, (_, (_, left))) = c .before .before .before .loop .inv in omega (arith, left))
     (λ c. search needs)
     (λ c. search needs)
-    (λ c. let (appending, (_, (_, left))) = c .before .before .before .before .before .before .loop .inv in let i = c .before .before .before .before .before .before .loop .i in
+    (λ c. let (appending, (_, (_, left))) = c .before .before .before .before .before .before .loop .inv in
+    let i = c .before .before .before .before .before .before .loop .i in
     (text-next _ _ _ (c .before .before .before .before .before .before .before .before .before .pre) _ _ i appending _ _ (c .before .before .before .before .before .loop-test .taken) (c .before .before .append-value .ensures), (omega arith, (search needs, omega (arith, left, value-short (getD (c .before .before .before .before .before .before .before .before .before .args .values .now) i 0), c .before .before .append-value .ensures .place)))))
     (λ c. let (_, (_, (same, _))) = c .before .loop .inv in same)
     (λ c. let (appending, _) = c .before .loop .inv in text-done _ _ _ (c .before .before .before .before .pre) _ _ (c .before .loop .i) appending (c .loop-test .left)))

@@ -13,4 +13,5 @@ write-line-spec =
     (λ c. let args = c .before .before .before .before .args in no-room (args .number) (args .values .now) (args .out .now) (omega arith))
     (λ c κs. search needs)
     (λ c. search needs)
-    (λ c. let args = c .before .before .before .before .before .before .before .before .args in line-written (args .number) (args .values .now) (args .out .now) _ _ (omega arith) (c .before .before .append-line .ensures)))
+    (λ c. let args = c .before .before .before .before .before .before .before .before .args in
+    line-written (args .number) (args .values .now) (args .out .now) _ _ (omega arith) (c .before .before .append-line .ensures)))

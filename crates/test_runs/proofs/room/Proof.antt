@@ -2,8 +2,8 @@
 use mathlib.Core.Path.{sym}
 use Prim.Native.Nat.{ℕ}
 use lib.ListN.{length-replicate}
-use Rattle.test_disclosures.proofs.room.Statement.{statement}
-use Rattle.test_disclosures.proofs.room.Tie as tie
+use Rattle.test_runs.proofs.room.Statement.{statement}
+use Rattle.test_runs.proofs.room.Tie as tie
 
 pub room-spec : {M : Type 1} → statement M
 room-spec = tie.close (tie.spec (λ c. sym (length-replicate {0} {A = ℕ} 700000 0)))
