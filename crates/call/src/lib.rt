@@ -1,6 +1,7 @@
 // 01, Runs and views: a call on a ledger, whatever ledger, caller, function and arguments are given.
 use call_18_to_20::call_number;
 use call_honest::honest_call;
+use check_refusals::is_refused;
 use ledger_struct::Ledger;
 ghost use Rattle.call.specs.Calls.{CalledOn};
 
@@ -16,7 +17,7 @@ pub fn call(l: Ledger, function: u8, caller: u8, arguments: &[u32]) -> Called
     ensures { λ r. ⌜ CalledOn l function caller (now (arguments .entry)) r ⌝ }
 {
     let number = call_number(l, function, caller, arguments);
-    if number != 0 {
+    if is_refused(number) {
         return Called {
             number: number,
             ledger: l,

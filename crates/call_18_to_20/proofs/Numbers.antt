@@ -1,12 +1,12 @@
 -- Numbers 18 to 20 of a call, by their tests.
-use mathlib.Core.Path.{_≡_, refl, sym, _∙_}
+use mathlib.Core.Path.{_≡_, refl, ap, sym, _∙_}
 use mathlib.Core.Bool.{Bool, true, false}
-use mathlib.Core.List.{List}
-use Prim.Native.Nat.{ℕ, _<_, _≤_}
-use borrow.Author.Tests.{le-leb, lt-leb}
+use mathlib.Core.List.{List, [], _∷_}
+use Prim.Native.Nat.{ℕ}
+use lib.Dec.{leb}
 use Rattle.definitions.specs.Basics.{firstThatHolds}
 use Rattle.definitions.specs.Ledger as ledger
-use Rattle.definitions.specs.Ledger.{notCallable, argumentsOff, callNumber}
+use Rattle.definitions.specs.Ledger.{notCallable, callNumber}
 use Rattle.file_accepted.specs.Context.{parametersIn}
 use Rattle.file_accepted.specs.Functions.{functionStart}
 use Rattle.ledger_numbers.specs.Arguments.{argumentsOffFor}
@@ -19,18 +19,11 @@ module _ (l : ledger.Ledger) (function caller : ℕ) where
     unfolding callNumber firstThatHolds
     eighteen h = rw h refl
 
-    module _ (r : Bool) (there : notCallable l function caller ≡ false) (same : r ≡ argumentsOffFor (parametersIn (l .file) (functionStart (l .file) function)) arguments) where
-      off : r ≡ argumentsOff l function caller arguments
-      off = same ∙ arguments-off-are l function caller arguments (function-there l function caller there)
-
-      pub nineteen : r ≡ true → 19 ≡ callNumber l function caller arguments
-      unfolding callNumber firstThatHolds
-      nineteen h = rw (there, sym off ∙ h) refl
-
-      pub twenty : r ≡ false → 65535 ≤ l .call → 20 ≡ callNumber l function caller arguments
-      unfolding callNumber firstThatHolds
-      twenty h used = rw (there, sym off ∙ h, le-leb 65535 (l .call) used) refl
-
-      pub accepted : r ≡ false → l .call < 65535 → 0 ≡ callNumber l function caller arguments
-      unfolding callNumber firstThatHolds
-      accepted h left = rw (there, sym off ∙ h, lt-leb 65535 (l .call) left) refl
+    -- The later sentences are asked of a call whose function stands in the ledger's file.
+    pub later : (off : Bool) (n : ℕ) → notCallable l function caller ≡ false
+        → off ≡ argumentsOffFor (parametersIn (l .file) (functionStart (l .file) function)) arguments
+        → n ≡ firstThatHolds 19 (off ∷ leb 65535 (l .call) ∷ []) → n ≡ callNumber l function caller arguments
+    unfolding callNumber firstThatHolds
+    later off n there same e =
+        e ∙ ap (λ (b : Bool). firstThatHolds 19 (b ∷ leb 65535 (l .call) ∷ [])) (same ∙ arguments-off-are l function caller arguments (function-there l function caller there))
+        ∙ sym (rw there refl)

@@ -1,6 +1,7 @@
 // 01, Numbers: 18 to 20, of a call on any ledger.
 use call_18_callable::is_not_callable;
 use call_19_arguments::are_arguments_off;
+use call_numbers::number_19_or_20;
 use ledger_struct::Ledger;
 ghost use mathlib.Core.Path.{_≡_};
 ghost use Rattle.definitions.specs.Ledger.{callNumber};
@@ -13,11 +14,5 @@ pub fn call_number(l: Ledger, function: u8, caller: u8, arguments: &[u32]) -> u8
     if is_not_callable(l, function, caller) {
         return 18;
     }
-    if are_arguments_off(l, function, arguments) {
-        return 19;
-    }
-    if l.call == 65535 {
-        return 20;
-    }
-    0
+    number_19_or_20(are_arguments_off(l, function, arguments), l.call)
 }

@@ -1,5 +1,6 @@
 // 01, Runs and views: the honest call. Its parameters and supplied values are worked out from the original, on opened places, and are then
 // handed to the call with given values, which walks the written body.
+use call_numbers::serial_call;
 use call_with::call_with;
 use file_bytes::byte_at;
 use file_bytes::read_layout;
@@ -68,7 +69,7 @@ fn call_supplied(
         (honestParametersOf (ledgerOf l) function caller (now (arguments .entry)))
         (honestVariablesOf (ledgerOf l) function caller (now (arguments .entry))) ⌝ }
 {
-    let call = l.call + 1;
+    let call = serial_call(l.call);
     put_parameters(file, function_at, caller, call, arguments, parameters);
     put_variables(log, private, slots, addresses, call, variables);
     call_with(l, function, caller, parameters, variables)

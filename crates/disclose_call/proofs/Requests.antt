@@ -1,51 +1,27 @@
 -- The cases of a request for a call's disclosures.
 use mathlib.Core.Path.{_≡_, refl, ap, sym, _∙_}
 use mathlib.Core.Bool.{Bool, true, false, cond, _||_}
-use mathlib.Core.List.{List, _++_}
-use Prim.Native.Nat.{ℕ, zero, suc, _+_, _<_, _≤_}
+use mathlib.Core.List.{List, [], _∷_, _++_}
+use Prim.Native.Nat.{ℕ, _≤_}
 use native.Mathlib.Nat.{zero-add}
-use native.Mathlib.Omega.{arith}
-use borrow.Author.Tests.{ne-eqb, lt-ltb, le-ltb}
+use borrow.Author.Tests.{ne-eqb, le-ltb}
 use lib.Dec.{eqb, ltb}
-use lib.ListN.{length, getD, set, take, drop}
+use lib.ListN.{length, take, drop}
 use Rattle.definitions.specs.Basics.{firstThatHolds}
 use Rattle.definitions.specs.Numbers.{orElse}
 use Rattle.definitions.specs.Ledger as ledger
 use Rattle.definitions.specs.Ledger.{callNumber}
 use Rattle.definitions.specs.View.{disclosedOn, disclosedNumber, disclosedLength, outputAfterDisclosing}
-use Rattle.memory_buffer.specs.Buffer.{stored}
-use Rattle.memory_buffer.proofs.Storing.{stored-one, front-stored}
+use Rattle.memory_buffer.proofs.Storing.{front-stored}
 use Rattle.memory_append.specs.Append.{Appended}
-use Rattle.memory_append.proofs.Appending.{copied-next}
-use Rattle.disclose_call.specs.declared.Answer.{Answer}
-use Rattle.disclose_call.specs.Disclosed.{HandedOver, DisclosedTo}
-
-front : (held values : List ℕ) → stored held 0 values ≡ values ++ drop (length values) held
-unfolding stored
-front held values = rw (zero-add (length values))
-
--- One value more is copied.
-pub copied-more : (held values before : List ℕ) (i : ℕ) → before ≡ stored held 0 (take i values) → i < length values → length values ≤ length held
-    → length before ≡ length held → set before i (getD values i 0) ≡ stored held 0 (take (i + 1) values)
-copied-more held values before i h inside fits same =
-    let one = sym (stored-one before i (getD values i 0) (omega arith)) in
-    copied-next held 0 values before (set before i (getD values i 0)) i h (rw (zero-add i) one) inside (omega arith)
+use Rattle.disclose_output.specs.declared.Answer.{Answer}
+use Rattle.disclose_output.specs.Handing.{HandedOver}
+use Rattle.disclose_output.proofs.Refusals.{refused-first}
+use Rattle.disclose_call.specs.Disclosed.{DisclosedTo}
 
 -- What is appended from the start on stands at the front.
 pub values-front : (held after values : List ℕ) (count : ℕ) → Appended held after 0 values count → take count after ≡ values
 values-front held after values count a = front-stored held after values count (a .contents) (a .place ∙ zero-add (length values))
-
-module _ (values before : List ℕ) where
-  pub short-handed : (r : Answer) → r .number ≡ 21 → r .length ≡ 0 → length before < length values → HandedOver values before before r
-  short-handed r number long short =
-      let test = lt-ltb (length before) (length values) short in
-      record { number = rw test number; long = rw test long; output = rw test refl }
-
-  pub all-handed : (after : List ℕ) (r : Answer) → r .number ≡ 0 → r .length ≡ length values → length values ≤ length before
-      → after ≡ stored before 0 values → HandedOver values before after r
-  all-handed after r number long fits put =
-      let test = le-ltb (length before) (length values) fits in
-      record { number = rw test number; long = rw test long; output = rw test (put ∙ front before values) }
 
 module _ (l : ledger.Ledger) (function caller : ℕ) (arguments : List ℕ) (party : ℕ) (before : List ℕ) where
   abbrev number : ℕ
@@ -61,26 +37,20 @@ module _ (l : ledger.Ledger) (function caller : ℕ) (arguments : List ℕ) (par
       let test = ne-eqb number 0 some in
       record { number = same; long = rw test none; output = rw test refl }
 
-  first-number : (n later : ℕ) → (n ≡ 0 → ⊥) → orElse n later ≡ n
-  first-number zero later some = absurd (some refl)
-  first-number (suc n) later some = refl
-
-  pub call-refused : (n : ℕ) (r : Answer) → n ≡ callNumber l function caller arguments → (n ≡ 0 → ⊥) → r .number ≡ n → r .length ≡ 0
+  -- What refuses before the values are worked out refuses the request.
+  pub request-refused : (given n : ℕ) (r : Answer) → given ≡ callNumber l function caller arguments
+      → n ≡ orElse given (firstThatHolds 21 (ltb 15 party ∷ [])) → (n ≡ 0 → ⊥) → r .number ≡ n → r .length ≡ 0
       → DisclosedTo l function caller arguments party before before r
   unfolding disclosedNumber
-  call-refused n r same some is none =
-      let e : number ≡ n = rw (← same) (first-number n _ some) in
-      refused r (is ∙ sym e) (λ z. some (sym e ∙ z)) none
+  request-refused given n r same first some is none =
+      let short = ltb (length before) (length values) in
+      let e : n ≡ number = refused-first given party n first short some ∙ ap (λ (m : ℕ). orElse m (firstThatHolds 21 ((ltb 15 party || short) ∷ []))) same in
+      refused r (is ∙ e) (λ z. some (e ∙ z)) none
 
   module _ (clear : callNumber l function caller arguments ≡ 0) where
     later-number : number ≡ cond (ltb 15 party || ltb (length before) (length values)) 21 0
     unfolding disclosedNumber firstThatHolds
     later-number = rw clear refl
-
-    pub party-refused : (r : Answer) → 15 < party → r .number ≡ 21 → r .length ≡ 0 → DisclosedTo l function caller arguments party before before r
-    party-refused r above is none =
-        let e : number ≡ 21 = later-number ∙ rw (lt-ltb 15 party above) refl in
-        refused r (is ∙ sym e) (λ z. let w = sym e ∙ z in omega arith) none
 
     module _ (low : party ≤ 15) where
       room-number : number ≡ cond (ltb (length before) (length values)) 21 0

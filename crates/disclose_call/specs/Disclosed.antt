@@ -1,10 +1,8 @@
 -- 01, Runs and views: what a request for a call's disclosures gives.
 use mathlib.Core.Path.{_≡_}
-use mathlib.Core.Bool.{cond}
-use mathlib.Core.List.{List, _++_}
+use mathlib.Core.List.{List}
 use Prim.Native.Nat.{ℕ, _<_, _≤_}
-use lib.Dec.{ltb}
-use lib.ListN.{length, drop}
+use lib.ListN.{length}
 use Rattle.definitions.specs.ContractFile.{nodesAt, nodeCount}
 use Rattle.definitions.specs.Original.{addressIn, disclosedBy}
 use Rattle.definitions.specs.Ledger as ledger
@@ -12,7 +10,7 @@ use Rattle.definitions.specs.View.{disclosedNumber, disclosedLength, outputAfte
 use Rattle.theory_trees.specs.Trees.{statementIn}
 use Rattle.file_accepted.specs.Context.{Context, nodesIn, fieldsIn, scopeIn}
 use Rattle.file_accepted.specs.Functions.{rootAt}
-use Rattle.disclose_call.specs.declared.Answer.{Answer}
+use Rattle.disclose_output.specs.declared.Answer.{Answer}
 
 -- What the body of the function that begins at a place discloses, where the places hold these numbers.
 unfoldable pub bodyDiscloses : List ℕ → ℕ → ℕ → List ℕ → List ℕ → ℕ → List ℕ
@@ -25,12 +23,6 @@ pub record BodyReady (file : List ℕ) (at caller : ℕ) (arguments numbers : Li
   pub context : Context file at (nodesAt file)
   pub root : rootAt file at < nodeCount file
   pub room : length (bodyDiscloses file at caller arguments numbers party) ≤ length values
-
--- Values are handed over where there is room for them.
-pub record HandedOver (values before after : List ℕ) (r : Answer) : Type 0 where
-  pub number : r .number ≡ cond (ltb (length before) (length values)) 21 0
-  pub long : r .length ≡ cond (ltb (length before) (length values)) 0 (length values)
-  pub output : after ≡ cond (ltb (length before) (length values)) before (values ++ drop (length values) before)
 
 pub record DisclosedTo (l : ledger.Ledger) (function caller : ℕ) (arguments : List ℕ) (party : ℕ) (before after : List ℕ)
     (r : Answer) : Type 0 where

@@ -1,7 +1,11 @@
 // 01, Runs and views: what a call would disclose to a party, told before the call is made.
 use call_18_to_20::call_number;
 use call_honest::opened_places;
+use check_refusals::is_refused;
 use disclose_expressions::Asked;
+use disclose_output::Answer;
+use disclose_output::hand_over;
+use disclose_output::refusal;
 use disclose_statements::disclose_statement;
 use file_bytes::read_layout;
 use file_functions::function_start;
@@ -14,16 +18,9 @@ ghost use Prim.Native.Nat.{_*_, _≤_, min};
 ghost use lib.ListN.{length};
 ghost use Rattle.definitions.specs.Ledger.{callNumber};
 ghost use Rattle.definitions.specs.View.{disclosedOn};
-ghost use Rattle.memory_buffer.specs.Buffer.{stored};
 ghost use Rattle.memory_append.specs.Append.{Appended};
 ghost use Rattle.ledger_struct.specs.Ledgers.{ledgerOf};
-ghost use Rattle.disclose_call.specs.Disclosed.{bodyDiscloses, BodyReady, HandedOver, DisclosedTo};
-
-// A number, 0 where the values were handed over, and how many they are.
-pub struct Answer {
-    pub number: u8,
-    pub length: usize,
-}
+ghost use Rattle.disclose_call.specs.Disclosed.{bodyDiscloses, BodyReady, DisclosedTo};
 
 // Who would call which function, and the party that asks what it would be told.
 struct Question {
@@ -120,35 +117,6 @@ fn disclosed_values(l: Ledger, question: Question, arguments: &[u32], values: &m
     )
 }
 
-// Values at the front of an output with room for them.
-fn copy_values(values: &[u32], out: &mut [u32])
-    requires { ⌜ length (now values) ≤ length (now out) ⌝ }
-    ensures { λ _. ⌜ now (out .exit) ≡ stored (now (out .entry)) 0 (now (values .entry)) ⌝ }
-{
-    let mut i = 0;
-    while i < values.len() {
-        out[i] = values[i];
-        i += 1;
-    }
-}
-
-// "its output is too short": nothing is written then.
-fn hand_over(values: &[u32], out: &mut [u32]) -> Answer
-    ensures { λ r. ⌜ HandedOver (now (values .entry)) (now (out .entry)) (now (out .exit)) r ⌝ }
-{
-    if out.len() < values.len() {
-        return Answer {
-            number: 21,
-            length: 0,
-        };
-    }
-    copy_values(values, out);
-    Answer {
-        number: 0,
-        length: values.len(),
-    }
-}
-
 // What the call would tell the party, before it is made. Wrong programs that this rules out: one that tells a party what is revealed to
 // another, or a value that no reveal shows; one that tells what stands behind a failure, or writes where it refuses.
 pub fn disclosed(
@@ -161,16 +129,10 @@ pub fn disclosed(
 ) -> Answer
     ensures { λ r. ⌜ DisclosedTo (ledgerOf l) function caller (now (arguments .entry)) party (now (out .entry)) (now (out .exit)) r ⌝ }
 {
-    let number = call_number(l, function, caller, arguments);
-    if number != 0 {
+    let number = refusal(call_number(l, function, caller, arguments), party);
+    if is_refused(number) {
         return Answer {
             number: number,
-            length: 0,
-        };
-    }
-    if 15 < party {
-        return Answer {
-            number: 21,
             length: 0,
         };
     }

@@ -4,11 +4,11 @@ use mathlib.Core.Bool.{Bool, true, false, cond, _&&_}
 use mathlib.Core.List.{List, [], _∷_, _++_}
 use Prim.Native.Nat.{ℕ, _+_, _*_, _<_, _≤_}
 use native.Mathlib.Omega.{arith}
-use borrow.Author.Tests.{eqb-true, eqb-false, eq-eqb}
+use borrow.Author.Tests.{eqb-true, eqb-false}
 use lib.Dec.{eqb}
 use lib.ListN.{length}
-use Rattle.definitions.specs.ContractFile.{Name, meName, Owner, ownerOfCode, Operator, Expression, NodeRecord, nodeCount, nodeRecord}
-use Rattle.definitions.specs.Original.{Reader, only, value, isWorkedOut, operates, mayRead, readerOf, disclosed}
+use Rattle.definitions.specs.ContractFile.{Name, meName, Owner, Operator, Expression, NodeRecord, nodeCount, nodeRecord}
+use Rattle.definitions.specs.Original.{value, isWorkedOut, operates, mayRead, readerOf, disclosed}
 use Rattle.theory_trees.specs.Trees.{expressionIn}
 use Rattle.memory_append.specs.Append.{Appended}
 use Rattle.memory_append.proofs.Appending.{appended-nothing}
@@ -21,15 +21,6 @@ use Rattle.disclose_expressions.specs.declared.Asked.{Asked}
 use Rattle.disclose_expressions.specs.declared.Told.{Told}
 use Rattle.disclose_expressions.specs.Expressions.{valueIn, isWorkedOutIn, disclosedIn, ExpressionReady, ExpressionDisclosed}
 use Rattle.disclose_expressions.proofs.InTurn.{same-appended, appended-stopped, appended-both, room-first, room-second}
-
--- Whether a party may read, by the code that a reveal names.
-module _ (addresses : List ℕ) (code party : ℕ) where
-  pub reads-everyone : code ≡ 0 → true ≡ mayRead party (readerOf (addressFrom addresses) (ownerOfCode code))
-  reads-everyone e = rw e
-
-  pub reads-named : (address : ℕ) (r : Bool) → readerOf (addressFrom addresses) (ownerOfCode code) ≡ only address → r ≡ eqb address party
-      → r ≡ mayRead party (readerOf (addressFrom addresses) (ownerOfCode code))
-  reads-named address r named same = same ∙ sym (ap (mayRead party) named)
 
 module _ (file arguments addresses numbers : List ℕ) where
   -- Of all addresses the value of an expression asks the caller's alone.

@@ -1,19 +1,17 @@
 // 01, Runs and views: "Each reveal to all or to the party's address, once worked out, adds its value to what the call discloses to the
 // party, up to a failure." The expressions of the original, on numbers in all places.
+use disclose_readers::may_read;
 use file_bytes::node_at;
 use honest_values::value;
-use walk_claims::address_of;
 use walk_expressions::divides;
 ghost use mathlib.Core.Path.{_≡_};
 ghost use mathlib.Core.List.{[], _∷_};
 ghost use Prim.Native.Nat.{_+_, _<_, _≤_};
 ghost use lib.ListN.{length};
-ghost use Rattle.definitions.specs.ContractFile.{nodeCount, ownerOfCode};
-ghost use Rattle.definitions.specs.Original.{mayRead, readerOf};
+ghost use Rattle.definitions.specs.ContractFile.{nodeCount};
 ghost use Rattle.theory_trees.specs.Trees.{expressionIn};
 ghost use Rattle.memory_append.specs.Append.{Appended};
 ghost use Rattle.file_accepted.specs.Context.{Context, nodesIn};
-ghost use Rattle.ledger_circuits.specs.Circuits.{addressFrom};
 ghost use Rattle.honest_values.specs.Values.{kindAt, valueOf};
 ghost use Rattle.disclose_expressions.specs.Expressions.{ExpressionReady, ExpressionDisclosed};
 
@@ -38,17 +36,6 @@ fn append_value(value: u32, out: &mut [u32], at: usize) -> usize
 {
     out[at] = value;
     at + 1
-}
-
-// A reveal to all tells every party, any other the party at its address alone.
-fn may_read(addresses: &[u32], code: usize, party: u8) -> bool
-    ensures { λ r. ⌜ r ≡ mayRead party (readerOf (addressFrom (now (addresses .entry))) (ownerOfCode code)) ⌝ }
-{
-    if code == 0 {
-        true
-    } else {
-        address_of(addresses, code) == party as u32
-    }
 }
 
 // The value of node n for the caller.

@@ -1,5 +1,7 @@
 // 01, Runs and views: what a statement of the original discloses to a party, with the numbers that it leaves in the places: "In a call it
 // works out parts first, second, third, of an if the condition and the taken branch; a false require fails the call."
+use disclose_branches::branch_of;
+use disclose_branches::holds;
 use disclose_expressions::Asked;
 use disclose_expressions::Told;
 use disclose_expressions::disclose_expression;
@@ -8,26 +10,10 @@ use file_bytes::node_at;
 use ledger_places::position;
 use ledger_places::put_number;
 ghost use mathlib.Core.Path.{_≡_};
-ghost use mathlib.Core.Bool.{cond, _&&_};
-ghost use Rattle.definitions.specs.Basics.{isTrue};
 ghost use Rattle.theory_trees.specs.Trees.{statementIn};
 ghost use Rattle.file_accepted.specs.Context.{nodesIn};
 ghost use Rattle.honest_values.specs.Values.{kindAt};
 ghost use Rattle.disclose_statements.specs.Statements.{StatementReady, StatementDisclosed};
-
-// The branch of an if that is taken.
-fn branch_of(condition: u32, then: usize, other: usize) -> usize
-    ensures { λ r. ⌜ r ≡ cond (isTrue condition) then other ⌝ }
-{
-    if condition == 0 { other } else { then }
-}
-
-// A false require fails, and so does one that is not worked out.
-fn holds(finished: bool, condition: u32) -> bool
-    ensures { λ r. ⌜ r ≡ (finished && isTrue condition) ⌝ }
-{
-    if finished { condition != 0 } else { false }
-}
 
 // A field takes a value.
 fn disclose_field(

@@ -1,4 +1,6 @@
 // "18. The ledger isn't well formed": the test of any ledger at all.
+use check_contract::check;
+use check_refusals::is_refused;
 use ledger_18_before::is_before_calls;
 use ledger_18_call::is_after_call;
 use ledger_18_parts::put_places;
@@ -39,9 +41,9 @@ pub fn is_well_formed(l: Ledger) -> bool
 {
     let length = at_most(l.file_length, 4596);
     let bytes = l.file;
-    if check_contract::check(&bytes[..length]) == 0 {
-        is_opened_well(l, &bytes[..length])
-    } else {
+    if is_refused(check(&bytes[..length])) {
         false
+    } else {
+        is_opened_well(l, &bytes[..length])
     }
 }

@@ -1,11 +1,11 @@
 -- The report's text: what it is of an accepted file, how long it can be, and what stands in the output.
 use mathlib.Core.Path.{_≡_, refl, ap, sym, _∙_}
-use mathlib.Core.Bool.{false≢true}
+use mathlib.Core.Bool.{Bool, true, false}
 use mathlib.Core.List.{List, [], _∷_, _++_, map}
 use Prim.Native.Nat.{ℕ, zero, suc, _+_, _<_, _≤_}
 use native.Mathlib.Omega.{arith}
-use borrow.Author.Tests.{eq-eqb, ne-eqb, lt-ltb, le-ltb}
-use lib.Dec.{eqb, ltb}
+use borrow.Author.Tests.{ne-eqb}
+use lib.Dec.{ltb}
 use lib.ListN.{length, take, drop, length-map}
 use lib.Seq.{length-take-le, take-at}
 use Rattle.definitions.specs.Basics.{firstThatHolds}
@@ -17,6 +17,7 @@ use Rattle.theory_laws.proofs.Rooms.{within-room}
 use Rattle.memory_buffer.specs.Buffer.{stored}
 use Rattle.memory_append.specs.Append.{Appended}
 use Rattle.memory_append.proofs.Appending.{appended-length}
+use Rattle.write_output.specs.Answers.{HandedOut}
 use Rattle.report_text.specs.Lines.{reportLines}
 use Rattle.report_text.proofs.Lines.{report-is, report-length}
 use Rattle.write_function_room.specs.Functions.{writtenFunctions}
@@ -92,25 +93,18 @@ module _ (file : List ℕ) where
       unfolding stored
       text-front = ap (take n) (a .contents) ∙ take-at (reportText file) (drop (0 + length (reportText file)) before) n (omega (arith, a .place))
 
-      module _ (out : List ℕ) where
-        pub too-short : length out < n → Refused file out 16
-        unfolding firstThatHolds
-        too-short h =
-            let short = lt-ltb (length out) (length (reportText file)) (omega (arith, a .place)) in
-            refused-by file out 16 (sym (room-number out ∙ ap (λ b. firstThatHolds 16 (b ∷ [])) short)) (λ h. false≢true (ap (eqb 0) h))
+      -- What is handed out of the room is what the entry owes.
+      pub reported : (out now : List ℕ) (number long : ℕ) → HandedOut (take n after) out now number long
+          → (number ≡ reportNumber file (length out)) × (long ≡ reportLength file (length out)) × (now ≡ outputAfterReport file out)
+      unfolding reportLength outputAfterReport firstThatHolds
+      reported out now number long handed = go (ltb (length out) (length (reportText file))) refl
+        where
+          text-handed : HandedOut (reportText file) out now number long
+          text-handed = rw text-front at handed
 
-        pub text-fits : n ≤ length out → 0 + length (take n after) ≤ length out
-        text-fits h = omega (arith, text-taken)
-
-        pub reported : n ≤ length out → (now : List ℕ) (end : ℕ) → Appended out now 0 (take n after) end
-            → (0 ≡ reportNumber file (length out)) × (n ≡ reportLength file (length out)) × (now ≡ outputAfterReport file out)
-        unfolding reportLength outputAfterReport stored firstThatHolds
-        reported h now end b =
-            let long = le-ltb (length out) (length (reportText file)) (omega (arith, a .place)) in
-            let clear : reportNumber file (length out) ≡ 0 = room-number out ∙ ap (λ b. firstThatHolds 16 (b ∷ [])) long in
-            let same : 0 + length (reportText file) ≡ length (reportText file) = omega arith in
-            let zero = eq-eqb (reportNumber file (length out)) 0 clear in (
-              sym clear,
-              rw zero (omega (arith, a .place)),
-              rw zero (b .contents ∙ ap (stored out 0) text-front ∙ ap (λ (m : ℕ). reportText file ++ drop m out) same),
-            )
+          go : (short : Bool) → ltb (length out) (length (reportText file)) ≡ short
+              → (number ≡ reportNumber file (length out)) × (long ≡ reportLength file (length out)) × (now ≡ outputAfterReport file out)
+          go true e =
+              (text-handed .number ∙ sym (room-number out), rw (room-number out, e) (rw e at (text-handed .long)), rw (room-number out, e) (rw e at (text-handed .output)))
+          go false e =
+              (text-handed .number ∙ sym (room-number out), rw (room-number out, e) (rw e at (text-handed .long)), rw (room-number out, e) (rw e at (text-handed .output)))

@@ -1,7 +1,9 @@
 // 01, File A, whole: the report of any file, "function number and count of variables with origins 0 to 3", or the number that refuses it.
 use check_contract::check;
-use memory_append::append;
+use check_refusals::is_refused;
 use report_crossings::count_functions;
+use report_output::Answer;
+use report_output::hand_out;
 use report_text::report_lines;
 ghost use mathlib.Core.Path.{_≡_};
 ghost use Prim.Native.Nat.{_≤_};
@@ -27,12 +29,6 @@ fn text_room() -> [u8; 691]
     [0; 691]
 }
 
-// The number, and the length of the text: 0 where the number is not.
-pub struct Answer {
-    pub number: u8,
-    pub length: usize,
-}
-
 // The report, in the lent output. Wrong reports that this rules out: one that writes where it refuses, be it a line that tells the refusal;
 // one that writes a part of the text where the rest does not fit.
 pub fn report(file: &[u8], out: &mut [u8]) -> Answer
@@ -41,7 +37,7 @@ pub fn report(file: &[u8], out: &mut [u8]) -> Answer
         × (now (out .exit) ≡ outputAfterReport (now (file .entry)) (now (out .entry))) ⌝ }
 {
     let number = check(file);
-    if number != 0 {
+    if is_refused(number) {
         return Answer {
             number: number,
             length: 0,
@@ -49,15 +45,5 @@ pub fn report(file: &[u8], out: &mut [u8]) -> Answer
     }
     let mut text = text_room();
     let length = append_accepted(file, &mut text);
-    if out.len() < length {
-        return Answer {
-            number: 16,
-            length: 0,
-        };
-    }
-    append(&text[..length], out, 0);
-    Answer {
-        number: 0,
-        length: length,
-    }
+    hand_out(&text[..length], out)
 }

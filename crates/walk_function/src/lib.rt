@@ -4,6 +4,7 @@ use file_bytes::byte_at;
 use rewrite_statements::function_log;
 use walk_commands::run;
 use walk_function_nodes::put_function;
+use write_extents::numbers_of;
 use write_parameters::count_private;
 ghost use Prim.Native.Nat.{_*_, _-_};
 ghost use lib.ListN.{take};
@@ -41,7 +42,7 @@ fn run_last(
         (stateOf (now (places .exit)) (now (variables .exit))) r ⌝ }
 {
     let end = 8 * count;
-    let last = 4 * constraints;
+    let last = numbers_of(constraints);
     run(
         &nodes[..end],
         file,

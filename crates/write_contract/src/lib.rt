@@ -1,5 +1,6 @@
 // 01, Rewriting: a contract file checked and written into lent memory.
 use check_contract::check;
+use check_refusals::is_refused;
 use write_output::Answer;
 use write_output::hand_out;
 use write_parts::write_parts;
@@ -29,7 +30,7 @@ pub fn write(file: &[u8], out: &mut [u8]) -> Answer
         × (now (out .exit) ≡ outputAfterWriting (now (file .entry)) (now (out .entry)))) ⌝ }
 {
     let number = check(file);
-    if 0 < number {
+    if is_refused(number) {
         return Answer {
             number: number,
             length: 0,

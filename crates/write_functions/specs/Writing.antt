@@ -13,8 +13,8 @@ use Rattle.rewrite_events.specs.Events.{variableCount, constraintsOf}
 use Rattle.rewrite_log.specs.Entries.{Entries}
 use Rattle.write_circuits.specs.Circuits.{sixesFrom}
 use Rattle.write_function_room.specs.Functions.{writtenIn, privateIn, eventsIn, FunctionRoom}
+use Rattle.write_extents.specs.declared.Extent.{Extent}
 use Rattle.write_functions.specs.declared.Parts.{Parts}
-use Rattle.write_functions.specs.declared.Extent.{Extent}
 
 -- The constraints of a function's body, and their circuits.
 abbrev pub constraintsIn : List ℕ → ℕ → List Constraint

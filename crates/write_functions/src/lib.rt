@@ -3,6 +3,8 @@ use file_bytes::byte_at;
 use rewrite_statements::function_log;
 use write_circuits::put_circuits;
 use write_claims::append_claims;
+use write_extents::Extent;
+use write_extents::is_verified;
 use write_function_bodies::write_function_body;
 use write_headings::append_heading;
 use write_parameters::count_private;
@@ -18,12 +20,6 @@ pub struct Parts {
     pub logged: usize,
     pub made: usize,
     pub claims: usize,
-    pub nodes: usize,
-}
-
-// Where the heading ends, and how many nodes there are.
-pub struct Extent {
-    pub end: usize,
     pub nodes: usize,
 }
 
@@ -119,14 +115,14 @@ pub fn write_function(
         (now (nodes .entry)) (now (nodes .exit)) base r ⌝ }
 {
     let parts = write_circuits(file, function_at, nodes_at, log, numbers, nodes, base);
-    let constraints = parts.private + parts.claims;
+    let verified = is_verified(parts.private + parts.claims);
     let first = base + parts.nodes;
     let body = write_function_body(
         file,
         function_at,
         nodes_at,
         parts.private,
-        0 < constraints,
+        verified,
         scratch,
         roots,
         nodes,

@@ -54,11 +54,11 @@ module _ (file : List ℕ) where
         nodes-at : 8 * base ≡ 0 + length (nodesOf file f)
         nodes-at = let e = put .count in let l = nodes-before-length file f in omega arith
 
-        pub one-put : (start end nodes : ℕ) (h′ n′ : List ℕ) → start ≡ functionStart file f
+        pub one-put : (start end nodes total : ℕ) (h′ n′ : List ℕ) → start ≡ functionStart file f
             → h′ ≡ stored h at (functionBytes base (writtenIn file start)) → end ≡ at + length (functionBytes base (writtenIn file start))
             → n′ ≡ stored n (8 * base) (flatMap nodeBytes (numberedAll base (functionTrees (writtenIn file start)))) → nodes ≡ sizes (functionTrees (writtenIn file start))
-            → FunctionsPut file (f + 1) from h₀ h′ n₀ n′ end (base + nodes)
-        one-put start end nodes h′ n′ s a e b c =
+            → total ≡ base + nodes → FunctionsPut file (f + 1) from h₀ h′ n₀ n′ end total
+        one-put start end nodes total h′ n′ s a e b c t =
             let w = writtenIn file (functionStart file f) in
             let m = nodesBefore file f in
             let k = put .count in

@@ -2,8 +2,9 @@
 use file_bytes::function_end;
 use file_bytes::read_layout;
 use memory_append::append_byte;
+use write_extents::Extent;
+use write_extents::behind;
 use write_fields::append_field_section;
-use write_functions::Extent;
 use write_functions::write_function;
 ghost use Rattle.definitions.specs.ContractFile.{functionCount};
 ghost use Rattle.write_parts.specs.Parts.{Ready, Scratch, FunctionsReady, FunctionsPut, PartsPut};
@@ -30,10 +31,12 @@ fn write_functions(
 {
     let mut function_at = first;
     let mut f = 0;
-    let mut end = from;
-    let mut base = 0;
+    let mut all = Extent {
+        end: from,
+        nodes: 0,
+    };
     while f < count {
-        let extent = write_function(
+        let written = write_function(
             file,
             function_at,
             nodes_at,
@@ -43,19 +46,15 @@ fn write_functions(
             numbers,
             claims,
             headings,
-            end,
+            all.end,
             nodes,
-            base,
+            all.nodes,
         );
-        end = extent.end;
-        base += extent.nodes;
+        all = behind(all, written);
         function_at = function_end(file, function_at);
         f += 1;
     }
-    Extent {
-        end: end,
-        nodes: base,
-    }
+    all
 }
 
 // The whole file: fields, count of functions, functions.

@@ -9,7 +9,7 @@ use Rattle.call_honest.proofs.call_supplied.Tie as tie
 pub call-supplied-spec : {M : Type 1} → statement M
 call-supplied-spec =
     tie.close (tie.spec
-    (λ c. let (worked-out, _) = c .before .before .before .before .before .before .before .before .pre in
+    (λ c κs. let (worked-out, _) = c .before .before .before .before .before .before .before .pre in
     omega (arith, call-left _ (calls-left _ _ _ _ (worked-out .called .clear))))
     (λ c κs. let (worked-out, contents-room) = c .before .before .before .before .before .before .before .before .before .pre in
     parameters-ready _ _ _ _ _ _ (worked-out .called) _ (contents-room .forParameters))
@@ -22,4 +22,4 @@ call-supplied-spec =
     let args-l = start .args .l in let (worked-out, _) = start .pre in
     let put-parameters = c .before .before .before .before .before .before .before .before .before .before .before .put-parameters .ensures in
     let put-variables = c .before .before .before .before .before .before .before .put-variables .ensures in
-    call-honest _ _ _ _ _ _ _ _ _ _ worked-out _ _ _ _ (omega (arith, call-of args-l)) put-parameters put-variables (c .before .before .call-with .ensures)))
+    call-honest _ _ _ _ _ _ _ _ _ _ worked-out _ _ _ _ (omega (arith, call-of args-l, c .before .before .before .before .before .before .before .before .before .before .before .before .before .serial-call .ensures)) put-parameters put-variables (c .before .before .call-with .ensures)))

@@ -1,32 +1,49 @@
 -- The number of the call, then the party, then the room.
 use mathlib.Core.Path.{_≡_, refl, sym, _∙_}
+use Prim.Native.Nat.{_≤_}
 use native.Mathlib.Omega.{arith}
+use lib.ListN.{length}
 use borrow.Author.Needs.{needs}
+use Rattle.definitions.specs.Ledger.{callNumber}
+use Rattle.definitions.specs.View.{disclosedOn}
+use Rattle.check_refusals.proofs.Refusals.{refuses, accepts}
+use Rattle.ledger_struct.specs.Ledgers.{ledgerOf}
 use Rattle.call_ledgers.proofs.Ledgers.{taken-length}
+use Rattle.disclose_output.proofs.Refusals.{number-clear, party-low}
 use Rattle.disclose_call.proofs.Bodies.{disclosed-few}
-use Rattle.disclose_call.proofs.Requests.{values-front, call-refused, party-refused, request-handed}
+use Rattle.disclose_call.proofs.Requests.{values-front, request-refused, request-handed}
 use Rattle.disclose_call.proofs.disclosed.Statement.{statement}
 use Rattle.disclose_call.proofs.disclosed.Tie as tie
+
+-- Behind the refusals the call is not refused, there is such a party, and the values are few.
+module _ (c : tie.Else1) where
+  abbrev start : tie.Start
+  start = c .before .before .before .before .before .before
+
+  none : c .before .before .refusal .result ≡ 0
+  none = accepts _ _ (c .before .is-refused .ensures) (c .if1 .left)
+
+  clear : callNumber (ledgerOf (start .args .l)) (start .args .function) (start .args .caller) (start .args .arguments .now) ≡ 0
+  clear = sym (c .before .before .before .call-number .ensures) ∙ number-clear (c .before .before .before .call-number .result) (start .args .party) _ (c .before .before .refusal .ensures) none
+
+  low : start .args .party ≤ 15
+  low = party-low (c .before .before .before .call-number .result) (start .args .party) _ (c .before .before .refusal .ensures) none
+
+  few : length (disclosedOn (ledgerOf (start .args .l)) (start .args .function) (start .args .caller) (start .args .arguments .now) (start .args .party)) ≤ 512
+  few = disclosed-few _ _ _ _ (start .args .party) clear
 
 pub disclosed-spec : {M : Type 1} → statement M
 disclosed-spec =
     tie.close (tie.spec
     (λ c κs. search needs)
-    (λ c. call-refused _ _ _ _ _ _ _ _ (c .before .call-number .ensures) (λ none. omega (arith, none, c .if1 .taken)) refl refl)
-    (λ c. let none : c .before .before .call-number .result ≡ 0 = omega (arith, c .before .if1 .left) in
-    let clear = sym (c .before .before .call-number .ensures) ∙ none in
-    party-refused _ _ _ _ (c .before .before .before .before .before .args .party) _ clear _ (omega (arith, c .if2 .taken)) refl refl)
+    (λ c κs. search needs)
+    (λ c κs. search needs)
+    (λ c. request-refused _ _ _ _ _ _ (c .before .before .before .call-number .result) _ _ (c .before .before .before .call-number .ensures) (c .before .before .refusal .ensures)
+    (refuses (c .before .before .refusal .result) _ (c .before .is-refused .ensures) (c .if1 .taken)) refl refl)
     (λ c. search needs)
-    (λ c κs. let none : c .before .before .before .call-number .result ≡ 0 = omega (arith, c .before .before .if1 .left) in
-    let clear = sym (c .before .before .before .call-number .ensures) ∙ none in (clear, omega arith))
-    (λ c. let none : c .before .before .before .before .before .call-number .result ≡ 0 = omega (arith, c .before .before .before .before .if1 .left) in
-    let clear = sym (c .before .before .before .before .before .call-number .ensures) ∙ none in
-    omega (arith, disclosed-few _ _ _ _ (c .before .before .before .before .before .before .before .before .args .party) clear, c .before .disclosed-values .ensures .place))
-    (λ c. let none : c .before .before .before .before .before .before .call-number .result ≡ 0 = omega (arith, c .before .before .before .before .before .if1 .left) in
-    let clear = sym (c .before .before .before .before .before .before .call-number .ensures) ∙ none in
-    taken-length _ _ (omega (arith, disclosed-few _ _ _ _ (c .before .before .before .before .before .before .before .before .before .args .party) clear, c .before .before .disclosed-values .ensures .place)))
+    (λ c κs. (clear (c .before), omega arith))
+    (λ c. omega (arith, few (c .before .before .before), c .before .disclosed-values .ensures .place))
+    (λ c. taken-length _ _ (omega (arith, few (c .before .before .before .before), c .before .before .disclosed-values .ensures .place)))
     (λ c κs. search needs)
     (λ c. search needs)
-    (λ c. let none : c .before .before .before .before .before .before .before .before .before .before .call-number .result ≡ 0 = omega (arith, c .before .before .before .before .before .before .before .before .before .if1 .left) in
-    let clear = sym (c .before .before .before .before .before .before .before .before .before .before .call-number .ensures) ∙ none in
-    request-handed _ _ _ _ (c .before .before .before .before .before .before .before .before .before .before .before .before .before .args .party) _ clear (omega (arith, c .before .before .before .before .before .before .before .before .if2 .left)) _ _ _ (values-front _ _ _ _ (c .before .before .before .before .before .before .disclosed-values .ensures)) (c .before .before .hand-over .ensures)))
+    (λ c. request-handed _ _ _ _ (c .before .before .before .before .before .before .before .before .before .before .before .before .before .before .args .party) _ (clear (c .before .before .before .before .before .before .before .before)) (low (c .before .before .before .before .before .before .before .before)) _ _ _ (values-front _ _ _ _ (c .before .before .before .before .before .before .disclosed-values .ensures)) (c .before .before .hand-over .ensures)))

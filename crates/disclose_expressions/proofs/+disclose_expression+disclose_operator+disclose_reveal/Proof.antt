@@ -22,7 +22,7 @@ use Rattle.disclose_expressions.proofs.disclose_reveal.Reads as disclos
 use Rattle.disclose_expressions.proofs.disclose_reveal.Kinds as disclose-reveal-kinds
 use Rattle.disclose_expressions.proofs.+disclose_expression+disclose_operator+disclose_reveal.Lts-disclose_reveal as disclose-reveal-lts
 use Rattle.disclose_expressions.proofs.append_value.Reads as append-value-reads
-use Rattle.disclose_expressions.proofs.may_read.Reads as may-read-reads
+use Rattle.disclose_readers.proofs.may_read.Reads as may-read-reads
 use Rattle.file_bytes.proofs.node_at.Reads as node-at-reads
 use Rattle.disclose_expressions.proofs.value_asked.Reads as value-asked-reads
 use Rattle.walk_expressions.proofs.divides.Reads as divides-reads

@@ -24,7 +24,7 @@ use Rattle.disclose_statements.proofs.disclose_statement.Reads as discl
 use Rattle.disclose_statements.proofs.disclose_statement.Kinds as disclose-statement-kinds
 use Rattle.disclose_statements.proofs.+disclose_conditional+disclose_sequence+disclose_statement.Lts-disclose_statement as disclose-statement-lts
 use Rattle.disclose_expressions.proofs.disclose_expression.Reads as disclose-expression-reads
-use Rattle.disclose_statements.proofs.branch_of.Reads as branch-of-reads
+use Rattle.disclose_branches.proofs.branch_of.Reads as branch-of-reads
 use Rattle.disclose_statements.proofs.disclose_entry.Reads as disclose-entry-reads
 use Rattle.disclose_statements.proofs.disclose_field.Reads as disclose-field-reads
 use Rattle.disclose_statements.proofs.disclose_require.Reads as disclose-require-reads

@@ -3,6 +3,7 @@ use mathlib.Core.Path.{_≡_, sym, _∙_}
 use native.Mathlib.Omega.{arith}
 use lib.ListN.{length}
 use lib.Seq.{length-take-le}
+use Rattle.check_refusals.proofs.Refusals.{refuses, accepts}
 use Rattle.ledger_struct.specs.Ledgers.{ledgerOf}
 use Rattle.ledger_struct.proofs.Flat.{take-many}
 use Rattle.ledger_18_parts.proofs.WellFormedParts.{refused}
@@ -13,22 +14,23 @@ use Rattle.ledger_18_test.proofs.is_well_formed.Tie as tie
 bytes : (c : tie.Start) → length (c .args .l .file) ≡ 4596
 bytes c = search needs
 
+returns : tie.Need-returns
+unfolding ledgerOf
+returns c =
+    let k = c .before .before .before .before .before in
+    let l = k .before .args .l in
+    refused (ledgerOf l) _ _ (take-many (l .«file_length») (k .at-most .result) (l .file) (omega (arith, k .at-most .ensures, bytes (k .before)))) (c .before .before .check .ensures)
+    (refuses _ _ (c .before .is-refused .ensures) (c .if1 .taken))
+
 is-opened-well-requires : tie.Need-is-opened-well-requires
 unfolding ledgerOf
 is-opened-well-requires c κs =
-    let k = c .before .before .before .before .before in
+    let k = c .before .before .before .before .before .before in
     let l = k .before .args .l in
     record {
       is = take-many (l .«file_length») (k .at-most .result) (l .file) (omega (arith, k .at-most .ensures, bytes (k .before)));
-      number = sym (c .before .before .check .ensures) ∙ c .before .if1 .taken;
+      number = sym (c .before .before .before .check .ensures) ∙ accepts _ _ (c .before .before .is-refused .ensures) (c .before .if1 .left);
     }
-
-returns-2 : tie.Need-returns-2
-unfolding ledgerOf
-returns-2 c =
-    let k = c .before .before .before .before in
-    let l = k .before .args .l in
-    refused (ledgerOf l) _ _ (take-many (l .«file_length») (k .at-most .result) (l .file) (omega (arith, k .at-most .ensures, bytes (k .before)))) (c .before .check .ensures) (c .if1 .left)
 
 pub is-well-formed-spec : {M : Type 1} → statement M
 is-well-formed-spec =
@@ -40,10 +42,11 @@ is-well-formed-spec =
     let s = c .before .before .before in
     sym (length-take-le (at-most .result) (s .args .l .file) (omega (arith, at-most .ensures, bytes s))))
     (λ c κs. search needs)
-    (λ c. let k = c .before .before .before .before in
-    omega (arith, k .at-most .ensures, bytes (k .before)))
+    (λ c κs. search needs)
     (λ c. let k = c .before .before .before .before .before in
+    omega (arith, k .at-most .ensures, bytes (k .before)))
+    (λ c. let k = c .before .before .before .before .before .before in
     sym (length-take-le (k .at-most .result) (k .before .args .l .file) (omega (arith, k .at-most .ensures, bytes (k .before)))))
     is-opened-well-requires
-    (λ c. search needs)
-    returns-2)
+    returns
+    (λ c. search needs))

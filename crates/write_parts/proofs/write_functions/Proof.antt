@@ -1,5 +1,5 @@
 -- The loop's invariant: the functions before this one stand in the buffers.
-use mathlib.Core.Path.{_≡_, refl}
+use mathlib.Core.Path.{_≡_, refl, _∙_}
 use Prim.Native.Nat.{_-_, _<_, _≤_}
 use native.Mathlib.Omega.{arith}
 use lib.ListN.{length}
@@ -13,13 +13,13 @@ use Rattle.write_parts.proofs.write_functions.Statement.{statement}
 use Rattle.write_parts.proofs.write_functions.Tie as tie
 
 abbrev Inv-loop : tie.InvT-loop
-Inv-loop file first count nodes-at log₀ scratch₀ roots₀ numbers₀ claims₀ headings₀ from nodes₀ function-at₀ f₀ end₀ base₀ log scratch roots numbers claims headings nodes function-at f end base =
-    (FunctionsPut file f from headings₀ headings nodes₀ nodes end base) × (function-at ≡ functionStart file f) × (f ≤ count)
+Inv-loop file first count nodes-at log₀ scratch₀ roots₀ numbers₀ claims₀ headings₀ from nodes₀ function-at₀ f₀ all₀ log scratch roots numbers claims headings nodes function-at f all =
+    (FunctionsPut file f from headings₀ headings nodes₀ nodes (all .end) (all .nodes)) × (function-at ≡ functionStart file f) × (f ≤ count)
     × (length log ≡ length log₀) × (length scratch ≡ length scratch₀) × (length roots ≡ length roots₀) × (length numbers ≡ length numbers₀)
     × (length claims ≡ length claims₀) × (length headings ≡ length headings₀) × (length nodes ≡ length nodes₀)
 
 abbrev μ-loop : tie.MeasureT-loop
-μ-loop file first count nodes-at log₀ scratch₀ roots₀ numbers₀ claims₀ headings₀ from nodes₀ function-at₀ f₀ end₀ base₀ log scratch roots numbers claims headings nodes function-at f end base = count - f
+μ-loop file first count nodes-at log₀ scratch₀ roots₀ numbers₀ claims₀ headings₀ from nodes₀ function-at₀ f₀ all₀ log scratch roots numbers claims headings nodes function-at f all = count - f
 
 pub write-functions-spec : {M : Type 1} → statement M
 write-functions-spec =
@@ -44,13 +44,13 @@ write-functions-spec =
       headingSpace = omega (arith, ready .ready .headingSpace);
       nodeSpace = omega (arith, ready .ready .nodeSpace);
     })
-    (λ c. let start = c .before .before .before .before .before .before .before .before .before .before .before .before .before .before .before .before .before .before .before .before .before .before .before .before .before .before .before .before .before .before .before .before .before in
+    (λ c κs. let start = c .before .before .before .before .before .before .before .before .before .before .before .before .before .before .before .before .before .before .before .before .before .before .before .before .before .before .before .before .before .before .before .before in
     let args = start .args in let (functions-ready, _) = start .pre in
-    let loop-f = c .before .before .before .before .before .before .before .before .before .before .before .before .before .before .before .before .before .before .before .before .before .before .before .before .loop .f in
-    let (functions-put, function-at-is, _, _, _, _, _, _, _, _) = c .before .before .before .before .before .before .before .before .before .before .before .before .before .before .before .before .before .before .before .before .before .before .before .before .loop .inv in
-    let write-function-count = c .before .before .before .before .before .before .before .before .before .before .before .before .before .before .before .write-function .ensures .count in
+    let loop-f = c .before .before .before .before .before .before .before .before .before .before .before .before .before .before .before .before .before .before .before .before .before .before .before .loop .f in
+    let (functions-put, function-at-is, _, _, _, _, _, _, _, _) = c .before .before .before .before .before .before .before .before .before .before .before .before .before .before .before .before .before .before .before .before .before .before .before .loop .inv in
+    let write-function-count = c .before .before .before .before .before .before .before .before .before .before .before .before .before .before .write-function .ensures .count in
     let ready = functions-ready in
-    let loop-test = c .before .before .before .before .before .before .before .before .before .before .before .before .before .before .before .before .before .before .before .before .before .before .before .loop-test .taken in
+    let loop-test = c .before .before .before .before .before .before .before .before .before .before .before .before .before .before .before .before .before .before .before .before .before .before .loop-test .taken in
     let room = places-fit (args .file .now) (args .headings .now) (args .nodes .now) (args .from) loop-f _ _ _ _ functions-put _ function-at-is (function-room (args .file .now) (ready .ready .accepted) loop-f (omega (arith, ready .counted, loop-test))) in
     omega (arith, room .nodes, write-function-count))
     (λ c κs. let start = c .before .before .before .before .before .before .before .before .before .before .before .before .before .before .before .before .before .before .before .before .before .before .before .before .before .before .before .before .before .before .before .before .before in
@@ -70,7 +70,8 @@ write-functions-spec =
     let inside : c .before .before .before .before .before .before .before .before .before .before .before .before .before .before .before .before .before .before .before .before .before .before .before .before .before .loop .f < functionCount (c .before .before .before .before .before .before .before .before .before .before .before .before .before .before .before .before .before .before .before .before .before .before .before .before .before .before .before .before .before .before .before .before .before .before .args .file .now) = omega (arith, ready .counted) in
     let room = function-room (c .before .before .before .before .before .before .before .before .before .before .before .before .before .before .before .before .before .before .before .before .before .before .before .before .before .before .before .before .before .before .before .before .before .before .args .file .now) (ready .ready .accepted) (c .before .before .before .before .before .before .before .before .before .before .before .before .before .before .before .before .before .before .before .before .before .before .before .before .before .loop .f) inside in
     let w = c .before .before .before .before .before .before .before .before .before .before .before .before .before .before .before .before .write-function .ensures in
-    (one-put (c .before .before .before .before .before .before .before .before .before .before .before .before .before .before .before .before .before .before .before .before .before .before .before .before .before .before .before .before .before .before .before .before .before .before .args .file .now) (c .before .before .before .before .before .before .before .before .before .before .before .before .before .before .before .before .before .before .before .before .before .before .before .before .before .before .before .before .before .before .before .before .before .before .args .headings .now) (c .before .before .before .before .before .before .before .before .before .before .before .before .before .before .before .before .before .before .before .before .before .before .before .before .before .before .before .before .before .before .before .before .before .before .args .nodes .now) (c .before .before .before .before .before .before .before .before .before .before .before .before .before .before .before .before .before .before .before .before .before .before .before .before .before .before .before .before .before .before .before .before .before .before .args .from) (c .before .before .before .before .before .before .before .before .before .before .before .before .before .before .before .before .before .before .before .before .before .before .before .before .before .loop .f) _ _ _ _ (c .before .before .before .before .before .before .before .before .before .before .before .before .before .before .before .before .before .before .before .before .before .before .before .before .before .loop .inv .0) inside room (ready .behindFields) (ready .ready .headingSpace) (ready .ready .nodeSpace) (c .before .before .before .before .before .before .before .before .before .before .before .before .before .before .before .before .before .before .before .before .before .before .before .before .before .loop .function-at) _ _ _ _ (c .before .before .before .before .before .before .before .before .before .before .before .before .before .before .before .before .before .before .before .before .before .before .before .before .before .loop .inv .1) (w .heading) (w .end) (w .contents) (w .count), next-start (c .before .before .before .before .before .before .before .before .before .before .before .before .before .before .before .before .before .before .before .before .before .before .before .before .before .before .before .before .before .before .before .before .before .before .args .file .now) (c .before .before .before .before .before .before .before .before .before .before .before .before .before .before .before .before .before .before .before .before .before .before .before .before .before .loop .f) _ _ (c .before .before .before .before .before .before .before .before .before .before .before .before .before .before .before .before .before .before .before .before .before .before .before .before .before .loop .inv .1) (c .function-end .ensures .0), omega arith, search needs, search needs, search needs, search needs, search needs, search needs, search needs))
+    let moved = c .before .behind .ensures in
+    (one-put (c .before .before .before .before .before .before .before .before .before .before .before .before .before .before .before .before .before .before .before .before .before .before .before .before .before .before .before .before .before .before .before .before .before .before .args .file .now) (c .before .before .before .before .before .before .before .before .before .before .before .before .before .before .before .before .before .before .before .before .before .before .before .before .before .before .before .before .before .before .before .before .before .before .args .headings .now) (c .before .before .before .before .before .before .before .before .before .before .before .before .before .before .before .before .before .before .before .before .before .before .before .before .before .before .before .before .before .before .before .before .before .before .args .nodes .now) (c .before .before .before .before .before .before .before .before .before .before .before .before .before .before .before .before .before .before .before .before .before .before .before .before .before .before .before .before .before .before .before .before .before .before .args .from) (c .before .before .before .before .before .before .before .before .before .before .before .before .before .before .before .before .before .before .before .before .before .before .before .before .before .loop .f) _ _ _ _ (c .before .before .before .before .before .before .before .before .before .before .before .before .before .before .before .before .before .before .before .before .before .before .before .before .before .loop .inv .0) inside room (ready .behindFields) (ready .ready .headingSpace) (ready .ready .nodeSpace) (c .before .before .before .before .before .before .before .before .before .before .before .before .before .before .before .before .before .before .before .before .before .before .before .before .before .loop .function-at) _ _ _ _ _ (c .before .before .before .before .before .before .before .before .before .before .before .before .before .before .before .before .before .before .before .before .before .before .before .before .before .loop .inv .1) (w .heading) (moved .0 ∙ w .end) (w .contents) (w .count) (moved .1), next-start (c .before .before .before .before .before .before .before .before .before .before .before .before .before .before .before .before .before .before .before .before .before .before .before .before .before .before .before .before .before .before .before .before .before .before .args .file .now) (c .before .before .before .before .before .before .before .before .before .before .before .before .before .before .before .before .before .before .before .before .before .before .before .before .before .loop .f) _ _ (c .before .before .before .before .before .before .before .before .before .before .before .before .before .before .before .before .before .before .before .before .before .before .before .before .before .loop .inv .1) (c .function-end .ensures .0), omega arith, search needs, search needs, search needs, search needs, search needs, search needs, search needs))
     (λ c. search needs) (λ c. search needs) (λ c. search needs) (λ c. search needs) (λ c. search needs) (λ c. search needs)
     (λ c. search needs)
     (λ c. let start = c .before .before .before .before .before .before .before .before .before .before in let args-file = start .args .file .now in

@@ -1,0 +1,17 @@
+-- Whether a party may read, by the code that a reveal names.
+use mathlib.Core.Path.{_≡_, ap, sym, _∙_}
+use mathlib.Core.Bool.{Bool, true}
+use mathlib.Core.List.{List}
+use Prim.Native.Nat.{ℕ}
+use lib.Dec.{eqb}
+use Rattle.definitions.specs.ContractFile.{ownerOfCode}
+use Rattle.definitions.specs.Original.{Reader, only, mayRead, readerOf}
+use Rattle.ledger_circuits.specs.Circuits.{addressFrom}
+
+module _ (addresses : List ℕ) (code party : ℕ) where
+  pub reads-everyone : code ≡ 0 → true ≡ mayRead party (readerOf (addressFrom addresses) (ownerOfCode code))
+  reads-everyone e = rw e
+
+  pub reads-named : (address : ℕ) (r : Bool) → readerOf (addressFrom addresses) (ownerOfCode code) ≡ only address → r ≡ eqb address party
+      → r ≡ mayRead party (readerOf (addressFrom addresses) (ownerOfCode code))
+  reads-named address r named same = same ∙ sym (ap (mayRead party) named)

@@ -1,0 +1,36 @@
+// 01, Rewriting: how far written functions reach: whether one is verified, how many numbers its constraints take, where the next one goes.
+ghost use mathlib.Core.Path.{_≡_};
+ghost use Prim.Native.Nat.{_+_, _*_, _≤_};
+ghost use lib.Dec.{ltb};
+
+// Where the headings end, and how many nodes there are.
+pub struct Extent {
+    pub end: usize,
+    pub nodes: usize,
+}
+
+// "A verify ends the body if any constraint exists."
+pub fn is_verified(constraints: usize) -> bool
+    ensures { λ r. ⌜ r ≡ ltb 0 constraints ⌝ }
+{
+    0 < constraints
+}
+
+// A constraint is kept as four numbers.
+pub fn numbers_of(constraints: usize) -> usize
+    requires { ⌜ 4 * constraints ≤ 18446744073709551615 ⌝ }
+    ensures { λ r. ⌜ r ≡ 4 * constraints ⌝ }
+{
+    4 * constraints
+}
+
+// What is written with one function more, whose heading stands behind those before it.
+pub fn behind(before: Extent, written: Extent) -> Extent
+    requires { ⌜ before .nodes + written .nodes ≤ 65535 ⌝ }
+    ensures { λ r. ⌜ (r .end ≡ written .end) × (r .nodes ≡ before .nodes + written .nodes) ⌝ }
+{
+    Extent {
+        end: written.end,
+        nodes: before.nodes + written.nodes,
+    }
+}
