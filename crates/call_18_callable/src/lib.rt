@@ -1,4 +1,5 @@
 // "18. The ledger isn't well formed ..; or a caller is above 15, or the function doesn't exist."
+use call_numbers::is_above_15;
 use file_bytes::read_layout;
 use ledger_18_test::is_well_formed;
 use ledger_struct::Ledger;
@@ -25,7 +26,7 @@ pub fn is_not_callable(l: Ledger, function: u8, caller: u8) -> bool
     if !is_well_formed(l) {
         return true;
     }
-    if 15 < caller {
+    if is_above_15(caller) {
         return true;
     }
     let length = at_most(l.file_length, 4596);

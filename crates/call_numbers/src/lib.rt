@@ -1,9 +1,16 @@
-// 01, Runs and views: the number of the last call, and what it tells of the next one: its number as a refusal, and its serials.
+// 01, Runs and views: the tests of a call that ask numbers alone, of numbers 18 to 20; the call that its serials carry.
 ghost use mathlib.Core.Path.{_≡_};
 ghost use mathlib.Core.List.{[], _∷_};
 ghost use Prim.Native.Nat.{suc, _<_};
-ghost use lib.Dec.{leb};
+ghost use lib.Dec.{leb, ltb};
 ghost use Rattle.definitions.specs.Basics.{firstThatHolds};
+
+// "18. .. or a caller is above 15"
+pub fn is_above_15(caller: u8) -> bool
+    ensures { λ r. ⌜ r ≡ ltb 15 caller ⌝ }
+{
+    15 < caller
+}
 
 // "19. Arguments differ ..", else "20. Call number 65,535 has been used.", else 0.
 pub fn number_19_or_20(arguments_off: bool, last: u16) -> u8

@@ -11,6 +11,7 @@ use Rattle.definitions.specs.Basics.{bit, all, any, anyNumbered, countIf
 use Rattle.definitions.specs.Ledger.{Ledger, deployNumber, deployed, allFit, publicOf, isWellFormed, notCallable, argumentsOff}
 use Rattle.definitions.specs.Ledger.{callNumber, callWith, honestContents, honestVariables, honestParameters, ledgerAfterCall}
 use Rattle.definitions.specs.Ledger.{circuitValue, contentOf, isWalked, stateAfter, walkCompletes}
+use Rattle.definitions.specs.ContractFile.{contractIn}
 use Rattle.definitions.specs.ContractFile.{functionsEnd, nodesAt, fieldRecords, parameterRecords, functionRecords, nodeRecords}
 use Rattle.definitions.specs.ContractFile.{sectionsOf, sectionPart, fieldOf, parameterOf, typeOf, kindOf, nodeOfKind}
 use Rattle.definitions.specs.ContractFile.{expressionParts, statementParts, fieldsNamed, chainLength, expressionOf, expressionAt}
@@ -62,6 +63,8 @@ pub data Case : Type 0 where
   isViewed : List ℕ → List ℕ → List Request → ℕ → List (List ℕ) → Case
   -- the same, and what each call discloses to the party
   isDisclosed : List ℕ → List ℕ → List Request → ℕ → List (List ℕ) → Case
+  -- a file, the original's places, a call, a party, and what the call discloses to it
+  callDiscloses : List ℕ → List ℕ → Request → ℕ → List ℕ → Case
 
 -- A request's number and length, then what the lent output holds.
 abbrev answered : ℕ → ℕ → List ℕ → List ℕ
@@ -99,6 +102,7 @@ Holds (tells l r party out number long after) = told l r party out ≡ answered 
 Holds (computes o left right result) = operate o left right ≡ result
 Holds (isViewed file addresses requests party views) = viewsAfter party (runAtDeployment file addresses) requests ≡ views
 Holds (isDisclosed file addresses requests party lists) = disclosures party (runAtDeployment file addresses) requests ≡ lists
+Holds (callDiscloses file places r party values) = originalDiscloses (contractIn file) places (r .function) (r .caller) (r .arguments) party ≡ values
 
 -- Lists of numbers, and lists of these, by a test.
 unfoldable pub sameNumbers : List ℕ → List ℕ → Bool
@@ -158,6 +162,8 @@ passes (tells l r party out number long after) = sameNumbers (told l r party out
 passes (computes o left right result) = eqb (operate o left right) result
 passes (isViewed file addresses requests party views) = sameLists (viewsAfter party (runAtDeployment file addresses) requests) views
 passes (isDisclosed file addresses requests party lists) = sameLists (disclosures party (runAtDeployment file addresses) requests) lists
+passes (callDiscloses file places r party values) =
+    sameNumbers (originalDiscloses (contractIn file) places (r .function) (r .caller) (r .arguments) party) values
 
 holds : (c : Case) → T (passes c) → Holds c
 holds (hasNumber file n) t = eqb→eq _ n t
@@ -175,6 +181,7 @@ holds (tells l r party out number long after) t = same-numbers _ (answered numbe
 holds (computes o left right result) t = eqb→eq _ result t
 holds (isViewed file addresses requests party views) t = same-lists _ views t
 holds (isDisclosed file addresses requests party lists) t = same-lists _ lists t
+holds (callDiscloses file places r party values) t = same-numbers _ values t
 
 unfoldable pub allPass : List Case → Bool
 unfolding all any anyNumbered countIf largest flatMap firstThatHolds deployNumber deployed allFit publicOf isWellFormed notCallable argumentsOff callNumber callWith honestContents honestVariables honestParameters ledgerAfterCall functionsEnd nodesAt fieldRecords parameterRecords functionRecords nodeRecords sectionsOf sectionPart fieldOf parameterOf typeOf circuitValue contentOf isWalked stateAfter walkCompletes kindOf nodeOfKind expressionParts statementParts fieldsNamed chainLength expressionOf expressionAt statementOf statementAt contractOf endsWrongly countOffLimits fieldInTables parameterInTables kindInTables outsideTables namesNothing usesOf usedOtherThanOnce tooDeep wrongSort expressionFaults statementFaults contractFaults checkNumber sectionNumber sectionAnswer value isWorkedOut placesAfter completes disclosed disclosedBy originalCompletes originalAfter originalDiscloses withLink nameOf ownerOf linksOfCondition linksAfter numbersFrom perPlace position deployedNumbers tallies insert sorted digits reportText reportNumber reportLength outputAfterReport kept onePart twoParts supplying reading stepsBefore single inSequence inBranch inBranches rewriteStatement privateParameters openings rewriteFunction rewrite inBody inCircuit runAtDeployment isTaken runAfter disclosedIn disclosedOn disclosedNumber disclosedLength outputAfterDisclosing viewsAfter disclosures sameName itemFor itemsFor itemBytes viewBytes viewNumber viewLength outputAfterView size numbered bodyTree circuitTree commandTree sizes numberedAll eachOnce constraintBytes functionBytes functionsBytes contractBytes writtenFile writeNumber writtenLength outputAfterWriting zipWith sameNumbers sameLists

@@ -63,9 +63,11 @@ marked =
 -- "Plausible and wrong", where it is about a number; sections, operators, the report.
 pub pinned : List Case
 pinned =
-    -- "a link from inside a branch used after it" is refused.
+    -- "a link from inside a branch used after it": refused where one branch has it, and by 02, Note 1, right where both have it.
     hasNumber (contract (constant 0 1 ∷ fieldRead 0 ∷ me ∷ operator 7 1 2 ∷ require 3 ∷ skip ∷ conditional 0 4 5
     ∷ parameterRead 0 ∷ assign 1 7 ∷ sequence 6 8 ∷ [])) 15
+    ∷ hasNumber (contract (constant 0 1 ∷ fieldRead 0 ∷ me ∷ operator 7 1 2 ∷ require 3 ∷ fieldRead 0 ∷ me ∷ operator 7 5 6 ∷ require 7
+    ∷ conditional 0 4 8 ∷ parameterRead 0 ∷ assign 1 10 ∷ sequence 9 11 ∷ [])) 0
     -- "Each section, count included, is handed back on request as that part of the caller's file (0 fields, 1 functions, 2 nodes)."
     ∷ hasSection fileA 0 (2 ∷ 1 ∷ 2 ∷ 0 ∷ 0 ∷ 1 ∷ 16 ∷ [])
     ∷ hasSection fileA 1 (1 ∷ 1 ∷ 1 ∷ 1 ∷ 2 ∷ 0 ∷ [])

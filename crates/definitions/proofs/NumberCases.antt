@@ -166,9 +166,37 @@ numberCases =
     ∷ operator 9 2 6 ∷ require 7 ∷ [])) 11
     ∷ hasNumber (file (finalField ∷ uintOfFirst ∷ []) (function (privateUint ∷ []) 3 ∷ function (privateUint ∷ []) 5
     ∷ []) (fieldRead 0 ∷ me ∷ operator 7 0 1 ∷ require 2 ∷ parameterRead 0 ∷ assign 1 4 ∷ [])) 15
-    -- "An if gives on the links it was given": into both branches, and behind it.
+    -- Links from before an if: in both branches, and behind it.
     ∷ hasNumber (contract (fieldRead 0 ∷ me ∷ operator 7 0 1 ∷ require 2 ∷ constant 0 1 ∷ parameterRead 0 ∷ assign 1 5
     ∷ parameterRead 0 ∷ assign 1 7 ∷ conditional 4 6 8 ∷ parameterRead 0 ∷ assign 1 10 ∷ sequence 9 11 ∷ sequence 3 12 ∷ [])) 0
+    -- 02, Note 1: "The then-branch should know the links its condition states": for 15, and for 11.
+    ∷ hasNumber (contract (fieldRead 0 ∷ me ∷ operator 7 0 1 ∷ parameterRead 0 ∷ assign 1 3 ∷ skip ∷ conditional 2 4 5 ∷ [])) 0
+    ∷ hasNumber (contract (fieldRead 0 ∷ me ∷ operator 7 0 1 ∷ fieldRead 1 ∷ constant 1 1 ∷ operator 0 3 4 ∷ assign 1 5 ∷ skip
+    ∷ conditional 2 6 7 ∷ [])) 0
+    -- "by the same reading as a require": below an "and", not below an "or"; the condition itself is judged with the links before it.
+    ∷ hasNumber (contract (constant 0 1 ∷ fieldRead 0 ∷ me ∷ operator 7 1 2 ∷ operator 9 0 3 ∷ parameterRead 0 ∷ assign 1 5 ∷ skip
+    ∷ conditional 4 6 7 ∷ [])) 0
+    ∷ hasNumber (contract (constant 0 1 ∷ fieldRead 0 ∷ me ∷ operator 7 1 2 ∷ operator 10 0 3 ∷ parameterRead 0 ∷ assign 1 5 ∷ skip
+    ∷ conditional 4 6 7 ∷ [])) 15
+    ∷ hasNumber (contract (fieldRead 0 ∷ me ∷ operator 7 0 1 ∷ fieldRead 1 ∷ constant 1 1 ∷ operator 7 3 4 ∷ reveal 5 0
+    ∷ operator 9 2 6 ∷ skip ∷ skip ∷ conditional 7 8 9 ∷ [])) 11
+    -- "The else-branch learns nothing from the condition.": it, and what follows, is refused.
+    ∷ hasNumber (contract (fieldRead 0 ∷ me ∷ operator 7 0 1 ∷ skip ∷ parameterRead 0 ∷ assign 1 4 ∷ conditional 2 3 5 ∷ [])) 15
+    ∷ hasNumber (contract (fieldRead 0 ∷ me ∷ operator 7 0 1 ∷ skip ∷ skip ∷ conditional 2 3 4 ∷ parameterRead 0 ∷ assign 1 6
+    ∷ sequence 5 7 ∷ [])) 15
+    -- "After an if, a pair of names is linked when it was linked at the end of both branches.": by the condition and by a require; in the
+    -- else-branch alone; h and g in the one, h and me in the other.
+    ∷ hasNumber (contract (fieldRead 0 ∷ me ∷ operator 7 0 1 ∷ skip ∷ fieldRead 0 ∷ me ∷ operator 7 4 5 ∷ require 6 ∷ conditional 2 3 7
+    ∷ parameterRead 0 ∷ assign 1 9 ∷ sequence 8 10 ∷ [])) 0
+    ∷ hasNumber (contract (constant 0 1 ∷ skip ∷ fieldRead 0 ∷ me ∷ operator 7 2 3 ∷ require 4 ∷ conditional 0 1 5
+    ∷ parameterRead 0 ∷ assign 1 7 ∷ sequence 6 8 ∷ [])) 15
+    ∷ hasNumber (file (finalField ∷ finalField ∷ uintOfFirst ∷ []) (function (privateUint ∷ []) 12 ∷ []) (constant 0 1 ∷ fieldRead 0
+    ∷ fieldRead 1 ∷ operator 7 1 2 ∷ require 3 ∷ fieldRead 0 ∷ me ∷ operator 7 5 6 ∷ require 7 ∷ conditional 0 4 8 ∷ parameterRead 0
+    ∷ assign 2 10 ∷ sequence 9 11 ∷ [])) 15
+    -- Of the chained relations: h == g and g == me in the one, h == me in the other.
+    ∷ hasNumber (file (finalField ∷ finalField ∷ uintOfFirst ∷ []) (function (privateUint ∷ []) 17 ∷ []) (constant 0 1 ∷ fieldRead 0
+    ∷ fieldRead 1 ∷ operator 7 1 2 ∷ require 3 ∷ fieldRead 1 ∷ me ∷ operator 7 5 6 ∷ require 7 ∷ sequence 4 8 ∷ fieldRead 0 ∷ me
+    ∷ operator 7 10 11 ∷ require 12 ∷ conditional 0 9 13 ∷ parameterRead 0 ∷ assign 2 15 ∷ sequence 14 16 ∷ [])) 0
     -- A public address parameter is a name, a private one none.
     ∷ hasNumber (file (finalField ∷ uintOfFirst ∷ []) (function (privateUint ∷ publicAddress ∷ []) 11 ∷ []) (fieldRead 0
     ∷ parameterRead 1 ∷ operator 7 0 1 ∷ require 2 ∷ parameterRead 1 ∷ me ∷ operator 7 4 5 ∷ require 6 ∷ parameterRead 0

@@ -12,7 +12,8 @@ use Rattle.definitions.specs.ContractFile.{parameterKind, operatorKind, 
 use Rattle.definitions.specs.ContractFile.{assignFieldKind, assignEntryKind, requireKind, conditionalKind, noKind, kindOf, nodeOf}
 use Rattle.definitions.specs.ContractFile.{nodeAt, constantValue, expressionParts, statementParts, children, isExpression}
 use Rattle.definitions.specs.ContractFile.{isStatement, fieldsNamed, chainLength, contractOf, isOfType, operandsFit, typeOf}
-use Rattle.definitions.specs.Owners.{Links, noLinks, isReader, isPublicAddress, placeOwner, nameOf, ownerOf, isPublic, linksAfter}
+use Rattle.definitions.specs.Owners.{Links, noLinks, isReader, isPublicAddress, placeOwner, nameOf, ownerOf, isPublic, linksOfCondition}
+use Rattle.definitions.specs.Owners.{linksAfter}
 
 -- "1. The file ends too early for its counts, or bytes remain."
 unfoldable pub endsWrongly : List ℕ → Bool
@@ -206,9 +207,10 @@ module _ (scope : Scope) where
       ++ entryFaults f key
       ++ valueFaults linked f (placeOwner ((declared f) .owner) (nameOf scope key)) value
   statementFaults linked (require condition) = conditionFaults linked condition
+  -- 02, Note 1: the then-branch knows the condition's links; the condition itself is judged with the links before it.
   statementFaults linked (conditional condition then else) =
       conditionFaults linked condition
-      ++ statementFaults linked then
+      ++ statementFaults (linksOfCondition scope condition linked) then
       ++ statementFaults linked else
 
 -- "8. .. an owner code's field isn't final": in a field's own owner code.

@@ -27,6 +27,10 @@ withLinkOf left right linked = elim left [
   | some x ↦ elim right [ none ↦ linked | some y ↦ withLink x y linked ]
 ]
 
+-- 02, Note 1: "After an if, a pair of names is linked when it was linked at the end of both branches."
+abbrev pub linkedInBoth : Links → Links → Links
+linkedInBoth one other a b = one a b && other a b
+
 abbrev pub isPublicAddress : Parameter → Bool
 isPublicAddress p = sameType (p .type) address && not (p .private)
 
@@ -88,11 +92,13 @@ module _ (scope : Scope) where
   linksOfCondition (negation part) linked = linked
   linksOfCondition (reveal part o) linked = linked
 
-  -- ".. for what follows in sequence. An if gives on the links it was given, and nothing from inside."
+  -- ".. for what follows in sequence." 02, Note 1: "The then-branch should know the links its condition states, by the same reading
+  -- as a require."; "The else-branch learns nothing from the condition."
   unfoldable pub linksAfter : Statement → Links → Links
   linksAfter skip linked = linked
   linksAfter (sequence first second) linked = linksAfter second (linksAfter first linked)
   linksAfter (assignField f value) linked = linked
   linksAfter (assignEntry f key value) linked = linked
   linksAfter (require condition) linked = linksOfCondition condition linked
-  linksAfter (conditional condition then else) linked = linked
+  linksAfter (conditional condition then else) linked =
+      linkedInBoth (linksAfter then (linksOfCondition condition linked)) (linksAfter else linked)

@@ -5,7 +5,7 @@ use mathlib.Core.List.{List, [], _∷_, _++_}
 use mathlib.Core.Option.{Option, none, some}
 use Prim.Native.Nat.{ℕ, suc, _+_}
 use Rattle.definitions.specs.ContractFile.{Name, meName, finalName, parameterName, Owner, everyone, ownedBy, FieldOwner, toEveryone, toKey, toFinal, Expression, Statement, Parameter, Scope, fieldAt, parameterAt, isFinal, isDivision}
-use Rattle.definitions.specs.Owners.{Links, isPublicAddress, placeOwner, parameterOwner, nameOf, ownerOf, isPublic, linksAfter}
+use Rattle.definitions.specs.Owners.{Links, isPublicAddress, placeOwner, parameterOwner, nameOf, ownerOf, isPublic, linksOfCondition, linksAfter}
 use Rattle.definitions.specs.Numbers.{ownerFits, expressionFaults, statementFaults}
 use Rattle.definitions.specs.Rewriting.{Variable, supplied, readFrom, guard, variableOwner, Guard}
 use Rattle.theory_laws.proofs.TruthValues.{and-left, and-right}
@@ -231,5 +231,5 @@ module _ (scope : Scope) where
         let branches = and-right (constantsFit condition) (constantsFitIn then && constantsFitIn else) c in
         both-owned (bodyEvents scope g condition i) _ (fit-owned linked (bodyEvents scope g condition) i (condition-events linked g condition then else h c))
         (both-owned (branchEvents (statementEvents scope then) _) _
-        (refl, statement-owned then linked _ _ (fits .thenFaults) (and-left (constantsFitIn then) (constantsFitIn else) branches))
+        (refl, statement-owned then (linksOfCondition scope condition linked) _ _ (fits .thenFaults) (and-left (constantsFitIn then) (constantsFitIn else) branches))
         (refl, statement-owned else linked _ _ (fits .elseFaults) (and-right (constantsFitIn then) (constantsFitIn else) branches)))

@@ -6,7 +6,7 @@ use Prim.Native.Nat.{ℕ, zero, suc, _≤_}
 use native.Mathlib.Omega.{arith}
 use lib.ListN.{getD, replicate}
 use Rattle.definitions.specs.ContractFile.{Name, meName, Expression, Statement, typeOf}
-use Rattle.definitions.specs.Owners.{Links, linksAfter}
+use Rattle.definitions.specs.Owners.{Links, linksOfCondition, linksAfter}
 use Rattle.definitions.specs.Numbers.{statementFaults}
 use Rattle.definitions.specs.Original.{value}
 use Rattle.definitions.specs.Rewriting.{Variable, supplied, readFrom, guard, always}
@@ -109,5 +109,5 @@ module _ (file : List ℕ) (at : ℕ) (arguments : List ℕ) (caller : ℕ) (add
       small-append (numbersFor file at arguments caller (bodyEvents (scopeIn file at) always condition) live p i) _
       (events-small linked live p i _ env (condition-events (scopeIn file at) fit linked always condition then else h c))
       (small-append (0 ∷ honestNumbers file at arguments caller then (live && isTaken file at arguments caller p condition) p _) _
-      (omega arith, honest-small then linked _ p _ env (fits .thenFaults) (conditional-then condition then else c))
+      (omega arith, honest-small then (linksOfCondition (scopeIn file at) condition linked) _ p _ env (fits .thenFaults) (conditional-then condition then else c))
       (omega arith, honest-small else linked _ p _ env (fits .elseFaults) (conditional-else condition then else c)))

@@ -69,5 +69,5 @@ module _ (scope : Scope) (linked : Links) (e left right : Expression) (code : �
   pub conjunction-learnt : (between : Links) → code ≡ 9 → between ≡ linksOfCondition scope left linked → linksOfCondition scope right between ≡ linksOfCondition scope e linked
   conjunction-learnt between is h = rw (tree, conjunction-links scope left right linked code is, h)
 
-  pub nothing-learnt : (code ≡ 7 → ⊥) → (code ≡ 9 → ⊥) → linked ≡ linksOfCondition scope e linked
-  nothing-learnt a b = rw (tree, other-links scope left right linked code a b)
+  pub no-name-learnt : (code ≡ 7 → ⊥) → (code ≡ 9 → ⊥) → linked ≡ linksOfCondition scope e linked
+  no-name-learnt a b = rw (tree, other-links scope left right linked code a b)

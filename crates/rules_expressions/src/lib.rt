@@ -20,6 +20,7 @@ ghost use Prim.Native.Nat.{_<_};
 ghost use Rattle.definitions.specs.ContractFile.{nodeCount};
 ghost use Rattle.definitions.specs.Owners.{linksOfCondition};
 ghost use Rattle.rules_links.specs.Names.{linkedBy};
+ghost use Rattle.rules_links.specs.Growing.{Learnt};
 ghost use Rattle.rules_judgements.specs.Judging.{JudgedAs};
 ghost use Rattle.rules_scopes.specs.Trees.{nodesOf, expressionOn};
 ghost use Rattle.rules_scopes.specs.Scopes.{Ready, scopeAt};
@@ -59,8 +60,8 @@ pub fn judge(file: &[u8], nodes_at: usize, p: Parameters, classes: Classes, n: u
 // "A completed require of name == name, or of an "and" tree holding such, links the two names"
 pub fn learn(file: &[u8], nodes_at: usize, p: Parameters, classes: Classes, n: usize) -> Classes
     requires { ⌜ (n < nodeCount (now file)) × (Ready (now file) «nodes_at» p) ⌝ }
-    ensures { λ r. ⌜ linkedBy (r .of) ≡ linksOfCondition (scopeAt (now (file .entry)) p)
-        (expressionOn (nodesOf (now (file .entry))) n) (linkedBy (classes .of)) ⌝ }
+    ensures { λ r. ⌜ Learnt classes r (linksOfCondition (scopeAt (now (file .entry)) p)
+        (expressionOn (nodesOf (now (file .entry))) n) (linkedBy (classes .of))) ⌝ }
 {
     let node = node_at(file, nodes_at, n);
     let kind = node.kind;

@@ -8,16 +8,8 @@ use lib.Dec.{eqb}
 use Rattle.definitions.specs.Basics.{any, firstThatHolds}
 use Rattle.definitions.specs.Numbers.{fault, contractFaults, contractSentences}
 use Rattle.definitions.specs.ContractFile.{Contract}
+use Rattle.theory_laws.proofs.Lists.{any-append}
 use Rattle.rules_faults.specs.Faults.{firstOf, leastFault, numberOf}
-
-or-assoc : (a b c : Bool) → (a || (b || c)) ≡ ((a || b) || c)
-or-assoc true b c = refl
-or-assoc false b c = refl
-
-pub any-append : {A : Type 0} (test : A → Bool) (xs ys : List A) → any test (xs ++ ys) ≡ (any test xs || any test ys)
-unfolding any
-any-append test [] ys = refl
-any-append test (x ∷ xs) ys = rw (any-append test xs ys) (or-assoc (test x) (any test xs) (any test ys))
 
 first-above : (count n : ℕ) (test : ℕ → Bool) → n ≤ firstOf count n test
 unfolding firstOf

@@ -6,10 +6,13 @@ ghost use lib.ListN.{getD};
 ghost use Rattle.definitions.specs.Owners.{noLinks, withLinkOf};
 ghost use Rattle.definitions.specs.Numbers.{targetInTables};
 ghost use Rattle.rules_links.specs.Names.{linkedBy, nameWith, exchanged, Exchanged};
+ghost use Rattle.rules_links.specs.Growing.{Learnt};
 
-// Links as classes of names: two names are linked when their codes have one class.
+// Links as classes of names: two names are linked when their codes have one class. A branch that adds no link says so: where one of
+// an if's branches has not grown, the links behind the if are those before it, and no class need be looked at.
 pub struct Classes {
     pub of: [u8; 256],
+    pub grown: bool,
 }
 
 fn exchange(class: u8, old: u8, new: u8) -> u8
@@ -22,7 +25,10 @@ fn exchange(class: u8, old: u8, new: u8) -> u8
 pub fn no_links() -> Classes
     ensures { λ r. ⌜ linkedBy (r .of) ≡ noLinks ⌝ }
 {
-    let mut classes = Classes { of: [0; 256] };
+    let mut classes = Classes {
+        of: [0; 256],
+        grown: false,
+    };
     let mut i: usize = 0;
     while i < 256 {
         classes.of[i] = i as u8;
@@ -42,9 +48,10 @@ pub fn same_class(classes: Classes, a: u8, b: u8) -> bool
 
 // Each class number that is `old` becomes `new`.
 fn joined(classes: Classes, old: u8, new: u8) -> Classes
-    ensures { λ r. ⌜ Exchanged old new (classes .of) (r .of) ⌝ }
+    ensures { λ r. ⌜ (Exchanged old new (classes .of) (r .of)) × (r .grown ≡ true) ⌝ }
 {
     let mut next = classes;
+    next.grown = true;
     let mut i: usize = 0;
     while i < 256 {
         next.of[i] = exchange(next.of[i], old, new);
@@ -56,7 +63,7 @@ fn joined(classes: Classes, old: u8, new: u8) -> Classes
 // The names of two owner codes become linked; code 0 is no name.
 pub fn with_link(classes: Classes, a: u8, b: u8) -> Classes
     requires { ⌜ (targetInTables a ≡ true) × (targetInTables b ≡ true) ⌝ }
-    ensures { λ r. ⌜ linkedBy (r .of) ≡ withLinkOf (nameWith a) (nameWith b) (linkedBy (classes .of)) ⌝ }
+    ensures { λ r. ⌜ Learnt classes r (withLinkOf (nameWith a) (nameWith b) (linkedBy (classes .of))) ⌝ }
 {
     if a == 0 {
         return classes;

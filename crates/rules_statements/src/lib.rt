@@ -7,9 +7,11 @@ use rules_expressions::judge;
 use rules_expressions::learn;
 use rules_faults::least;
 use rules_links::Classes;
+use rules_meet::behind;
 use rules_scopes::Parameters;
 use rules_scopes::field_at;
 ghost use mathlib.Core.Path.{_≡_};
+ghost use mathlib.Core.Bool.{false};
 ghost use Prim.Native.Nat.{_<_};
 ghost use Rattle.definitions.specs.ContractFile.{nodeCount, assignField, assignEntry};
 ghost use Rattle.definitions.specs.Numbers.{statementFaults, conditionFaults};
@@ -17,7 +19,7 @@ ghost use Rattle.rules_faults.specs.Faults.{leastFault};
 ghost use Rattle.rules_links.specs.Names.{linkedBy};
 ghost use Rattle.rules_scopes.specs.Trees.{nodesOf, expressionOn, statementOn};
 ghost use Rattle.rules_scopes.specs.Scopes.{Ready, scopeAt};
-ghost use Rattle.rules_statements.specs.Checking.{CheckedAs};
+ghost use Rattle.rules_statements.specs.Checking.{CheckedAs, AfterIf};
 
 // Least fault, 16 for none, and the links for what follows.
 pub struct Checked {
@@ -32,6 +34,25 @@ fn outcome(fault: u8, classes: Classes) -> Checked
         fault: fault,
         classes: classes,
     }
+}
+
+// The links that an if gives its branches. These have added none yet.
+fn handed_on(classes: Classes) -> Classes
+    ensures { λ r. ⌜ r ≡ record { of = classes .of; grown = false } ⌝ }
+{
+    let mut given = classes;
+    given.grown = false;
+    given
+}
+
+// Behind an if: the least of three faults, and the links that both branches end with.
+fn after_if(condition: u8, before: Classes, yes: Checked, no: Checked) -> Checked
+    ensures { λ r. ⌜ AfterIf condition before yes no r ⌝ }
+{
+    let yes_classes = yes.classes;
+    let no_classes = no.classes;
+    let fault = least(least(condition, yes.fault), no.fault);
+    outcome(fault, behind(before, yes_classes, no_classes))
 }
 
 // Field `arg` takes the value of node `first`.
@@ -90,7 +111,7 @@ pub fn judge_statement(
     n: usize,
 ) -> Checked
     requires { ⌜ (n < nodeCount (now file)) × (Ready (now file) «nodes_at» p) ⌝ }
-    ensures { λ r. ⌜ CheckedAs (scopeAt (now (file .entry)) p) (linkedBy (classes .of)) (statementOn (nodesOf (now (file .entry))) n) r ⌝ }
+    ensures { λ r. ⌜ CheckedAs (scopeAt (now (file .entry)) p) classes (statementOn (nodesOf (now (file .entry))) n) r ⌝ }
 {
     let node = node_at(file, nodes_at, n);
     let kind = node.kind;
@@ -98,7 +119,6 @@ pub fn judge_statement(
     let first = node.first;
     let second = node.second;
     let third = node.third;
-    let unchanged = outcome(16, classes);
     match kind {
         17 => {
             let one = judge_statement(file, nodes_at, p, classes, first);
@@ -117,12 +137,13 @@ pub fn judge_statement(
             learn(file, nodes_at, p, classes, first),
         ),
         21 => {
+            let given = handed_on(classes);
+            let learnt = learn(file, nodes_at, p, given, first);
             let condition = condition_is(file, nodes_at, p, classes, first);
-            let yes = judge_statement(file, nodes_at, p, classes, second);
-            let no = judge_statement(file, nodes_at, p, classes, third);
-            let after = unchanged.classes;
-            outcome(least(least(condition, yes.fault), no.fault), after)
+            let yes = judge_statement(file, nodes_at, p, learnt, second);
+            let no = judge_statement(file, nodes_at, p, given, third);
+            after_if(condition, classes, yes, no)
         }
-        _ => unchanged,
+        _ => outcome(16, classes),
     }
 }

@@ -4,3 +4,4 @@ pub mod Codes
 pub mod Records
 pub mod Written
 pub mod Rooms
+pub mod GrowingLinks

@@ -1,12 +1,12 @@
 -- The lists' functions on lists one behind another, and a list's entries by number.
 use mathlib.Core.Path.{_≡_, refl, ap, sym, _∙_}
-use mathlib.Core.Bool.{Bool, false}
+use mathlib.Core.Bool.{Bool, false, true, _||_}
 use mathlib.Core.List.{List, [], _∷_, _++_, map, append-assoc}
 use Prim.Native.Nat.{ℕ, zero, suc, _+_, _<_}
 use lib.ListN.{length, replicate, getD, drop, length-append}
 use lib.Seq.{drop-cons}
 use native.Mathlib.Omega.{arith}
-use Rattle.definitions.specs.Basics.{anyNumbered, countIf, flatMap}
+use Rattle.definitions.specs.Basics.{any, anyNumbered, countIf, flatMap}
 use Rattle.definitions.specs.Original.{numbersFrom}
 use Rattle.theory_laws.proofs.TruthValues.{or-left, or-right}
 
@@ -18,6 +18,15 @@ flat-append f (x ∷ a) b = ap (λ ys. f x ++ ys) (flat-append f a b) ∙ sym (a
 pub map-append : {A B : Type 0} (f : A → B) (xs ys : List A) → map f (xs ++ ys) ≡ map f xs ++ map f ys
 map-append f [] ys = refl
 map-append f (x ∷ xs) ys = ap (λ (l : List _). f x ∷ l) (map-append f xs ys)
+
+or-associates : (a b c : Bool) → (a || (b || c)) ≡ ((a || b) || c)
+or-associates true b c = refl
+or-associates false b c = refl
+
+pub any-append : {A : Type 0} (test : A → Bool) (a b : List A) → any test (a ++ b) ≡ (any test a || any test b)
+unfolding any
+any-append test [] b = refl
+any-append test (x ∷ a) b = rw (any-append test a b) (or-associates (test x) (any test a) (any test b))
 
 pub count-append : {A : Type 0} (test : A → Bool) (a b : List A) → countIf test (a ++ b) ≡ countIf test a + countIf test b
 unfolding countIf

@@ -53,9 +53,10 @@ with-value {s = false} {s′ = true} {d} {d′} isRead x x′ m =
 with-value {s = false} {s′ = false} {d} {d′} isRead x x′ m = record { by = λ r r′ z. (refl, λ t. absurd (false≢true t)) }
 
 -- One of two parts, by a test that both runs agree on.
-pub one-of-two : {s s′ t t′ : Bool} {d d′ e e′ : List ℕ} {First Second : Type 0} (b b′ : Bool) → b ≡ b′ → SideBySide s s′ d d′ First → SideBySide t t′ e e′ Second
+pub one-of-two : {s s′ t t′ : Bool} {d d′ e e′ : List ℕ} {First Second : Type 0} (b b′ : Bool) → b ≡ b′ → (b ≡ true → SideBySide s s′ d d′ First)
+    → SideBySide t t′ e e′ Second
     → SideBySide (cond b s t) (cond b′ s′ t′) (cond b d e) (cond b′ d′ e′) (cond b First Second)
-one-of-two true true h m n = m
+one-of-two true true h m n = m refl
 one-of-two true false h m n = absurd (true≢false h)
 one-of-two false true h m n = absurd (false≢true h)
 one-of-two false false h m n = n

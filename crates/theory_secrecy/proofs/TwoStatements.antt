@@ -8,7 +8,7 @@ use native.Mathlib.Omega.{arith}
 use lib.ListN.{length, getD, set, replicate}
 use Rattle.definitions.specs.Basics.{isTrue}
 use Rattle.definitions.specs.ContractFile.{Name, Owner, Expression, Statement, skip, sequence, assignField, assignEntry, require, conditional, Field, Scope, fieldAt}
-use Rattle.definitions.specs.Owners.{Links, placeOwner, nameOf, ownerOf, linksAfter}
+use Rattle.definitions.specs.Owners.{Links, placeOwner, nameOf, ownerOf, linksOfCondition, linksAfter}
 use Rattle.definitions.specs.Numbers.{mayBePut, statementFaults}
 use Rattle.definitions.specs.Original.{position, anyone, mayRead, readerOf, value, placesAfter, completes, disclosedBy}
 use Rattle.definitions.specs.Ledger.{plain, honestVariables}
@@ -23,7 +23,7 @@ use Rattle.theory_typing.proofs.Environments.{environment-after}
 use Rattle.theory_typing.proofs.Readers.{assigned-field-reader, assigned-entry-reader}
 use Rattle.theory_secrecy.proofs.SideBySide.{SideBySide, both-complete, with-outcome, one-after-other, with-test, one-of-two}
 use Rattle.theory_secrecy.proofs.AlikeContents.{AlikeContents, alike-itself, alike-append, alike-cons}
-use Rattle.theory_typing.proofs.Links.{LinksSound, condition-links-sound}
+use Rattle.theory_typing.proofs.Links.{LinksSound, sound-in-first, sound-in-second, condition-links-sound}
 use Rattle.theory_secrecy.proofs.Reading.{reads-public, reads-put}
 use Rattle.theory_secrecy.proofs.Supplied.{Supplies, supplies-onePart, supplies-twoParts}
 use Rattle.theory_secrecy.proofs.AlikeExpressions.{SameFor, AlikeExpression, alike-inPlace, alike-honest}
@@ -82,22 +82,23 @@ module _ (scope : Scope) (addressOf : Name → ℕ) (party : ℕ) (arguments arg
 
   alike-conditional : (linked : Links) (condition : Expression) (then else : Statement) (places places′ : List ℕ) (b b′ : Bool)
       → isTrue (value (scope .fields) addressOf arguments places condition) ≡ b → isTrue (value (scope .fields) addressOf arguments′ places′ condition) ≡ b′ → b ≡ b′
-      → LinksSound addressOf linked → AlikeExpression scope addressOf party arguments arguments′ places places′ condition
-      → cond b (AlikeStatement linked then places places′) (AlikeStatement linked else places places′) → AlikeStatement linked (conditional condition then else) places places′
+      → AlikeExpression scope addressOf party arguments arguments′ places places′ condition
+      → cond b (AlikeStatement (linksOfCondition scope condition linked) then places places′) (AlikeStatement linked else places places′)
+      → AlikeStatement linked (conditional condition then else) places places′
   unfolding linksAfter placesAfter honestVariables
-  alike-conditional linked condition then else places places′ true true z z′ d sound p q =
+  alike-conditional linked condition then else places places′ true true z z′ d p q =
       record {
-        sound = sound;
+        sound = sound-in-first addressOf (linksAfter scope then (linksOfCondition scope condition linked)) (linksAfter scope else linked) (q .sound);
         agree = rw (z, z′) (q .agree);
         variables = λ call g i.
             rw (z, z′) (alike-append (alike-honest scope addressOf party arguments arguments′ places places′ call i (p .body .at i))
             (alike-append (alike-cons refl (q .variables call _ _)) (alike-itself party _)));
       }
-  alike-conditional linked condition then else places places′ true false z z′ d sound p q = absurd (true≢false d)
-  alike-conditional linked condition then else places places′ false true z z′ d sound p q = absurd (false≢true d)
-  alike-conditional linked condition then else places places′ false false z z′ d sound p q =
+  alike-conditional linked condition then else places places′ true false z z′ d p q = absurd (true≢false d)
+  alike-conditional linked condition then else places places′ false true z z′ d p q = absurd (false≢true d)
+  alike-conditional linked condition then else places places′ false false z z′ d p q =
       record {
-        sound = sound;
+        sound = sound-in-second addressOf (linksAfter scope then (linksOfCondition scope condition linked)) (linksAfter scope else linked) (q .sound);
         agree = rw (z, z′) (q .agree);
         variables = λ call g i.
             let j = i + length ((inBody scope condition i) .variables) in
@@ -172,6 +173,8 @@ module _ (scope : Scope) (addressOf : Name → ℕ) (party : ℕ) (arguments arg
         (and-left (constantsFit condition) (constantsFitIn then && constantsFitIn else) c) in
         with-outcome (one-after-other first (λ p.
         one-of-two (isTrue (value (scope .fields) addressOf arguments places condition)) (isTrue (value (scope .fields) addressOf arguments′ places′ condition)) (ap isTrue (p .same may))
-        (two-statements linked then places places′ env env′ agree sound (fits .thenFaults) (and-left (constantsFitIn then) (constantsFitIn else) branches))
+        (λ taken. two-statements (linksOfCondition scope condition linked) then places places′ env env′ agree
+        (condition-links-sound addressOf scope arguments places env condition linked taken sound)
+        (fits .thenFaults) (and-left (constantsFitIn then) (constantsFitIn else) branches))
         (two-statements linked else places places′ env env′ agree sound (fits .elseFaults) (and-right (constantsFitIn then) (constantsFitIn else) branches))))
-        λ p. alike-conditional linked condition then else places places′ _ _ refl refl (ap isTrue (p .0 .same may)) sound (p .0) (p .1)
+        λ p. alike-conditional linked condition then else places places′ _ _ refl refl (ap isTrue (p .0 .same may)) (p .0) (p .1)

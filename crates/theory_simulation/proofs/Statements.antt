@@ -7,7 +7,7 @@ use Prim.Native.Nat.{ℕ, suc, _+_}
 use lib.ListN.{length, set}
 use Rattle.definitions.specs.Basics.{isTrue}
 use Rattle.definitions.specs.ContractFile.{Name, Owner, everyone, ownedBy, Expression, Statement, skip, sequence, assignField, assignEntry, require, conditional, fieldAt, isEveryone}
-use Rattle.definitions.specs.Owners.{Links, placeOwner, nameOf, ownerOf, isPublic, linksAfter}
+use Rattle.definitions.specs.Owners.{Links, placeOwner, nameOf, ownerOf, isPublic, linksOfCondition, linksAfter}
 use Rattle.definitions.specs.Numbers.{mayBePut, expressionFaults, statementFaults}
 use Rattle.definitions.specs.Rewriting.{Command, Guard, under, kept, onePart, twoParts, supplying, inBody, inCircuit, inPlace, rewriteStatement, single}
 use Rattle.definitions.specs.Original.{position, only, readerOf, isWorkedOut, placesAfter, completes}
@@ -24,7 +24,7 @@ use Rattle.theory_simulation.proofs.Standing.{all-stand-written}
 use Rattle.theory_simulation.proofs.Pieces.{Call, faithful-when, faithful-for, kept-faithful, onePart-faithful, twoParts-faithful}
 use Rattle.theory_simulation.proofs.Variables.{originalValue, BodyFaithful, supplying-faithful}
 use Rattle.theory_simulation.proofs.Expressions.{CallStands, body-faithful, circuit-faithful}
-use Rattle.theory_typing.proofs.Links.{LinksSound, condition-links-sound}
+use Rattle.theory_typing.proofs.Links.{LinksSound, sound-in-first, sound-in-second, condition-links-sound}
 use Rattle.theory_simulation.proofs.Constraints.{untaken-holds}
 use Rattle.theory_simulation.proofs.Passages.{Runs, runs-for, single-runs, sequence-runs, branch-runs}
 use Rattle.theory_simulation.proofs.Branches.{then-runs, else-runs}
@@ -170,26 +170,30 @@ module _ (c : Call) where
         runs-for c (λ then z. record { stand = z .stand; sound = z .sound })
         (sequence-runs c (rewriteStatement (c .scope) first) (rewriteStatement (c .scope) second) g i x (λ u. y (u .placesThen) (u .after)))
 
+    -- The links at the end of a then-branch.
+    abbrev inThen : Links → Expression → Statement → Links
+    inThen linked condition then = linksAfter (c .scope) then (linksOfCondition (c .scope) condition linked)
+
     conditional-runs : (linked : Links) (condition : Expression) (then else : Statement) (g : Guard) (i : ℕ) (d : Bool)
         → isTrue (originalValue c numbers condition) ≡ d
-        → LinksSound (c .addressOf) linked → BodyFaithful c places numbers everyone (originalValue c numbers condition) (inBody (c .scope) condition)
+        → BodyFaithful c places numbers everyone (originalValue c numbers condition) (inBody (c .scope) condition)
         (workedOut numbers condition) i
-        → ((j : ℕ) → StatementRuns linked then (under j) (suc j) places numbers)
+        → (d ≡ true → (j : ℕ) → StatementRuns (linksOfCondition (c .scope) condition linked) then (under j) (suc j) places numbers)
         → ((j : ℕ) → StatementRuns linked else (under j) (suc j) places numbers)
         → StatementRuns linked (conditional condition then else) g i places numbers
     unfolding rewriteStatement honestVariables completes placesAfter linksAfter
-    conditional-runs linked condition then else g i true d sound u x y =
+    conditional-runs linked condition then else g i true d u x y =
         rw d
         (then-runs c (inBody (c .scope) condition) (rewriteStatement (c .scope) then) (rewriteStatement (c .scope) else) g i places numbers
         (originalValue c numbers condition) (workedOut numbers condition) u
         (untaken-holds c (c .scope) else) d (branch-runs c (rewriteStatement (c .scope) then) _
-        (runs-for c (λ after z. record { stand = rw d (z .stand); sound = sound }) (x _))))
-    conditional-runs linked condition then else g i false d sound u x y =
+        (runs-for c (λ after z. record { stand = rw d (z .stand); sound = sound-in-first (c .addressOf) (inThen linked condition then) (linksAfter (c .scope) else linked) (z .sound) }) (x refl _))))
+    conditional-runs linked condition then else g i false d u x y =
         rw d
         (else-runs c (inBody (c .scope) condition) (rewriteStatement (c .scope) then) (rewriteStatement (c .scope) else) g i places numbers
         (originalValue c numbers condition) (workedOut numbers condition) u
         (untaken-holds c (c .scope) then) d (branch-runs c (rewriteStatement (c .scope) else) _
-        (runs-for c (λ after z. record { stand = rw d (z .stand); sound = sound }) (y _))))
+        (runs-for c (λ after z. record { stand = rw d (z .stand); sound = sound-in-second (c .addressOf) (inThen linked condition then) (linksAfter (c .scope) else linked) (z .sound) }) (y _))))
 
   pub statement-runs : (linked : Links) (s : Statement) (g : Guard) (i : ℕ) (places : List Content) (numbers : List ℕ) → CallStands c places numbers
       → LinksSound (c .addressOf) linked
@@ -228,10 +232,11 @@ module _ (c : Call) where
   statement-runs linked (conditional condition then else) g i places numbers stand sound h k =
       let fits = conditional-fits (c .scope) linked condition then else h in
       let kb = and-right (constantsFit condition) (constantsFitIn then && constantsFitIn else) k in
-      conditional-runs places numbers linked condition then else g i (isTrue (originalValue c numbers condition)) refl sound
+      conditional-runs places numbers linked condition then else g i (isTrue (originalValue c numbers condition)) refl
       (public-faithful places numbers linked condition stand (fits .conditionFit .faultless) (and-left (constantsFit condition) _ k)
       (fits .conditionFit .public) i)
-      (λ j. statement-runs linked then (under j) (suc j) places numbers stand sound (fits .thenFaults)
+      (λ taken j. statement-runs (linksOfCondition (c .scope) condition linked) then (under j) (suc j) places numbers stand
+      (condition-links-sound (c .addressOf) (c .scope) (c .arguments) numbers (stand .environment) condition linked taken sound) (fits .thenFaults)
       (and-left (constantsFitIn then) (constantsFitIn else) kb))
       (λ j. statement-runs linked else (under j) (suc j) places numbers stand sound (fits .elseFaults)
       (and-right (constantsFitIn then) (constantsFitIn else) kb))

@@ -9,7 +9,7 @@ use lib.ListN.{length, getD, set, length-set}
 use lib.Seq.{getD-set-same, getD-set-other, set-out}
 use Rattle.definitions.specs.Basics.{isTrue}
 use Rattle.definitions.specs.ContractFile.{boolean, Name, Statement, skip, sequence, assignField, assignEntry, require, conditional, Scope, fieldAt, isFinal, isOfType}
-use Rattle.definitions.specs.Owners.{Links, linksAfter}
+use Rattle.definitions.specs.Owners.{Links, linksOfCondition, linksAfter}
 use Rattle.definitions.specs.Numbers.{statementFaults}
 use Rattle.definitions.specs.Original.{placeCount, position, value, placesAfter}
 use Rattle.theory_laws.proofs.TruthValues.{and-left, and-right}
@@ -72,7 +72,7 @@ module _ (scope : Scope) (addressOf : Name → ℕ) (values : List ℕ) where
       let fits = conditional-fits scope linked condition then else h in
       let branches : (constantsFitIn then && constantsFitIn else) ≡ true = and-right (constantsFit condition) (constantsFitIn then && constantsFitIn else) c in
       either (isTrue (value (scope .fields) addressOf values numbers condition))
-      (environment-after numbers env linked then (fits .thenFaults) (and-left (constantsFitIn then) (constantsFitIn else) branches))
+      (environment-after numbers env (linksOfCondition scope condition linked) then (fits .thenFaults) (and-left (constantsFitIn then) (constantsFitIn else) branches))
       (environment-after numbers env linked else (fits .elseFaults) (and-right (constantsFitIn then) (constantsFitIn else) branches))
     where
       either : (b : Bool) {a d : List ℕ} → Environment scope addressOf values a → Environment scope addressOf values d → Environment scope addressOf values (cond b a d)

@@ -9,7 +9,7 @@ use lib.Dec.{eqb, leb}
 use lib.ListN.{length, getD}
 use Rattle.definitions.specs.Basics.{any, flatMap, isZero}
 use Rattle.definitions.specs.ContractFile.{DataType, boolean, address, Owner, Expression, constant, me, field, entry, parameter, operator, negation, reveal, Statement, skip, sequence, assignField, assignEntry, require, conditional, Field, Contract, Scope, fieldAt, sameType, shapeCode, isFinal, isMapping, isDivision, operandsFit, typeOf}
-use Rattle.definitions.specs.Owners.{Links, noLinks, isReader, placeOwner, nameOf, ownerOf, isPublic, linksAfter}
+use Rattle.definitions.specs.Owners.{Links, noLinks, isReader, placeOwner, nameOf, ownerOf, isPublic, linksOfCondition, linksAfter}
 use Rattle.definitions.specs.Numbers.{fault, mayBePut, isTagged, isNone, ownerFits, entryFaults, readFault, expressionFaults, conditionFaults, valueFaults, statementFaults, fieldOfDeclaredOwner, fieldFaults, functionFaults, contractFaults, contractSentences}
 use Rattle.theory_laws.proofs.TruthValues.{or-left}
 use Rattle.theory_typing.proofs.Basics.{contradiction}
@@ -117,7 +117,7 @@ module _ (scope : Scope) where
       both (both (known-expression linked key) (known-entry f key)) (known-value linked f (placeOwner ((at f) .owner) (nameOf scope key)) e)
   known-statement linked (require condition) = known-condition linked condition
   known-statement linked (conditional condition then else) =
-      both (both (known-condition linked condition) (known-statement linked then)) (known-statement linked else)
+      both (both (known-condition linked condition) (known-statement (linksOfCondition scope condition linked) then)) (known-statement linked else)
 
 known-field : (fields : List Field) (d : Field) → Known (fieldFaults fields d)
 known-field fields d =

@@ -8,7 +8,7 @@ use lib.Dec.{leb}
 use lib.ListN.{length}
 use borrow.Author.Tests.{leb-false}
 use Rattle.definitions.specs.ContractFile.{DataType, boolean, uint, address, Owner, Operator, Expression, field, entry, parameter, operator, negation, reveal, Statement, sequence, assignField, assignEntry, require, conditional, Scope, fieldAt, sameType, shapeCode, isMapping, isDivision, operandsFit, typeOf}
-use Rattle.definitions.specs.Owners.{Links, isReader, placeOwner, nameOf, ownerOf, isPublic, linksAfter}
+use Rattle.definitions.specs.Owners.{Links, isReader, placeOwner, nameOf, ownerOf, isPublic, linksOfCondition, linksAfter}
 use Rattle.definitions.specs.Numbers.{fault, mayBePut, isTagged, isNone, ownerFits, entryFaults, readFault, expressionFaults, conditionFaults, valueFaults, statementFaults}
 use Rattle.theory_laws.proofs.TruthValues.{not-false-true, or-left, or-right}
 use Rattle.theory_typing.proofs.Basics.{and-right-false, two-empty, three-empty, four-empty, fault-none, fault-none-not}
@@ -218,12 +218,12 @@ module _ (scope : Scope) where
 
     pub record ConditionalFits (condition : Expression) (then else : Statement) : Type 0 where
       pub conditionFit : ConditionFits condition
-      pub thenFaults : statementFaults scope linked then ≡ []
+      pub thenFaults : statementFaults scope (linksOfCondition scope condition linked) then ≡ []
       pub elseFaults : statementFaults scope linked else ≡ []
 
     pub conditional-fits : (condition : Expression) (then else : Statement) → statementFaults scope linked (conditional condition then else) ≡ []
         → ConditionalFits condition then else
     unfolding statementFaults
     conditional-fits condition then else h =
-        let empty = three-empty (conditionFaults scope linked condition) (statementFaults scope linked then) (statementFaults scope linked else) h in
+        let empty = three-empty (conditionFaults scope linked condition) (statementFaults scope (linksOfCondition scope condition linked) then) (statementFaults scope linked else) h in
         record { conditionFit = condition-fits condition (empty .0); thenFaults = empty .1; elseFaults = empty .2 }

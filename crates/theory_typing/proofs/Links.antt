@@ -7,7 +7,7 @@ use Prim.Native.Nat.{ℕ}
 use lib.Dec.{eqb}
 use Rattle.definitions.specs.Basics.{bit, isTrue}
 use Rattle.definitions.specs.ContractFile.{Name, meName, finalName, parameterName, sameName, plus, minus, times, divide, remainder, less, lessOrEqual, equal, unequal, conjunction, disjunction, Expression, constant, me, field, entry, parameter, operator, negation, reveal, Scope}
-use Rattle.definitions.specs.Owners.{Links, noLinks, withLink, withLinkOf, nameOf, linksOfCondition}
+use Rattle.definitions.specs.Owners.{Links, noLinks, withLink, withLinkOf, linkedInBoth, nameOf, linksOfCondition}
 use Rattle.definitions.specs.Original.{value}
 use Rattle.theory_laws.proofs.TruthValues.{and-left, and-right}
 use Rattle.theory_relations.specs.Environment.{Environment}
@@ -40,6 +40,13 @@ module _ (addressOf : Name → ℕ) where
 
   pub no-links-sound : LinksSound noLinks
   no-links-sound = record { same = same-name-sound }
+
+  -- Behind an if, whichever branch was taken.
+  pub sound-in-first : (one other : Links) → LinksSound one → LinksSound (linkedInBoth one other)
+  sound-in-first one other sound = record { same = λ a b e. sound .same a b (and-left (one a b) (other a b) e) }
+
+  pub sound-in-second : (one other : Links) → LinksSound other → LinksSound (linkedInBoth one other)
+  sound-in-second one other sound = record { same = λ a b e. sound .same a b (and-right (one a b) (other a b) e) }
 
   with-link-sound : (x y : Name) (linked : Links) → addressOf x ≡ addressOf y → LinksSound linked → LinksSound (withLink x y linked)
   unfolding withLink

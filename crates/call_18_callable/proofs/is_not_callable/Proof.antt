@@ -1,6 +1,6 @@
 use mathlib.Core.Path.{_≡_, sym, _∙_}
 use native.Mathlib.Omega.{arith}
-use borrow.Author.Tests.{not-true, not-false}
+use borrow.Author.Tests.{ltb-true, ltb-false, not-true, not-false}
 use lib.ListN.{length}
 use lib.Seq.{length-take-le}
 use Rattle.ledger_struct.specs.Ledgers.{ledgerOf}
@@ -17,9 +17,10 @@ returns-3 : tie.Need-returns-3
 unfolding ledgerOf
 returns-3 c =
     let k = c .before .before .before in
-    let s = c .before .before .before .before .before .before .before in
+    let s = c .before .before .before .before .before .before .before .before in
     let l = s .args .l in
-    otherwise _ _ _ _ (sym (c .before .before .before .before .before .before .is-well-formed .ensures) ∙ not-false _ (c .before .before .before .before .before .if1 .left)) (omega (arith, c .before .before .before .before .if2 .left))
+    otherwise _ _ _ _ (sym (c .before .before .before .before .before .before .before .is-well-formed .ensures) ∙ not-false _ (c .before .before .before .before .before .before .if1 .left))
+    (ltb-false 15 (s .args .caller) (sym (c .before .before .before .before .before .is-above-15 .ensures) ∙ c .before .before .before .before .if2 .left))
     (lacks-in _ _ _ _ (take-many (l .«file_length») (k .at-most .result) (l .file) (omega (arith, k .at-most .ensures, bytes s))) (c .lacks-function .ensures))
 
 pub is-not-callable-spec : {M : Type 1} → statement M
@@ -27,11 +28,13 @@ is-not-callable-spec =
     tie.close (tie.spec
     (λ c κs. search needs)
     (λ c. not-well-formed _ _ _ (sym (c .before .is-well-formed .ensures) ∙ not-true _ (c .if1 .taken)))
-    (λ c. caller-above _ _ _ (sym (c .before .before .is-well-formed .ensures) ∙ not-false _ (c .before .if1 .left)) (omega (arith, c .if2 .taken)))
     (λ c κs. search needs)
-    (λ c. omega (arith, c .before .at-most .ensures, bytes (c .before .before .before .before .before)))
-    (λ c. let args-l-file = c .before .before .before .before .before .before .args .l .file in
+    (λ c. caller-above _ _ _ (sym (c .before .before .before .is-well-formed .ensures) ∙ not-false _ (c .before .before .if1 .left))
+    (ltb-true 15 (c .before .before .before .before .args .caller) (sym (c .before .is-above-15 .ensures) ∙ c .if2 .taken)))
+    (λ c κs. search needs)
+    (λ c. omega (arith, c .before .at-most .ensures, bytes (c .before .before .before .before .before .before)))
+    (λ c. let args-l-file = c .before .before .before .before .before .before .before .args .l .file in
     let k = c .before .before in
-    sym (length-take-le (k .at-most .result) args-l-file (omega (arith, k .at-most .ensures, bytes (c .before .before .before .before .before .before)))))
+    sym (length-take-le (k .at-most .result) args-l-file (omega (arith, k .at-most .ensures, bytes (c .before .before .before .before .before .before .before)))))
     (λ c κs. search needs)
     returns-3)

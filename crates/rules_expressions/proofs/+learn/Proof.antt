@@ -1,12 +1,13 @@
 -- `rules_expressions::learn` meets its contract, by the number of its node: an equality joins two names, an "and" learns from both halves.
 use Rattle.definitions.specs.ContractFile.{nodeAt, nodeOf}
 use Rattle.rules_scopes.specs.Trees.{nodesOf}
-use Rattle.rules_expressions.proofs.Reading.{named, equality-learnt, conjunction-learnt, nothing-learnt}
+use Rattle.rules_expressions.proofs.Reading.{named, equality-learnt, conjunction-learnt, no-name-learnt}
 use Rattle.rules_scopes.proofs.ByKind.{operator-tree, no-links-learnt, left-below, right-below}
 use Rattle.file_bytes.specs.Node.{recordOf}
+use Rattle.rules_links.proofs.Growing.{nothing-learnt, learnt-as, learnt-both}
 use borrow.Author.Needs.{needs}
 use native.Mathlib.Omega.{arith}
-use mathlib.Core.Path.{_≡_, sym, _∙_}
+use mathlib.Core.Path.{_≡_, sym}
 use Prim.Native.Nat.{ℕ, _<_}
 use borrow.Fn.Kinds.{In}
 use borrow.Fn.PlainCycle.{Measures, is, falls, and}
@@ -59,14 +60,15 @@ pub +learn-spec : {M : Type 1} → statement M
     (λ c. let node-at-result-arg = c .before .before .before .before .before .node-at .result .arg in
     let s = c .before .before .before .before .before .before .before in
     let tree = operator-tree _ (s .pre .1 .1 .settled) _ _ (here t (c .before .before .before .before .before)) (c .before .before .before .before .if1 .taken) in
-    c .with-link .ensures ∙ equality-learnt _ _ _ _ _ node-at-result-arg tree _ _
-    (c .before .before .before .match .keys1) (c .before .before .judge .ensures) (c .before .judge2 .ensures))
+    learnt-as (c .with-link .ensures) (equality-learnt _ _ _ _ _ node-at-result-arg tree _ _
+    (c .before .before .before .match .keys1) (c .before .before .judge .ensures) (c .before .judge2 .ensures)))
     (λ c. let s = c .before .before .before .before .before .before in
     let tree = operator-tree _ (s .pre .1 .1 .settled) _ _ (here t (c .before .before .before .before)) (c .before .before .before .if1 .taken) in
-    c .learn2 .ensures ∙ conjunction-learnt _ _ _ _ _ (c .before .before .before .before .node-at .result .arg) tree _
-    (c .before .before .match .keys2) (c .before .learn .ensures))
+    learnt-both (c .before .learn .ensures)
+    (learnt-as (c .learn2 .ensures) (conjunction-learnt _ _ _ _ _ (c .before .before .before .before .node-at .result .arg) tree _
+    (c .before .before .match .keys2) (c .before .learn .ensures .links))))
     (λ c. let s = c .before .before .before .before in
     let tree = operator-tree _ (s .pre .1 .1 .settled) _ _ (here t (c .before .before)) (c .before .if1 .taken) in
-    nothing-learnt _ _ _ _ _ (c .before .before .node-at .result .arg) tree (c .match .rest .0 .1) (c .match .rest .1))
+    nothing-learnt _ _ (no-name-learnt _ _ _ _ _ (c .before .before .node-at .result .arg) tree (c .match .rest .0 .1) (c .match .rest .1)))
     (λ c. let s = c .before .before .before in
-    sym (no-links-learnt _ (s .pre .1 .1 .settled) _ _ (here t (c .before)) _ _ (c .if1 .left)))
+    nothing-learnt _ _ (sym (no-links-learnt _ (s .pre .1 .1 .settled) _ _ (here t (c .before)) _ _ (c .if1 .left))))
