@@ -12,8 +12,8 @@ use Rattle.definitions.specs.ContractFile.{parameterKind, operatorKind, 
 use Rattle.definitions.specs.ContractFile.{assignFieldKind, assignEntryKind, requireKind, conditionalKind, noKind, kindOf, nodeOf}
 use Rattle.definitions.specs.ContractFile.{nodeAt, constantValue, expressionParts, statementParts, children, isExpression}
 use Rattle.definitions.specs.ContractFile.{isStatement, fieldsNamed, chainLength, contractOf, isOfType, operandsFit, typeOf}
-use Rattle.definitions.specs.Owners.{Links, noLinks, isReader, isPublicAddress, placeOwner, nameOf, ownerOf, isPublic, linksOfCondition}
-use Rattle.definitions.specs.Owners.{linksAfter}
+use Rattle.definitions.specs.Owners.{Links, noLinks, isReader, isPublicAddress, placeOwner, nameOf, ownerOf, isPublic}
+use Rattle.definitions.specs.Owners.{linksOfCondition, linksAfter}
 
 -- "1. The file ends too early for its counts, or bytes remain."
 unfoldable pub endsWrongly : List ℕ → Bool
