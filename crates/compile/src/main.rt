@@ -20,7 +20,8 @@ fn output_room() -> [u8; 49152]
 // In this room the file's own number alone can refuse: what is refused here `verdict` refuses too, with the same number.
 fn rewrite(file: &[u8], out: &mut [u8]) -> Answer
     requires { ⌜ length (now out) ≡ 49152 ⌝ }
-    ensures { λ r. ⌜ Promised (now (file .entry)) (now (out .entry)) (now (out .exit)) (r .number) (r .length) ⌝ }
+    ensures { λ r. ⌜ Promised (now (file .entry)) (now (out .entry)) (now (out .exit)) (r .number) (r .length)
+        (r .counts .crossings) ⌝ }
     ensures { λ r. ⌜ r .number ≡ checkNumber (now (file .entry)) ⌝ }
 {
     write_contract::write(file, out)

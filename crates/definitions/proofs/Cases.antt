@@ -23,6 +23,7 @@ use Rattle.definitions.specs.Original.{operate, value, isWorkedOut, plac
 use Rattle.definitions.specs.Original.{originalCompletes, originalAfter, originalDiscloses, numbersFrom, perPlace, position}
 use Rattle.definitions.specs.Original.{deployedNumbers}
 use Rattle.definitions.specs.Owners.{withLink, nameOf, ownerOf, linksOfCondition, linksAfter}
+use Rattle.definitions.specs.Crossings.{originsUpToThree, writtenFunctionEnd, crossingsFrom, crossingsIn, crossingsAfterWriting}
 use Rattle.definitions.specs.Report.{tallies, insert, sorted, digits, reportText, reportNumber, reportLength, outputAfterReport}
 use Rattle.definitions.specs.Rewriting.{kept, onePart, twoParts, supplying, reading, stepsBefore, single, inSequence, inBranch}
 use Rattle.definitions.specs.Rewriting.{inBranches, rewriteStatement, privateParameters, openings, rewriteFunction, rewrite, inBody}
@@ -43,6 +44,8 @@ pub data Case : Type 0 where
   isWritten : List ℕ → List ℕ → Case
   -- a file and the lent output; writing's number and length, and the output afterwards
   writes : List ℕ → List ℕ → ℕ → ℕ → List ℕ → Case
+  -- a file, how long the lent output is, and the count of each of sixteen functions that writing hands back
+  handsBack : List ℕ → ℕ → List ℕ → Case
   -- a file, and its report
   isReported : List ℕ → List ℕ → Case
   -- a file and the lent output; the report's number and length, and the output afterwards
@@ -92,6 +95,7 @@ Holds (hasSectionNumber file n number) = sectionNumber file n ≡ number
 Holds (hasSection file n part) = sectionAnswer file n ≡ part
 Holds (isWritten file bytes) = writtenFile file ≡ bytes
 Holds (writes file out number long after) = written file out ≡ answered number long after
+Holds (handsBack file room counts) = crossingsAfterWriting file room ≡ counts
 Holds (isReported file text) = reportText file ≡ text
 Holds (reports file out number long after) = reported file out ≡ answered number long after
 Holds (hasDeployNumber file addresses n) = deployNumber file addresses ≡ n
@@ -152,6 +156,7 @@ passes (hasSectionNumber file n number) = eqb (sectionNumber file n) number
 passes (hasSection file n part) = sameNumbers (sectionAnswer file n) part
 passes (isWritten file bytes) = sameNumbers (writtenFile file) bytes
 passes (writes file out number long after) = sameNumbers (written file out) (answered number long after)
+passes (handsBack file room counts) = sameNumbers (crossingsAfterWriting file room) counts
 passes (isReported file text) = sameNumbers (reportText file) text
 passes (reports file out number long after) = sameNumbers (reported file out) (answered number long after)
 passes (hasDeployNumber file addresses n) = eqb (deployNumber file addresses) n
@@ -171,6 +176,7 @@ holds (hasSectionNumber file n number) t = eqb→eq _ number t
 holds (hasSection file n part) t = same-numbers _ part t
 holds (isWritten file bytes) t = same-numbers _ bytes t
 holds (writes file out number long after) t = same-numbers _ (answered number long after) t
+holds (handsBack file room counts) t = same-numbers _ counts t
 holds (isReported file text) t = same-numbers _ text t
 holds (reports file out number long after) t = same-numbers _ (answered number long after) t
 holds (hasDeployNumber file addresses n) t = eqb→eq _ n t
@@ -184,7 +190,7 @@ holds (isDisclosed file addresses requests party lists) t = same-lists _ lists t
 holds (callDiscloses file places r party values) t = same-numbers _ values t
 
 unfoldable pub allPass : List Case → Bool
-unfolding all any anyNumbered countIf largest flatMap firstThatHolds deployNumber deployed allFit publicOf isWellFormed notCallable argumentsOff callNumber callWith honestContents honestVariables honestParameters ledgerAfterCall functionsEnd nodesAt fieldRecords parameterRecords functionRecords nodeRecords sectionsOf sectionPart fieldOf parameterOf typeOf circuitValue contentOf isWalked stateAfter walkCompletes kindOf nodeOfKind expressionParts statementParts fieldsNamed chainLength expressionOf expressionAt statementOf statementAt contractOf endsWrongly countOffLimits fieldInTables parameterInTables kindInTables outsideTables namesNothing usesOf usedOtherThanOnce tooDeep wrongSort expressionFaults statementFaults contractFaults checkNumber sectionNumber sectionAnswer value isWorkedOut placesAfter completes disclosed disclosedBy originalCompletes originalAfter originalDiscloses withLink nameOf ownerOf linksOfCondition linksAfter numbersFrom perPlace position deployedNumbers tallies insert sorted digits reportText reportNumber reportLength outputAfterReport kept onePart twoParts supplying reading stepsBefore single inSequence inBranch inBranches rewriteStatement privateParameters openings rewriteFunction rewrite inBody inCircuit runAtDeployment isTaken runAfter disclosedIn disclosedOn disclosedNumber disclosedLength outputAfterDisclosing viewsAfter disclosures sameName itemFor itemsFor itemBytes viewBytes viewNumber viewLength outputAfterView size numbered bodyTree circuitTree commandTree sizes numberedAll eachOnce constraintBytes functionBytes functionsBytes contractBytes writtenFile writeNumber writtenLength outputAfterWriting zipWith sameNumbers sameLists
+unfolding all any anyNumbered countIf largest flatMap firstThatHolds deployNumber deployed allFit publicOf isWellFormed notCallable argumentsOff callNumber callWith honestContents honestVariables honestParameters ledgerAfterCall functionsEnd nodesAt fieldRecords parameterRecords functionRecords nodeRecords sectionsOf sectionPart fieldOf parameterOf typeOf circuitValue contentOf isWalked stateAfter walkCompletes kindOf nodeOfKind expressionParts statementParts fieldsNamed chainLength expressionOf expressionAt statementOf statementAt contractOf endsWrongly countOffLimits fieldInTables parameterInTables kindInTables outsideTables namesNothing usesOf usedOtherThanOnce tooDeep wrongSort expressionFaults statementFaults contractFaults checkNumber sectionNumber sectionAnswer value isWorkedOut placesAfter completes disclosed disclosedBy originalCompletes originalAfter originalDiscloses withLink nameOf ownerOf linksOfCondition linksAfter numbersFrom perPlace position deployedNumbers originsUpToThree writtenFunctionEnd crossingsFrom crossingsIn crossingsAfterWriting tallies insert sorted digits reportText reportNumber reportLength outputAfterReport kept onePart twoParts supplying reading stepsBefore single inSequence inBranch inBranches rewriteStatement privateParameters openings rewriteFunction rewrite inBody inCircuit runAtDeployment isTaken runAfter disclosedIn disclosedOn disclosedNumber disclosedLength outputAfterDisclosing viewsAfter disclosures sameName itemFor itemsFor itemBytes viewBytes viewNumber viewLength outputAfterView size numbered bodyTree circuitTree commandTree sizes numberedAll eachOnce constraintBytes functionBytes functionsBytes contractBytes writtenFile writeNumber writtenLength outputAfterWriting zipWith sameNumbers sameLists
 allPass [] = true
 allPass (c ∷ cs) = passes c && allPass cs
 

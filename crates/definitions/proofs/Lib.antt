@@ -1,6 +1,7 @@
 pub mod AlikeCases
 pub mod Cases
 pub mod Contracts
+pub mod CrossingCases
 pub mod DisclosureCases
 pub mod Files
 pub mod LedgerCases

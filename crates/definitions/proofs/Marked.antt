@@ -11,6 +11,7 @@ use Rattle.definitions.proofs.Files.{parameterRead, operator, reveal, s
 use Rattle.definitions.proofs.Files.{contract, negations, chain}
 use Rattle.definitions.proofs.NumberCases.{numberCases}
 use Rattle.definitions.proofs.WrittenCases.{writtenCases}
+use Rattle.definitions.proofs.CrossingCases.{crossingCases}
 use Rattle.definitions.proofs.LedgerCases.{openedFrom, outputCases, ledgerCases}
 use Rattle.definitions.proofs.ViewCases.{viewCases}
 use Rattle.definitions.proofs.DisclosureCases.{disclosureCases}
@@ -105,9 +106,10 @@ pinned =
     ∷ 48 ∷ 32 ∷ 49 ∷ 10 ∷ [])
     ∷ []
 
+-- What takes longest to compute stands last, so that a definition that an early case refuses is refused early.
 pub table : List Case
-table = marked ++ pinned ++ numberCases ++ writtenCases ++ outputCases ++ ledgerCases ++ viewCases ++ disclosureCases
+table = pinned ++ writtenCases ++ crossingCases ++ outputCases ++ ledgerCases ++ viewCases ++ disclosureCases ++ numberCases ++ marked
 
 pub every-case-holds : (c : Case) → List·Memᴰ c table → Holds c
-unfolding allPass table marked pinned numberCases writtenCases outputCases ledgerCases viewCases disclosureCases joined negations openedFrom flatMap
+unfolding allPass table marked pinned numberCases writtenCases crossingCases outputCases ledgerCases viewCases disclosureCases joined negations openedFrom flatMap
 every-case-holds c m = each-holds table tt c m

@@ -3,6 +3,7 @@ pub mod ContractFile
 pub mod Owners
 pub mod Numbers
 pub mod Rewriting
+pub mod Crossings
 pub mod Original
 pub mod Ledger
 pub mod View

@@ -1,29 +1,31 @@
 -- The report's text: what it is of an accepted file, how long it can be, and what stands in the output.
 use mathlib.Core.Path.{_≡_, refl, ap, sym, _∙_}
-use mathlib.Core.Bool.{Bool, true, false}
-use mathlib.Core.List.{List, [], _∷_, _++_, map}
-use Prim.Native.Nat.{ℕ, zero, suc, _+_, _<_, _≤_}
+use mathlib.Core.Bool.{Bool, true, false, cond}
+use mathlib.Core.List.{List, [], _∷_}
+use Prim.Native.Nat.{ℕ, zero, suc, _+_, _-_, _≤_}
 use native.Mathlib.Omega.{arith}
-use borrow.Author.Tests.{ne-eqb}
+use borrow.Author.Tests.{eq-eqb, ne-eqb}
 use lib.Dec.{ltb}
-use lib.ListN.{length, take, drop, length-map}
+use lib.ListN.{length, take, drop, replicate, length-map}
 use lib.Seq.{length-take-le, take-at}
 use Rattle.definitions.specs.Basics.{firstThatHolds}
-use Rattle.definitions.specs.ContractFile.{sectionsOf, contractOf}
+use Rattle.definitions.specs.ContractFile.{functionCount, contractIn}
+use Rattle.definitions.specs.Crossings.{crossingsIn, sixteen, crossingsAfterWriting}
 use Rattle.definitions.specs.Numbers.{checkNumber, orElse}
-use Rattle.definitions.specs.Rewriting.{rewrite}
-use Rattle.definitions.specs.Report.{crossings, reportText, reportNumber, reportLength, outputAfterReport}
+use Rattle.definitions.specs.Rewriting.{rewrite, writtenFile, writeNumber}
+use Rattle.definitions.specs.Report.{reportLines, reportText, reportNumber, reportLength, outputAfterReport}
+use Rattle.theory_crossings.specs.Crossings.{crossings}
+use Rattle.theory_crossings.proofs.Headings.{counts-are-read}
 use Rattle.theory_laws.proofs.Rooms.{within-room}
 use Rattle.memory_buffer.specs.Buffer.{stored}
 use Rattle.memory_append.specs.Append.{Appended}
 use Rattle.memory_append.proofs.Appending.{appended-length}
 use Rattle.write_output.specs.Answers.{HandedOut}
-use Rattle.report_text.specs.Lines.{reportLines}
-use Rattle.report_text.proofs.Lines.{report-is, report-length}
+use Rattle.report_text.proofs.Lines.{report-length}
+use Rattle.write_room.proofs.Room.{room-suffices, room-is-never-short}
 use Rattle.write_function_room.specs.Functions.{writtenFunctions}
 use Rattle.write_function_room.proofs.Written.{functions-counted}
 use Rattle.write_function_room.proofs.Room.{functions-few}
-use Rattle.report_crossings.specs.Counting.{CountsStand}
 
 -- What is answered where a number refuses.
 pub record Refused (file out : List ℕ) (number : ℕ) : Type 0 where
@@ -43,9 +45,9 @@ unfolding reportLength reportNumber
 reported-within file room long e = let w = within-room (checkNumber file) 15 room (length (reportText file)) in omega arith
 
 module _ (file : List ℕ) where
-  accepted-text : reportText file ≡ reportLines (map crossings (writtenFunctions file))
-  unfolding reportText
-  accepted-text = report-is (rewrite (contractOf (sectionsOf file)))
+  -- In a room of 49,152 bytes writing refuses the file's own number alone.
+  pub own-number : (number room : ℕ) → number ≡ writeNumber file room → 49152 ≡ room → number ≡ checkNumber file
+  own-number number room e long = e ∙ ap (writeNumber file) (sym long) ∙ room-is-never-short file
 
   -- "Checking uses 1 to 15": a refused file's number goes before that of the room.
   pub file-refused : (out : List ℕ) (number : ℕ) → number ≡ checkNumber file → (number ≡ 0 → ⊥) → Refused file out number
@@ -56,26 +58,42 @@ module _ (file : List ℕ) where
       (ap (λ (m : ℕ). orElse m (firstThatHolds 16 (ltb (length out) (length (reportText file)) ∷ []))) e) refused
 
   module _ (accepted : checkNumber file ≡ 0) where
-    lines-few : length (reportLines (map crossings (writtenFunctions file))) ≤ 691
-    lines-few =
-        report-length (map crossings (writtenFunctions file))
-        (omega (arith, length-map (writtenFunctions file) crossings, functions-counted file, functions-few file accepted))
+    -- As many counts as there are functions.
+    counts-many : length (crossingsIn (writtenFile file)) ≡ functionCount file
+    unfolding writtenFile
+    counts-many =
+        ap length (counts-are-read (rewrite (contractIn file)) (omega (arith, room-suffices file accepted)))
+        ∙ length-map (writtenFunctions file) crossings ∙ functions-counted file
 
     text-few : length (reportText file) ≤ 691
-    text-few = omega (arith, ap length accepted-text, lines-few)
+    unfolding reportText
+    text-few = report-length (crossingsIn (writtenFile file)) (omega (arith, counts-many, functions-few file accepted))
 
-    -- The lines of the functions' counts.
-    module _ (counts : List ℕ) (functions : ℕ) (stand : CountsStand file counts functions) where
+    -- Where writing refuses nothing, it hands back the counts in the written file.
+    pub counts-handed : (number room : ℕ) (counts : List ℕ) → number ≡ writeNumber file room → number ≡ 0 → counts ≡ crossingsAfterWriting file room
+        → counts ≡ sixteen (crossingsIn (writtenFile file))
+    unfolding crossingsAfterWriting
+    counts-handed number room counts e z c =
+        c ∙ ap (λ (b : Bool). sixteen (cond b (crossingsIn (writtenFile file)) [])) (eq-eqb (writeNumber file room) 0 (sym e ∙ z))
+
+    -- Of the sixteen, the functions' own.
+    module _ (counts : List ℕ) (functions : ℕ) (handed : counts ≡ sixteen (crossingsIn (writtenFile file))) (all : functions ≡ functionCount file) where
+      own : take functions counts ≡ crossingsIn (writtenFile file)
+      own =
+          ap (take functions) handed
+          ∙ take-at (crossingsIn (writtenFile file)) (replicate (16 - length (crossingsIn (writtenFile file))) 0) functions (omega (arith, counts-many))
+
       pub counts-taken : functions ≡ length (take functions counts)
-      counts-taken =
-          omega (arith, ap length (stand .stand), length-map (writtenFunctions file) crossings, functions-counted file, stand .all)
+      counts-taken = omega (arith, ap length own, counts-many)
 
       pub lines-fit : (room : ℕ) → 691 ≤ room → (length (take functions counts) ≤ 16) × (length (reportLines (take functions counts)) ≤ room)
+      unfolding reportText
       lines-fit room long =
-          (omega (arith, counts-taken, stand .few), omega (arith, ap (λ (l : List ℕ). length (reportLines l)) (stand .stand), lines-few))
+          (omega (arith, counts-taken, functions-few file accepted), omega (arith, ap (λ (l : List ℕ). length (reportLines l)) own, text-few))
 
       pub lines-told : (before after : List ℕ) (end : ℕ) → Appended before after 0 (reportLines (take functions counts)) end → Appended before after 0 (reportText file) end
-      lines-told before after end a = rw (accepted-text, ← stand .stand) a
+      unfolding reportText
+      lines-told before after end a = rw own at a
 
     room-number : (out : List ℕ) → reportNumber file (length out) ≡ firstThatHolds 16 (ltb (length out) (length (reportText file)) ∷ [])
     unfolding reportNumber

@@ -1,25 +1,25 @@
 // 01, File A, whole: the report of any file, "function number and count of variables with origins 0 to 3", or the number that refuses it.
-use check_contract::check;
+// 02, Note 2: it prints the counts that writing hands back, and counts nothing itself.
 use check_refusals::is_refused;
-use report_crossings::count_functions;
+use file_bytes::read_layout;
 use report_output::Answer;
 use report_output::hand_out;
 use report_text::report_lines;
+use write_contract::write;
 ghost use mathlib.Core.Path.{_≡_};
 ghost use Prim.Native.Nat.{_≤_};
 ghost use lib.ListN.{length};
+ghost use Rattle.definitions.specs.Crossings.{sixteen, crossingsIn};
 ghost use Rattle.definitions.specs.Numbers.{checkNumber};
 ghost use Rattle.definitions.specs.Report.{reportText, reportNumber, reportLength, outputAfterReport};
+ghost use Rattle.definitions.specs.Rewriting.{writtenFile};
 ghost use Rattle.memory_append.specs.Append.{Appended};
 
-// The report's text of an accepted file.
-fn append_accepted(file: &[u8], text: &mut [u8]) -> usize
-    requires { ⌜ (checkNumber (now file) ≡ 0) × (691 ≤ length (now text)) ⌝ }
-    ensures { λ r. ⌜ Appended (now (text .entry)) (now (text .exit)) 0 (reportText (now (file .entry))) r ⌝ }
+// "49,152 bytes always suffice": room for the writing, which is the report's own.
+fn written_room() -> [u8; 49152]
+    ensures { λ r. ⌜ 49152 ≡ length r ⌝ }
 {
-    let mut counts: [u16; 16] = [0; 16];
-    let functions = count_functions(file, &mut counts);
-    report_lines(&counts[..functions], text)
+    [0; 49152]
 }
 
 // Room for the longest text: the heading, and sixteen lines.
@@ -29,6 +29,17 @@ fn text_room() -> [u8; 691]
     [0; 691]
 }
 
+// The text of an accepted file: of the sixteen counts, those of its functions.
+fn append_counts(file: &[u8], counts: &[u16], text: &mut [u8]) -> usize
+    requires { ⌜ (checkNumber (now file) ≡ 0) × (now counts ≡ sixteen (crossingsIn (writtenFile (now file))))
+        × (691 ≤ length (now text)) ⌝ }
+    ensures { λ r. ⌜ Appended (now (text .entry)) (now (text .exit)) 0 (reportText (now (file .entry))) r ⌝ }
+{
+    let layout = read_layout(file);
+    let functions = layout.functions;
+    report_lines(&counts[..functions], text)
+}
+
 // The report, in the lent output. Wrong reports that this rules out: one that writes where it refuses, be it a line that tells the refusal;
 // one that writes a part of the text where the rest does not fit.
 pub fn report(file: &[u8], out: &mut [u8]) -> Answer
@@ -36,14 +47,16 @@ pub fn report(file: &[u8], out: &mut [u8]) -> Answer
         × (r .length ≡ reportLength (now (file .entry)) (length (now (out .entry))))
         × (now (out .exit) ≡ outputAfterReport (now (file .entry)) (now (out .entry))) ⌝ }
 {
-    let number = check(file);
-    if is_refused(number) {
+    let mut room = written_room();
+    let written = write(file, &mut room);
+    if is_refused(written.number) {
         return Answer {
-            number: number,
+            number: written.number,
             length: 0,
         };
     }
+    let counts = written.counts.crossings;
     let mut text = text_room();
-    let length = append_accepted(file, &mut text);
+    let length = append_counts(file, &counts, &mut text);
     hand_out(&text[..length], out)
 }

@@ -1,26 +1,19 @@
--- Laws of the report's lines: from the functions' crossings, line by line, and how long they are at most.
+-- Laws of the report's lines: from the functions' counts, line by line, and how long they are at most.
 use mathlib.Core.Path.{_≡_, refl, ap, sym, _∙_}
 use mathlib.Core.Bool.{Bool, true, false, cond}
-use mathlib.Core.List.{List, [], _∷_, _++_, map, append-nil}
+use mathlib.Core.List.{List, [], _∷_, _++_, append-nil}
 use Prim.Native.Nat.{ℕ, suc, _+_, _*_, _<_, _≤_}
 use native.Mathlib.Numerals.{add-one}
 use native.Mathlib.Omega.{arith}
 use lib.ListN.{length, getD, take, drop, length-append, length-map, take-append-drop, List·getD-map}
 use lib.Seq.{take-suc, take-all, length-take-le, getD-take}
 use Rattle.definitions.specs.Basics.{flatMap}
-use Rattle.definitions.specs.Rewriting.{WrittenContract}
-use Rattle.definitions.specs.Report.{Tally, crossings, comesBefore, insert, sorted, decimal, heading, tallyLine, refusedLine, tallies}
+use Rattle.definitions.specs.Report.{Tally, comesBefore, insert, sorted, decimal, heading, tallyLine, refusedLine, tallies, reportLines}
 use Rattle.theory_laws.proofs.Lists.{flat-append}
 use Rattle.memory_append.specs.Append.{Appended}
 use Rattle.memory_append.proofs.Appending.{appended-nothing, appended-length, appended-then}
-use Rattle.report_order.specs.Counts.{talliesFrom, tallyOf, orderedTallies}
-use Rattle.report_order.proofs.Inserting.{tallies-are}
-use Rattle.report_text.specs.Lines.{reportLines}
+use Rattle.report_order.specs.Counts.{tallyOf, orderedTallies}
 use Rattle.report_text.proofs.Digits.{digits-length}
-
--- The report of a rewritten contract, from the functions' crossings.
-pub report-is : (c : WrittenContract) → heading ++ flatMap tallyLine (sorted (tallies 0 (c .functions))) ≡ reportLines (map crossings (c .functions))
-report-is c = ap (λ ts. heading ++ flatMap tallyLine (sorted ts)) (tallies-are 0 (c .functions))
 
 -- One line more.
 flat-next : {A : Type 0} (f : A → List ℕ) (ts : List A) (i : ℕ) (d : A) → i < length ts → flatMap f (take (suc i) ts) ≡ flatMap f (take i ts) ++ f (getD ts i d)
@@ -81,11 +74,11 @@ module _ (counts order : List ℕ) (enough : length counts ≤ length order) whe
 
 -- The heading, then the lines in sorted order.
 module _ (counts order held : List ℕ) (fits : length (reportLines counts) ≤ length held)
-    (is-sorted : orderedTallies counts (length counts) order ≡ sorted (talliesFrom 0 counts)) where
+    (is-sorted : orderedTallies counts (length counts) order ≡ sorted (tallies 0 counts)) where
   abbrev inOrder : List ℕ
   inOrder = flatMap tallyLine (orderedTallies counts (length counts) order)
 
-  same-lines : inOrder ≡ flatMap tallyLine (sorted (talliesFrom 0 counts))
+  same-lines : inOrder ≡ flatMap tallyLine (sorted (tallies 0 counts))
   same-lines = ap (flatMap tallyLine) is-sorted
 
   pub lines-room : (between : List ℕ) (at : ℕ) → Appended held between 0 heading at → at + length inOrder ≤ length between
@@ -97,8 +90,8 @@ module _ (counts order held : List ℕ) (fits : length (reportLines counts) ≤ 
 
   pub report-appended : (between after : List ℕ) (at end : ℕ) → Appended held between 0 heading at → Appended between after at inOrder end → Appended held after 0 (reportLines counts) end
   report-appended between after at end a b =
-      let c : Appended between after at (flatMap tallyLine (sorted (talliesFrom 0 counts))) end = rw same-lines at b in
-      appended-then held 0 between after heading (flatMap tallyLine (sorted (talliesFrom 0 counts))) at end a (omega arith) c
+      let c : Appended between after at (flatMap tallyLine (sorted (tallies 0 counts))) end = rw same-lines at b in
+      appended-then held 0 between after heading (flatMap tallyLine (sorted (tallies 0 counts))) at end a (omega arith) c
 
 -- At most twenty digits a number: 42 bytes a line.
 insert-length : (a : Tally) (bs : List Tally) → length (insert a bs) ≡ suc (length bs)
@@ -115,8 +108,8 @@ unfolding sorted
 sorted-length [] = refl
 sorted-length (t ∷ ts) = insert-length t (sorted ts) ∙ ap suc (sorted-length ts)
 
-tallies-length : (n : ℕ) (counts : List ℕ) → length (talliesFrom n counts) ≡ length counts
-unfolding talliesFrom
+tallies-length : (n : ℕ) (counts : List ℕ) → length (tallies n counts) ≡ length counts
+unfolding tallies
 tallies-length n [] = refl
 tallies-length n (count ∷ counts) = ap suc (tallies-length (suc n) counts)
 
@@ -135,8 +128,8 @@ lines-length (t ∷ ts) = let h = lines-length ts in let k = line-length t in om
 
 pub report-length : (counts : List ℕ) → length counts ≤ 16 → length (reportLines counts) ≤ 691
 report-length counts few =
-    let a = lines-length (sorted (talliesFrom 0 counts)) in
-    let b = sorted-length (talliesFrom 0 counts) in
+    let a = lines-length (sorted (tallies 0 counts)) in
+    let b = sorted-length (tallies 0 counts) in
     let c = tallies-length 0 counts in
     omega arith
 

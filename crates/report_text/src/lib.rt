@@ -8,9 +8,9 @@ ghost use Prim.Native.Nat.{_+_, _<_, _≤_};
 ghost use lib.ListN.{length};
 ghost use Rattle.memory_append.specs.Append.{Appended};
 ghost use Rattle.definitions.specs.Basics.{flatMap};
-ghost use Rattle.definitions.specs.Report.{digits, decimal, refusedLine, tallyLine};
+ghost use Rattle.definitions.specs.Report.{digits, decimal, refusedLine, tallyLine, reportLines};
 ghost use Rattle.report_order.specs.Counts.{orderedTallies};
-ghost use Rattle.report_text.specs.Lines.{spacedCount, reportLines};
+ghost use Rattle.report_text.specs.Lines.{spacedCount};
 
 // A number's decimal digits, as many as there are levels at most.
 pub fn append_digits(levels: usize, number: usize, out: &mut [u8], at: usize) -> usize

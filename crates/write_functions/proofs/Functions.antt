@@ -5,15 +5,22 @@ use mathlib.Core.List.{List, [], _∷_, _++_}
 use Prim.Native.Nat.{ℕ, _+_, _*_, _≤_}
 use native.Mathlib.Omega.{arith}
 use lib.Dec.{ltb}
-use lib.ListN.{length}
+use lib.ListN.{length, take}
 use Rattle.definitions.specs.Basics.{flatMap}
+use Rattle.definitions.specs.ContractFile.{byteAt}
 use Rattle.definitions.specs.Rewriting.{Tree, size, sizes, numberedAll, nodeBytes, commandTree, functionTrees, functionBytes}
 use Rattle.write_nodes.proofs.TreeNodes.{one-tree}
 use Rattle.theory_laws.proofs.Written.{nodes-length}
+use Rattle.theory_crossings.specs.Crossings.{crossings}
+use Rattle.theory_trees.specs.Trees.{statementIn}
 use Rattle.memory_buffer.specs.Buffer.{stored}
 use Rattle.memory_buffer.proofs.Storing.{stored-length}
 use Rattle.memory_append.specs.Append.{Appended}
-use Rattle.file_accepted.specs.Context.{scopeIn}
+use Rattle.file_accepted.specs.Context.{nodesIn, fieldsIn, parametersIn, scopeIn}
+use Rattle.file_accepted.specs.Functions.{rootAt}
+use Rattle.rewrite_log.proofs.FiveNumbers.{entries-length}
+use Rattle.write_variables.specs.PerEntry.{countTag}
+use Rattle.write_heading_laws.proofs.Heading.{crossings-counted}
 use Rattle.write_nodes.specs.Numbering.{treeBytes, Numbered}
 use Rattle.write_nodes.proofs.TreeNodes.{nodes-append, run-then}
 use Rattle.write_trees.proofs.Functions.{numbered-append, all-length}
@@ -47,6 +54,17 @@ module _ (file : List ℕ) (at nodesStart : ℕ) (log scratch roots numbers clai
     pub constraints-fit : parts .private + parts .claims ≤ 65535
     constraints-fit =
         omega (arith, written .told .private, written .told .claims, constraints-few (scopeIn file at) (eventsIn file at), ready .room .events, ready .room .variables)
+
+    -- What is counted is the log that the heading's variables are written from.
+    pub log-few : (parts .private ≤ 1024) × (length (take (parts .logged) logAfter) ≤ 7680)
+    log-few =
+        (omega (arith, written .told .private, ready .room .variables), omega (arith, entries-length (nodesIn file) (written .told .entries), ready .room .events))
+
+    pub crossings-are : (count : ℕ) → count ≡ parts .private + (countTag 0 (take (parts .logged) logAfter) + countTag 2 (take (parts .logged) logAfter)) → count ≡ crossings (writtenIn file at)
+    unfolding parametersIn
+    crossings-are count e =
+        let told = crossings-counted (fieldsIn file) (nodesIn file) file (at + 1) (byteAt file at) (statementIn (nodesIn file) (rootAt file at)) (take (parts .logged) logAfter) (written .told .entries) (ready .room .owners) in
+        omega (arith, written .told .private)
 
     kept : length between ≡ length nodes
     kept =
@@ -93,7 +111,8 @@ module _ (file : List ℕ) (at nodesStart : ℕ) (log scratch roots numbers clai
           (omega arith) (omega (arith, ready .nodeSpace, written .nodes))
           ∙ ap (stored nodes (8 * base)) (sym (bytes-then circuits tree base) ∙ ap (λ (ts : List Tree). flatMap nodeBytes (numberedAll base ts)) (sym (trees-are file at)))
 
-      pub function-written : (headingsAfter : List ℕ) (end : ℕ) → Appended headings headingsAfter from (functionBytes base (writtenIn file at)) end
-          → FunctionWritten file at headings headingsAfter from nodes after base (record { end = end; nodes = parts .nodes + body })
-      function-written headingsAfter end appended =
-          record { heading = appended .contents; end = appended .place; contents = nodes-stored; count = total-is }
+      pub function-written : (headingsAfter : List ℕ) (end count : ℕ) → Appended headings headingsAfter from (functionBytes base (writtenIn file at)) end
+          → count ≡ parts .private + (countTag 0 (take (parts .logged) logAfter) + countTag 2 (take (parts .logged) logAfter))
+          → FunctionWritten file at headings headingsAfter from nodes after base (record { extent = record { end = end; nodes = parts .nodes + body }; crossings = count })
+      function-written headingsAfter end count appended counted =
+          record { heading = appended .contents; end = appended .place; contents = nodes-stored; count = total-is; crossings = crossings-are count counted }

@@ -7,14 +7,15 @@ use Rattle.definitions.specs.Basics.{flatMap}
 use Rattle.definitions.specs.ContractFile.{nodesAt}
 use Rattle.definitions.specs.Rewriting.{Constraint, Tree, claimTrees, functionTrees, sizes, numberedAll, nodeBytes, constraintBytes}
 use Rattle.definitions.specs.Rewriting.{functionBytes}
+use Rattle.theory_crossings.specs.Crossings.{crossings}
 use Rattle.memory_buffer.specs.Buffer.{stored}
 use Rattle.file_accepted.specs.Context.{nodesIn, scopeIn}
 use Rattle.rewrite_events.specs.Events.{variableCount, constraintsOf}
 use Rattle.rewrite_log.specs.Entries.{Entries}
 use Rattle.write_circuits.specs.Circuits.{sixesFrom}
 use Rattle.write_function_room.specs.Functions.{writtenIn, privateIn, eventsIn, FunctionRoom}
-use Rattle.write_extents.specs.declared.Extent.{Extent}
 use Rattle.write_functions.specs.declared.Parts.{Parts}
+use Rattle.write_functions.specs.declared.Finished.{Finished}
 
 -- The constraints of a function's body, and their circuits.
 abbrev pub constraintsIn : List ℕ → ℕ → List Constraint
@@ -67,8 +68,9 @@ pub record FunctionReady (file : List ℕ) (at nodesStart : ℕ) (log scratch ro
   pub nodeSpace : 49152 ≤ length nodes
 
 pub record FunctionWritten (file : List ℕ) (at : ℕ) (headings headingsAfter : List ℕ) (from : ℕ) (nodes nodesAfter : List ℕ)
-    (base : ℕ) (r : Extent) : Type 0 where
+    (base : ℕ) (r : Finished) : Type 0 where
   pub heading : headingsAfter ≡ stored headings from (functionBytes base (writtenIn file at))
-  pub end : r .end ≡ from + length (functionBytes base (writtenIn file at))
+  pub end : r .extent .end ≡ from + length (functionBytes base (writtenIn file at))
   pub contents : nodesAfter ≡ stored nodes (8 * base) (flatMap nodeBytes (numberedAll base (functionTrees (writtenIn file at))))
-  pub count : r .nodes ≡ sizes (functionTrees (writtenIn file at))
+  pub count : r .extent .nodes ≡ sizes (functionTrees (writtenIn file at))
+  pub crossings : r .crossings ≡ crossings (writtenIn file at)

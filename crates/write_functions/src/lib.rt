@@ -3,6 +3,7 @@ use file_bytes::byte_at;
 use rewrite_statements::function_log;
 use write_circuits::put_circuits;
 use write_claims::append_claims;
+use write_crossings::count_crossings;
 use write_extents::Extent;
 use write_extents::is_verified;
 use write_function_bodies::write_function_body;
@@ -12,6 +13,12 @@ ghost use Rattle.definitions.specs.Rewriting.{functionBytes};
 ghost use Rattle.memory_append.specs.Append.{Appended};
 ghost use Rattle.write_function_room.specs.Functions.{writtenIn};
 ghost use Rattle.write_functions.specs.Writing.{CircuitsReady, CircuitsWritten, HeadingReady, FunctionReady, FunctionWritten};
+
+// A function once it is written: how far it reaches, and how many crossings it has.
+pub struct Finished {
+    pub extent: Extent,
+    pub crossings: u16,
+}
 
 // How many private parameters there are, where the log of the body's events ends, how many variables they make, how many
 // constraints they claim, and how many nodes the circuits have.
@@ -108,7 +115,7 @@ pub fn write_function(
     from: usize,
     nodes: &mut [u8],
     base: usize,
-) -> Extent
+) -> Finished
     requires { ⌜ FunctionReady (now file) «function_at» «nodes_at» (now log) (now scratch) (now roots) (now numbers) (now claims)
         (now headings) from (now nodes) base ⌝ }
     ensures { λ r. ⌜ FunctionWritten (now (file .entry)) «function_at» (now (headings .entry)) (now (headings .exit)) from
@@ -142,8 +149,13 @@ pub fn write_function(
         base,
         total,
     );
-    Extent {
-        end: end,
-        nodes: total,
+    let logged = parts.logged;
+    let crossings = count_crossings(parts.private, &log[..logged]);
+    Finished {
+        extent: Extent {
+            end: end,
+            nodes: total,
+        },
+        crossings: crossings,
     }
 }

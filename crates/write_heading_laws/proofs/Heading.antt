@@ -8,7 +8,7 @@ use lib.ListN.{length, length-append, length-map}
 use Rattle.definitions.specs.Basics.{countIf, flatMap}
 use Rattle.definitions.specs.ContractFile.{Statement, Field, Parameter, Scope, parameterRecords, parameterOf, Node}
 use Rattle.definitions.specs.Rewriting.{Variable, origin, always, Constraint, WrittenFunction, heldUnder, privateParameters, openings, rewriteStatement, rewriteFunction, sizes, functionTrees, variableBytes, keyOf, eachOnce, constraintBytes, functionBytes}
-use Rattle.definitions.specs.Report.{crossings}
+use Rattle.theory_crossings.specs.Crossings.{crossings}
 use Rattle.theory_laws.proofs.Lists.{flat-append, count-append}
 use Rattle.theory_laws.proofs.Written.{claim-count, opening-count}
 use Rattle.rewrite_events.specs.Events.{Event, variablesOf, constraintsOf, variableCount, statementEvents}

@@ -1,7 +1,7 @@
 -- The answers of writing: 1 to 15 of a refused file, 16 where the output is too short, and the written file.
 use mathlib.Core.Path.{_≡_, refl, ap, sym, _∙_}
 use mathlib.Core.Bool.{Bool, true, false, cond}
-use mathlib.Core.List.{List, _++_}
+use mathlib.Core.List.{List, [], _++_}
 use Prim.Native.Nat.{ℕ, zero, suc, _+_, _<_, _≤_}
 use native.Mathlib.Omega.{arith}
 use borrow.Author.Tests.{lt-ltb, le-ltb, ne-eqb}
@@ -9,11 +9,12 @@ use lib.Dec.{eqb, ltb}
 use lib.ListN.{length, drop, length-append}
 use Rattle.definitions.specs.Basics.{twoBytes, firstThatHolds}
 use Rattle.definitions.specs.Numbers.{checkNumber}
+use Rattle.definitions.specs.Crossings.{sixteen, crossingsIn, crossingsAfterWriting}
 use Rattle.definitions.specs.Rewriting.{writtenFile, writeNumber, writtenLength, outputAfterWriting}
 use Rattle.theory_laws.proofs.Rooms.{within-room}
 use Rattle.memory_buffer.specs.Buffer.{stored}
 use Rattle.memory_append.specs.Append.{Appended}
-use Rattle.write_output.specs.Answers.{Promised, HandedOut}
+use Rattle.write_output.specs.Answers.{Promised, HandedOut, CountsOut}
 
 -- Headings, a count of two bytes, and nodes.
 module _ (headings nodes : List ℕ) (count : ℕ) where
@@ -40,35 +41,44 @@ module _ (whole held : List ℕ) where
       front : stored held 0 whole ≡ whole ++ drop (length whole) held
       front = let z : 0 + length whole ≡ length whole = omega arith in ap (λ (n : ℕ). whole ++ drop n held) z
 
-pub refused : (file held : List ℕ) (number : ℕ) → number ≡ checkNumber file → 0 < number → Promised file held held number 0
-unfolding writeNumber writtenLength outputAfterWriting
-refused file held zero e h = absurd (omega arith)
-refused file held (suc n) e h =
+-- A room that is too short gets no counts; one that is not gets those given.
+pub no-counts-out : (whole held counts handed : List ℕ) → length held < length whole → handed ≡ sixteen [] → CountsOut whole held counts handed
+no-counts-out whole held counts handed h e = let short = lt-ltb (length held) (length whole) h in record { told = rw short e }
+
+pub counts-out : (whole held counts : List ℕ) → 0 + length whole ≤ length held → CountsOut whole held counts counts
+counts-out whole held counts h = let fits = le-ltb (length held) (length whole) (omega arith) in record { told = rw fits refl }
+
+pub refused : (file held counts : List ℕ) (number : ℕ) → number ≡ checkNumber file → 0 < number → counts ≡ sixteen [] → Promised file held held number 0 counts
+unfolding writeNumber writtenLength crossingsAfterWriting outputAfterWriting
+refused file held counts zero e h none = absurd (omega arith)
+refused file held counts (suc n) e h none =
     let s : checkNumber file ≡ suc n = sym e in
     let some : eqb (suc n) 0 ≡ false = ne-eqb (suc n) 0 (λ z. omega arith) in
     let long : writtenLength file (length held) ≡ 0 = rw s (ap (λ (b : Bool). cond b (length (writtenFile file)) 0) some) in
     let after : outputAfterWriting file held ≡ held = rw s (ap (λ (b : Bool). cond b (writtenFile file ++ drop (length (writtenFile file)) held) held) some) in
-    (rw s, (sym long, sym after))
+    let counted : crossingsAfterWriting file (length held) ≡ sixteen [] = rw s (ap (λ (b : Bool). sixteen (cond b (crossingsIn (writtenFile file)) [])) some) in
+    (rw s, (sym long, (none ∙ sym counted, sym after)))
 
-pub accepted : (file whole held after : List ℕ) (number long : ℕ) → checkNumber file ≡ 0 → writtenFile file ≡ whole → HandedOut whole held after number long
-    → Promised file held after number long
-unfolding writeNumber writtenLength outputAfterWriting firstThatHolds
-accepted file whole held after number long z w a = go (ltb (length held) (length whole)) refl
+pub accepted : (file whole held after counts handed : List ℕ) (number long : ℕ) → checkNumber file ≡ 0 → writtenFile file ≡ whole → HandedOut whole held after number long
+    → counts ≡ sixteen (crossingsIn whole) → CountsOut whole held counts handed → Promised file held after number long handed
+unfolding writeNumber writtenLength crossingsAfterWriting outputAfterWriting firstThatHolds
+accepted file whole held after counts handed number long z w a c b = go (ltb (length held) (length whole)) refl
   where
-    go : (short : Bool) → ltb (length held) (length whole) ≡ short → Promised file held after number long
-    go true e = (rw (z, w) (a .number), (rw (z, w, e) (rw e at (a .long)), rw (z, w, e) (rw e at (a .output))))
-    go false e = (rw (z, w) (a .number), (rw (z, w, e) (rw e at (a .long)), rw (z, w, e) (rw e at (a .output))))
+    go : (short : Bool) → ltb (length held) (length whole) ≡ short → Promised file held after number long handed
+    go true e = (rw (z, w) (a .number), (rw (z, w, e) (rw e at (a .long)), (rw (z, w, e) (rw e at (b .told)), rw (z, w, e) (rw e at (a .output)))))
+    go false e = (rw (z, w) (a .number), (rw (z, w, e) (rw e at (a .long)), (rw (z, w, e) (rw e at (b .told) ∙ c), rw (z, w, e) (rw e at (a .output)))))
 
-pub accepted-parts : (file headings nodes front back held after : List ℕ) (count number long : ℕ) → checkNumber file ≡ 0
+pub accepted-parts : (file headings nodes front back held after counts handed : List ℕ) (count number long : ℕ) → checkNumber file ≡ 0
     → writtenFile file ≡ headings ++ twoBytes count ++ nodes → front ≡ headings → back ≡ nodes → HandedOut (front ++ twoBytes count ++ back) held after number long
-    → Promised file held after number long
-accepted-parts file headings nodes front back held after count number long z w f b a =
-    accepted file (front ++ twoBytes count ++ back) held after number long z (w ∙ (λ t. sym f t ++ twoBytes count ++ sym b t)) a
+    → counts ≡ sixteen (crossingsIn (writtenFile file)) → CountsOut (front ++ twoBytes count ++ back) held counts handed → Promised file held after number long handed
+accepted-parts file headings nodes front back held after counts handed count number long z w f b a c d =
+    let whole = w ∙ (λ t. sym f t ++ twoBytes count ++ sym b t) in
+    accepted file (front ++ twoBytes count ++ back) held after counts handed number long z whole a (c ∙ ap (λ (bytes : List ℕ). sixteen (crossingsIn bytes)) whole) d
 
 -- What is written stays inside the output.
 written-within : (file : List ℕ) (room : ℕ) → writtenLength file room ≤ room
 unfolding writtenLength writeNumber
 written-within file room = within-room (checkNumber file) 15 room (length (writtenFile file))
 
-pub promised-within : (file held after : List ℕ) (number long : ℕ) → Promised file held after number long → long ≤ length held
-promised-within file held after number long p = let e = p .1 .0 in let w = written-within file (length held) in omega arith
+pub promised-within : (file held after counts : List ℕ) (number long : ℕ) → Promised file held after number long counts → long ≤ length held
+promised-within file held after counts number long p = let e = p .1 .0 in let w = written-within file (length held) in omega arith

@@ -1,29 +1,41 @@
 // "16. The lent output is too short": the written file handed out where it fits.
 use memory_append::append;
 use memory_append::append_two_bytes;
+use write_crossings::Counts;
+use write_crossings::no_counts;
 ghost use mathlib.Core.List.{_++_};
 ghost use Prim.Native.Nat.{_≤_};
 ghost use lib.ListN.{length};
 ghost use Rattle.definitions.specs.Basics.{twoBytes};
-ghost use Rattle.write_output.specs.Answers.{HandedOut};
+ghost use Rattle.write_output.specs.Answers.{HandedOut, CountsOut};
 
-// A number, 0 where the file is written, and the written file's length.
+// A number, 0 where the file is written; the written file's length, and what is counted of each function.
 pub struct Answer {
     pub number: u8,
     pub length: usize,
+    pub counts: Counts,
 }
 
 // "16. The lent output is too short": else headings, count of nodes and nodes stand there, one behind another.
-pub fn hand_out(headings: &[u8], nodes: &[u8], count: usize, out: &mut [u8]) -> Answer
+pub fn hand_out(
+    headings: &[u8],
+    nodes: &[u8],
+    count: usize,
+    counts: Counts,
+    out: &mut [u8],
+) -> Answer
     requires { ⌜ (length (now headings) ≤ 49152) × (length (now nodes) ≤ 49152) ⌝ }
     ensures { λ r. ⌜ HandedOut (now (headings .entry) ++ twoBytes count ++ now (nodes .entry)) (now (out .entry)) (now (out .exit))
         (r .number) (r .length) ⌝ }
+    ensures { λ r. ⌜ CountsOut (now (headings .entry) ++ twoBytes count ++ now (nodes .entry)) (now (out .entry)) (counts .crossings)
+        (r .counts .crossings) ⌝ }
 {
     let total = headings.len() + 2 + nodes.len();
     if out.len() < total {
         return Answer {
             number: 16,
             length: 0,
+            counts: no_counts(),
         };
     }
     let middle = append(headings, out, 0);
@@ -32,5 +44,6 @@ pub fn hand_out(headings: &[u8], nodes: &[u8], count: usize, out: &mut [u8]) -> 
     Answer {
         number: 0,
         length: total,
+        counts: counts,
     }
 }

@@ -1,14 +1,18 @@
 -- Function by function, headings and nodes come to stand in their buffers; with the fields before them they are the written file.
 use mathlib.Core.Path.{_≡_, ap, sym, _∙_}
-use mathlib.Core.List.{List, [], _∷_, _++_, append-assoc}
-use Prim.Native.Nat.{ℕ, _+_, _*_, _<_, _≤_}
+use mathlib.Core.List.{List, [], _∷_, _++_, map, map-append, append-assoc}
+use Prim.Native.Nat.{ℕ, suc, _+_, _*_, _<_, _≤_}
 use native.Mathlib.Numerals.{add-one}
 use native.Mathlib.Omega.{arith}
-use lib.ListN.{length, length-append}
+use lib.ListN.{length, set, take, length-append, length-map}
+use lib.Seq.{length-take-le, take-all}
 use Rattle.definitions.specs.Basics.{flatMap, twoBytes}
-use Rattle.definitions.specs.ContractFile.{fieldCount, functionCount, functionsAt, functionEnd, functionsEnd}
+use Rattle.definitions.specs.ContractFile.{fieldCount, functionCount, functionsAt, functionEnd, functionsEnd, contractIn}
+use Rattle.definitions.specs.Crossings.{sixteen, crossingsIn}
 use Rattle.definitions.specs.Numbers.{checkNumber}
-use Rattle.definitions.specs.Rewriting.{sizes, functionTrees, numberedAll, nodeBytes, functionBytes, functionsBytes, writtenFile}
+use Rattle.definitions.specs.Rewriting.{WrittenFunction, rewrite, sizes, functionTrees, numberedAll, nodeBytes, functionBytes, functionsBytes, writtenFile}
+use Rattle.theory_crossings.specs.Crossings.{crossings}
+use Rattle.theory_crossings.proofs.Headings.{counts-are-read}
 use Rattle.file_accepted.specs.Functions.{functionStart}
 use Rattle.memory_buffer.specs.Buffer.{stored}
 use Rattle.memory_buffer.proofs.Storing.{stored-nothing, stored-then}
@@ -16,10 +20,11 @@ use Rattle.memory_append.specs.Append.{Appended}
 use Rattle.memory_append.proofs.Appending.{appended-then}
 use Rattle.write_fields.specs.Fields.{fieldSection}
 use Rattle.write_fields.proofs.Fields.{section-length}
-use Rattle.write_function_room.specs.Functions.{writtenIn, headingsBefore, nodesBefore, FunctionRoom}
-use Rattle.write_function_room.proofs.Written.{headings-step, node-bytes-step, before-step, headings-before-step, nodes-before-length, start-step, before-first, headings-first, file-parts}
+use Rattle.write_crossings.proofs.Sixteen.{sixteen-next}
+use Rattle.write_function_room.specs.Functions.{writtenIn, writtenFunctions, headingsBefore, nodesBefore, FunctionRoom}
+use Rattle.write_function_room.proofs.Written.{functions-counted, take-next, headings-step, node-bytes-step, before-step, headings-before-step, nodes-before-length, start-step, before-first, headings-first, file-parts, written-length}
 use Rattle.write_function_room.proofs.Room.{file-fits}
-use Rattle.write_parts.specs.Parts.{headingsOf, nodesOf, headingPart, nodePart, FunctionsPut, PartsPut}
+use Rattle.write_parts.specs.Parts.{headingsOf, nodesOf, crossingsOf, headingPart, nodePart, FunctionsPut, PartsPut}
 
 module _ (file : List ℕ) where
   -- The start of function f + 1, as code counts.
@@ -31,17 +36,18 @@ module _ (file : List ℕ) where
   first-start at e = ap (λ (n : ℕ). n + 1) e
 
   module _ (h₀ n₀ : List ℕ) (from : ℕ) where
-    pub none-put : from ≡ 1 + 3 * fieldCount file + 1 → FunctionsPut file 0 from h₀ h₀ n₀ n₀ from 0
+    pub none-put : from ≡ 1 + 3 * fieldCount file + 1 → (counts : List ℕ) → counts ≡ sixteen [] → FunctionsPut file 0 from h₀ h₀ n₀ n₀ from 0 counts
     unfolding functionsBytes flatMap numberedAll
-    none-put e =
+    none-put e counts none =
         record {
           headings = sym (stored-nothing h₀ from);
           end = e ∙ sym (headings-first file);
           nodes = sym (stored-nothing n₀ 0);
           count = sym (before-first file);
+          crossings = none;
         }
 
-    module _ (f : ℕ) (h n : List ℕ) (at base : ℕ) (put : FunctionsPut file f from h₀ h n₀ n at base) where
+    module _ (f : ℕ) (h n : List ℕ) (at base : ℕ) (counts : List ℕ) (put : FunctionsPut file f from h₀ h n₀ n at base counts) where
       -- The next function's heading and nodes go where those before end.
       pub places-fit : (start : ℕ) → start ≡ functionStart file f → FunctionRoom file (functionStart file f) (headingsBefore file f) (nodesBefore file f) → FunctionRoom file start at base
       places-fit start s room = rw (s, put .end, put .count) room
@@ -54,11 +60,25 @@ module _ (file : List ℕ) where
         nodes-at : 8 * base ≡ 0 + length (nodesOf file f)
         nodes-at = let e = put .count in let l = nodes-before-length file f in omega arith
 
-        pub one-put : (start end nodes total : ℕ) (h′ n′ : List ℕ) → start ≡ functionStart file f
+        crossings-long : length (crossingsOf file f) ≡ f
+        crossings-long =
+            length-map (take f (writtenFunctions file)) crossings
+            ∙ length-take-le f (writtenFunctions file) (omega (arith, functions-counted file))
+
+        -- The count of one function more.
+        crossings-step : (start count : ℕ) (counts′ : List ℕ) → start ≡ functionStart file f → functionCount file ≤ 16 → count ≡ crossings (writtenIn file start)
+            → counts′ ≡ set counts f count → counts′ ≡ sixteen (crossingsOf file (suc f))
+        crossings-step start count counts′ s few c e =
+            e ∙ ap (λ (l : List ℕ). set l f count) (put .crossings) ∙ sixteen-next (crossingsOf file f) count f crossings-long (omega arith)
+            ∙ ap (λ (n : ℕ). sixteen (crossingsOf file f ++ (n ∷ []))) (c ∙ ap (λ (x : ℕ). crossings (writtenIn file x)) s)
+            ∙ ap sixteen (sym (map-append crossings (take f (writtenFunctions file)) _) ∙ ap (map crossings) (sym (take-next file f inside)))
+
+        pub one-put : (start end nodes total count : ℕ) (h′ n′ counts′ : List ℕ) → start ≡ functionStart file f
             → h′ ≡ stored h at (functionBytes base (writtenIn file start)) → end ≡ at + length (functionBytes base (writtenIn file start))
             → n′ ≡ stored n (8 * base) (flatMap nodeBytes (numberedAll base (functionTrees (writtenIn file start)))) → nodes ≡ sizes (functionTrees (writtenIn file start))
-            → total ≡ base + nodes → FunctionsPut file (f + 1) from h₀ h′ n₀ n′ end total
-        one-put start end nodes total h′ n′ s a e b c t =
+            → total ≡ base + nodes → functionCount file ≤ 16 → count ≡ crossings (writtenIn file start) → counts′ ≡ set counts f count
+            → FunctionsPut file (f + 1) from h₀ h′ n₀ n′ end total counts′
+        one-put start end nodes total count h′ n′ counts′ s a e b c t few x y =
             let w = writtenIn file (functionStart file f) in
             let m = nodesBefore file f in
             let k = put .count in
@@ -87,17 +107,18 @@ module _ (file : List ℕ) where
                   ∙ ap (λ (x : ℕ). stored (stored n₀ 0 (nodesOf file f)) x (flatMap nodeBytes (numberedAll m (functionTrees w)))) counted
                   ∙ stored-then n₀ 0 (nodesOf file f) (flatMap nodeBytes (numberedAll m (functionTrees w))) (omega arith) ∙ ap (stored n₀ 0) (sym (node-bytes-step file f inside));
               count = omega arith;
+              crossings = crossings-step start count counts′ s few x y;
             }
 
-  pub all-put : (h₀ n₀ h n : List ℕ) (from f at base : ℕ) → f ≡ functionCount file → FunctionsPut file f from h₀ h n₀ n at base
-      → FunctionsPut file (functionCount file) from h₀ h n₀ n at base
-  all-put h₀ n₀ h n from f at base e put = rw e at put
+  pub all-put : (h₀ n₀ h n counts : List ℕ) (from f at base : ℕ) → f ≡ functionCount file → FunctionsPut file f from h₀ h n₀ n at base counts
+      → FunctionsPut file (functionCount file) from h₀ h n₀ n at base counts
+  all-put h₀ n₀ h n counts from f at base e put = rw e at put
 
   -- The fields, the count of functions, and the functions.
-  pub parts-put : (h₀ h₁ h₂ h₃ n₀ n : List ℕ) (fields from end base count : ℕ) → 49152 ≤ length h₀ → fieldCount file ≤ 64 → count ≡ functionCount file
-      → Appended h₀ h₁ 0 (fieldSection file) fields → Appended h₁ h₂ fields (count ∷ []) from → FunctionsPut file (functionCount file) from h₂ h₃ n₀ n end base
-      → PartsPut file h₀ h₃ n₀ n end base
-  parts-put h₀ h₁ h₂ h₃ n₀ n fields from end base count long few c a b put =
+  pub parts-put : (h₀ h₁ h₂ h₃ n₀ n counts : List ℕ) (fields from end base count : ℕ) → 49152 ≤ length h₀ → fieldCount file ≤ 64 → count ≡ functionCount file
+      → Appended h₀ h₁ 0 (fieldSection file) fields → Appended h₁ h₂ fields (count ∷ []) from → FunctionsPut file (functionCount file) from h₂ h₃ n₀ n end base counts
+      → PartsPut file h₀ h₃ n₀ n end base counts
+  parts-put h₀ h₁ h₂ h₃ n₀ n counts fields from end base count long few c a b put =
       let l = section-length file in
       let front = fieldSection file ++ (count ∷ []) in
       let both : Appended h₀ h₂ 0 front from = appended-then h₀ 0 h₁ h₂ (fieldSection file) (count ∷ []) fields from a (omega arith) b in
@@ -111,6 +132,7 @@ module _ (file : List ℕ) where
         end = let p = whole .place in let q = ap length same in omega arith;
         nodes = put .nodes;
         count = put .count;
+        crossings = put .crossings;
       }
 
   pub file-is : writtenFile file ≡ headingPart file ++ twoBytes (nodesBefore file (functionCount file)) ++ nodePart file
@@ -127,7 +149,15 @@ module _ (file : List ℕ) where
   pub node-length : length (nodePart file) ≡ 8 * nodesBefore file (functionCount file)
   node-length = nodes-before-length file (functionCount file)
 
-  module _ (h₀ h n₀ n : List ℕ) (end base : ℕ) (put : PartsPut file h₀ h n₀ n end base) (accepted : checkNumber file ≡ 0) where
+  module _ (h₀ h n₀ n : List ℕ) (end base : ℕ) (counts : List ℕ) (put : PartsPut file h₀ h n₀ n end base counts) (accepted : checkNumber file ≡ 0) where
+    -- 02, Note 2: what is handed back is "the count in the written file".
+    pub counts-make : counts ≡ sixteen (crossingsIn (writtenFile file))
+    unfolding writtenFile
+    counts-make =
+        let short : length (writtenFile file) ≤ 65535 = omega (arith, written-length file, file-fits file accepted) in
+        put .crossings ∙ ap (λ (gs : List WrittenFunction). sixteen (map crossings gs)) (take-all (functionCount file) (writtenFunctions file) (omega (arith, functions-counted file)))
+        ∙ ap sixteen (sym (counts-are-read (rewrite (contractIn file)) short))
+
     pub parts-fit : end + 2 + 8 * base ≤ 49152
     parts-fit = let e = put .end in let c = put .count in let l = heading-length in omega (arith, file-fits file accepted)
 

@@ -1,12 +1,14 @@
 -- 01, Rewriting: the written file in two buffers: fields and functions' headings, and nodes.
 use mathlib.Core.Path.{_≡_}
-use mathlib.Core.List.{List, _∷_, _++_}
+use mathlib.Core.List.{List, _∷_, _++_, map}
 use Prim.Native.Nat.{ℕ, _+_, _*_, _≤_}
 use lib.ListN.{length, take}
 use Rattle.definitions.specs.Basics.{flatMap}
 use Rattle.definitions.specs.ContractFile.{fieldCount, functionCount, nodesAt}
 use Rattle.definitions.specs.Numbers.{checkNumber}
+use Rattle.definitions.specs.Crossings.{sixteen}
 use Rattle.definitions.specs.Rewriting.{functionTrees, numberedAll, nodeBytes, functionsBytes}
+use Rattle.theory_crossings.specs.Crossings.{crossings}
 use Rattle.file_accepted.specs.Functions.{functionStart}
 use Rattle.memory_buffer.specs.Buffer.{stored}
 use Rattle.write_fields.specs.Fields.{fieldSection}
@@ -18,6 +20,10 @@ headingsOf file f = functionsBytes 0 (take f (writtenFunctions file))
 
 abbrev pub nodesOf : List ℕ → ℕ → List ℕ
 nodesOf file f = flatMap nodeBytes (numberedAll 0 (flatMap functionTrees (take f (writtenFunctions file))))
+
+-- 02, Note 2: the crossings of each of the first f functions.
+abbrev pub crossingsOf : List ℕ → ℕ → List ℕ
+crossingsOf file f = map crossings (take f (writtenFunctions file))
 
 abbrev pub headingPart : List ℕ → List ℕ
 headingPart file = fieldSection file ++ (functionCount file ∷ headingsOf file (functionCount file))
@@ -32,18 +38,20 @@ pub record Ready (file headings nodes : List ℕ) : Type 0 where
   pub nodeSpace : 49152 ≤ length nodes
 
 -- The first f functions stand in the buffers; the next one begins where they end.
-pub record FunctionsPut (file : List ℕ) (f from : ℕ) (h₀ h n₀ n : List ℕ) (at base : ℕ) : Type 0 where
+pub record FunctionsPut (file : List ℕ) (f from : ℕ) (h₀ h n₀ n : List ℕ) (at base : ℕ) (counts : List ℕ) : Type 0 where
   pub headings : h ≡ stored h₀ from (headingsOf file f)
   pub end : at ≡ headingsBefore file f
   pub nodes : n ≡ stored n₀ 0 (nodesOf file f)
   pub count : base ≡ nodesBefore file f
+  pub crossings : counts ≡ sixteen (crossingsOf file f)
 
 -- Both parts stand at the front of their buffers.
-pub record PartsPut (file h₀ h n₀ n : List ℕ) (at base : ℕ) : Type 0 where
+pub record PartsPut (file h₀ h n₀ n : List ℕ) (at base : ℕ) (counts : List ℕ) : Type 0 where
   pub headings : h ≡ stored h₀ 0 (headingPart file)
   pub end : at ≡ length (headingPart file)
   pub nodes : n ≡ stored n₀ 0 (nodePart file)
   pub count : base ≡ nodesBefore file (functionCount file)
+  pub crossings : counts ≡ sixteen (crossingsOf file (functionCount file))
 
 -- Function 0 begins at a place, and its heading goes behind the fields and the count of functions.
 pub record FunctionsReady (file : List ℕ) (first count nodesStart from : ℕ) (headings nodes : List ℕ) : Type 0 where

@@ -2,12 +2,21 @@
 use file_bytes::function_end;
 use file_bytes::read_layout;
 use memory_append::append_byte;
+use write_crossings::Counts;
+use write_crossings::no_counts;
+use write_crossings::with_crossings;
 use write_extents::Extent;
 use write_extents::behind;
 use write_fields::append_field_section;
 use write_functions::write_function;
 ghost use Rattle.definitions.specs.ContractFile.{functionCount};
 ghost use Rattle.write_parts.specs.Parts.{Ready, Scratch, FunctionsReady, FunctionsPut, PartsPut};
+
+// All functions once they are written: how far they reach, and what is counted of each.
+pub struct Functions {
+    pub extent: Extent,
+    pub counts: Counts,
+}
 
 // The functions, whose first begins at a place of the file: their headings from a place on, their nodes from the front.
 fn write_functions(
@@ -23,11 +32,12 @@ fn write_functions(
     headings: &mut [u8],
     from: usize,
     nodes: &mut [u8],
-) -> Extent
+) -> Functions
     requires { ⌜ (FunctionsReady (now file) first count «nodes_at» from (now headings) (now nodes))
         × (Scratch (now log) (now scratch) (now roots) (now numbers) (now claims)) ⌝ }
     ensures { λ r. ⌜ FunctionsPut (now (file .entry)) (functionCount (now (file .entry))) from
-        (now (headings .entry)) (now (headings .exit)) (now (nodes .entry)) (now (nodes .exit)) (r .end) (r .nodes) ⌝ }
+        (now (headings .entry)) (now (headings .exit)) (now (nodes .entry)) (now (nodes .exit))
+        (r .extent .end) (r .extent .nodes) (r .counts .crossings) ⌝ }
 {
     let mut function_at = first;
     let mut f = 0;
@@ -35,6 +45,7 @@ fn write_functions(
         end: from,
         nodes: 0,
     };
+    let mut counts = no_counts();
     while f < count {
         let written = write_function(
             file,
@@ -50,18 +61,22 @@ fn write_functions(
             nodes,
             all.nodes,
         );
-        all = behind(all, written);
+        all = behind(all, written.extent);
+        counts = with_crossings(counts, f, written.crossings);
         function_at = function_end(file, function_at);
         f += 1;
     }
-    all
+    Functions {
+        extent: all,
+        counts: counts,
+    }
 }
 
 // The whole file: fields, count of functions, functions.
-pub fn write_parts(file: &[u8], headings: &mut [u8], nodes: &mut [u8]) -> Extent
+pub fn write_parts(file: &[u8], headings: &mut [u8], nodes: &mut [u8]) -> Functions
     requires { ⌜ Ready (now file) (now headings) (now nodes) ⌝ }
     ensures { λ r. ⌜ PartsPut (now (file .entry)) (now (headings .entry)) (now (headings .exit))
-        (now (nodes .entry)) (now (nodes .exit)) (r .end) (r .nodes) ⌝ }
+        (now (nodes .entry)) (now (nodes .exit)) (r .extent .end) (r .extent .nodes) (r .counts .crossings) ⌝ }
 {
     let layout = read_layout(file);
     let fields = append_field_section(file, headings, 0);

@@ -12,7 +12,7 @@ main-spec =
     tie.close (tie.spec
     (λ c κs. search needs) (λ c. search needs) (λ c. search needs) (λ c κs. search needs) (λ c κs. search needs) (λ c. search needs)
     (λ c. search needs) (λ c. search needs) (λ c κs. search needs) (λ c. search needs)
-    (λ c. omega (arith, promised-within _ _ _ _ _ (c .before .before .before .before .rewrite .ensures .0)))
+    (λ c. omega (arith, promised-within _ _ _ _ _ _ (c .before .before .before .before .rewrite .ensures .0)))
     (λ c. let rewrite = c .before .before .before .before .before .rewrite in
-    sym (length-take-le (rewrite .result .length) (rewrite .last .1 .0) (omega (arith, promised-within _ _ _ _ _ (rewrite .ensures .0)))))
+    sym (length-take-le (rewrite .result .length) (rewrite .last .1 .0) (omega (arith, promised-within _ _ _ _ _ _ (rewrite .ensures .0)))))
     (λ c κs. search needs) (λ c. search needs) (λ c κs. search needs) (λ c. search needs) (λ c. search needs) (λ c. search needs))

@@ -12,8 +12,10 @@ write-spec =
     tie.close (tie.spec
     (λ c κs. search needs)
     (λ c κs. search needs)
-    (λ c. let some = refuses (c .before .before .check .result) _ (c .before .is-refused .ensures) (c .if1 .taken) in
-    refused (c .before .before .before .before .before .args .file .now) _ _ (c .before .before .check .ensures) (omega (arith, some)))
+    (λ c κs. search needs)
+    (λ c. let tested = c .before in
+    let some = refuses (tested .before .before .check .result) _ (tested .before .is-refused .ensures) (tested .if1 .taken) in
+    refused (tested .before .before .before .before .before .args .file .now) _ _ _ (tested .before .before .check .ensures) (omega (arith, some)) (c .no-counts .ensures))
     (λ c κs. sym (c .before .before .before .check .ensures) ∙ accepts _ _ (c .before .before .is-refused .ensures) (c .before .if1 .left))
     (λ c. search needs)
     (λ c. search needs))

@@ -4,7 +4,7 @@ use native.Mathlib.Omega.{arith}
 use lib.ListN.{length}
 use Rattle.memory_buffer.proofs.Storing.{front-stored}
 use Rattle.write_output.proofs.Answers.{accepted-parts}
-use Rattle.write_parts.proofs.Parts.{parts-fit, parts-make, nodes-long}
+use Rattle.write_parts.proofs.Parts.{counts-make, parts-fit, parts-make, nodes-long}
 use borrow.Author.Needs.{needs}
 use Rattle.write_contract.proofs.write_accepted.Statement.{statement}
 use Rattle.write_contract.proofs.write_accepted.Tie as tie
@@ -13,30 +13,31 @@ pub write-accepted-spec : {M : Type 1} → statement M
 write-accepted-spec =
     tie.close (tie.spec
     (λ c. search needs) (λ c. search needs) (λ c κs. search needs)
+    (λ c. let start = c .before .before .before .before .before .before .before in let args-file = start .args .file .now in
+    let pre = start .pre in omega (arith, parts-fit args-file _ _ _ _ _ _ _ (c .before .before .write-parts .ensures) pre))
+    (λ c. let start = c .before .before .before .before .before .before .before in let args-file = start .args .file .now in
+    let pre = start .pre in omega (arith, parts-fit args-file _ _ _ _ _ _ _ (c .before .before .write-parts .ensures) pre))
+    (λ c. let put = c .before .before .before .write-parts .ensures in let front = front-stored _ _ _ _ (put .headings) (put .end) in put .end ∙ sym (ap length front))
     (λ c. let start = c .before .before .before .before .before .before .before .before in let args-file = start .args .file .now in
-    let pre = start .pre in omega (arith, parts-fit args-file _ _ _ _ _ _ (c .before .before .before .write-parts .ensures) pre))
-    (λ c. let start = c .before .before .before .before .before .before .before .before in let args-file = start .args .file .now in
-    let pre = start .pre in omega (arith, parts-fit args-file _ _ _ _ _ _ (c .before .before .before .write-parts .ensures) pre))
-    (λ c. let put = c .before .before .before .before .write-parts .ensures in let front = front-stored _ _ _ _ (put .headings) (put .end) in put .end ∙ sym (ap length front))
+    let pre = start .pre in omega (arith, parts-fit args-file _ _ _ _ _ _ _ (c .before .before .before .write-parts .ensures) pre))
     (λ c. let start = c .before .before .before .before .before .before .before .before .before in let args-file = start .args .file .now in
-    let pre = start .pre in omega (arith, parts-fit args-file _ _ _ _ _ _ (c .before .before .before .before .write-parts .ensures) pre))
-    (λ c. let start = c .before .before .before .before .before .before .before .before .before .before in let args-file = start .args .file .now in
-    let pre = start .pre in let write-parts = c .before .before .before .before .before .write-parts .ensures in
-    let put = write-parts in let back = front-stored _ _ _ _ (put .nodes) (nodes-long args-file _ _ _ _ _ _ put pre) in nodes-long args-file _ _ _ _ _ _ put pre ∙ sym (ap length back))
-    (λ c κs. let start = c .before .before .before .before .before .before .before .before .before .before .before in
+    let pre = start .pre in let write-parts = c .before .before .before .before .write-parts .ensures in
+    let put = write-parts in let back = front-stored _ _ _ _ (put .nodes) (nodes-long args-file _ _ _ _ _ _ _ put pre) in nodes-long args-file _ _ _ _ _ _ _ put pre ∙ sym (ap length back))
+    (λ c κs. let start = c .before .before .before .before .before .before .before .before .before .before in
     let args-file = start .args .file .now in let pre = start .pre in
-    let write-parts = c .before .before .before .before .before .before .write-parts .ensures in
+    let write-parts = c .before .before .before .before .before .write-parts .ensures in
     let put = write-parts in
-    let fit = parts-fit args-file _ _ _ _ _ _ write-parts pre in
+    let fit = parts-fit args-file _ _ _ _ _ _ _ write-parts pre in
     let front = ap length (front-stored _ _ _ _ (put .headings) (put .end)) in
-    let back = ap length (front-stored _ _ _ _ (put .nodes) (nodes-long args-file _ _ _ _ _ _ put pre)) in
-    let long = nodes-long args-file _ _ _ _ _ _ put pre in
+    let back = ap length (front-stored _ _ _ _ (put .nodes) (nodes-long args-file _ _ _ _ _ _ _ put pre)) in
+    let long = nodes-long args-file _ _ _ _ _ _ _ put pre in
     (omega (arith, put .end), omega arith))
     (λ c. search needs)
-    (λ c. let start = c .before .before .before .before .before .before .before .before .before .before .before .before .before .before in
+    (λ c. let start = c .before .before .before .before .before .before .before .before .before .before .before .before .before in
     let args-file = start .args .file .now in let pre = start .pre in
-    let write-parts = c .before .before .before .before .before .before .before .before .before .write-parts .ensures in
+    let write-parts = c .before .before .before .before .before .before .before .before .write-parts .ensures in
     let put = write-parts in
     let front = front-stored _ _ _ _ (put .headings) (put .end) in
-    let back = front-stored _ _ _ _ (put .nodes) (nodes-long args-file _ _ _ _ _ _ put pre) in
-    accepted-parts args-file _ _ _ _ _ _ _ _ _ pre (parts-make args-file _ _ _ _ _ _ put pre) front back (c .before .before .hand-out .ensures)))
+    let back = front-stored _ _ _ _ (put .nodes) (nodes-long args-file _ _ _ _ _ _ _ put pre) in
+    accepted-parts args-file _ _ _ _ _ _ _ _ _ _ _ pre (parts-make args-file _ _ _ _ _ _ _ put pre) front back (c .before .before .hand-out .ensures .0)
+    (counts-make args-file _ _ _ _ _ _ _ put pre) (c .before .before .hand-out .ensures .1)))

@@ -1,8 +1,9 @@
 -- The circuits, then the body, then the heading.
-use mathlib.Core.Path.{_∙_}
+use mathlib.Core.Path.{sym, _∙_}
 use native.Mathlib.Omega.{arith}
+use lib.Seq.{length-take-le}
 use borrow.Author.Needs.{needs}
-use Rattle.write_functions.proofs.Functions.{circuits-ready, nodes-few, constraints-fit, body-ready, total-few, heading-ready, function-written}
+use Rattle.write_functions.proofs.Functions.{circuits-ready, nodes-few, constraints-fit, log-few, body-ready, total-few, heading-ready, function-written}
 use Rattle.write_functions.proofs.write_function.Statement.{statement}
 use Rattle.write_functions.proofs.write_function.Tie as tie
 
@@ -38,19 +39,24 @@ write-function-spec =
     let write-circuits = c .before .before .before .before .before .before .before .before .before .before .before .before .before .before .before .before .before .before .before .before .before .before .before .before .write-circuits .ensures in
     let write-function-body = c .before .before .before .before .before .before .before .before .before .before .before .write-function-body .ensures in
     heading-ready _ _ args-nodes-at _ _ _ _ _ _ _ _ _ pre _ _ _ _ write-circuits _ _ write-function-body)
-    (λ c. let write-circuits-kept = c .before .before .before .before .before .before .before .before .before .before .before .before .before .before .before .before .before .before .before .before .before .before .before .before .before .before .before .before .before .write-circuits .kept .1 .1 .1 .0 in
+    (λ c. let write-circuits = c .before .before .before .before .before .before .before .before .before .before .before .before .before .before .before .before .before .before .before .before .before .before .before .before .before .before .before .before .before .write-circuits .ensures in write-circuits .told .logged)
+    (λ c. let write-circuits = c .before .before .before .before .before .before .before .before .before .before .before .before .before .before .before .before .before .before .before .before .before .before .before .before .before .before .before .before .before .before .write-circuits .ensures in sym (length-take-le _ _ (write-circuits .told .logged)))
+    (λ c κs. let start = c .before .before .before .before .before .before .before .before .before .before .before .before .before .before .before .before .before .before .before .before .before .before .before .before .before .before .before .before .before .before .before .before .before .before .before .before .before .before .before .before .before .before in let args-nodes-at = start .args .nodes-at in let pre = start .pre in
+    let write-circuits = c .before .before .before .before .before .before .before .before .before .before .before .before .before .before .before .before .before .before .before .before .before .before .before .before .before .before .before .before .before .before .write-circuits .ensures in
+    log-few _ _ args-nodes-at _ _ _ _ _ _ _ _ _ pre _ _ _ _ write-circuits)
+    (λ c. let write-circuits-kept = c .before .before .before .before .before .before .before .before .before .before .before .before .before .before .before .before .before .before .before .before .before .before .before .before .before .before .before .before .before .before .before .write-circuits .kept .1 .1 .1 .0 in
     write-circuits-kept)
-    (λ c. c .before .before .before .before .before .before .before .before .before .before .before .before .before .before .before .before .write-function-body .kept .1 .1 .1 .1 .1 .0)
-    (λ c. c .before .before .before .before .before .before .before .before .before .before .before .before .before .before .before .before .write-function-body .kept .1 .1 .1 .1 .1 .1 .0)
-    (λ c. let write-circuits-kept = c .before .before .before .before .before .before .before .before .before .before .before .before .before .before .before .before .before .before .before .before .before .before .before .before .before .before .before .before .before .write-circuits .kept .1 .1 .1 .1 .0 in
+    (λ c. c .before .before .before .before .before .before .before .before .before .before .before .before .before .before .before .before .before .before .write-function-body .kept .1 .1 .1 .1 .1 .0)
+    (λ c. c .before .before .before .before .before .before .before .before .before .before .before .before .before .before .before .before .before .before .write-function-body .kept .1 .1 .1 .1 .1 .1 .0)
+    (λ c. let write-circuits-kept = c .before .before .before .before .before .before .before .before .before .before .before .before .before .before .before .before .before .before .before .before .before .before .before .before .before .before .before .before .before .before .before .write-circuits .kept .1 .1 .1 .1 .0 in
     write-circuits-kept)
-    (λ c. c .before .before .before .before .write-heading .kept .1 .1 .1 .1 .0)
-    (λ c. c .before .before .before .before .write-heading .kept .1 .1 .1 .1 .1 .0)
-    (λ c. let write-circuits-kept = c .before .before .before .before .before .before .before .before .before .before .before .before .before .before .before .before .before .before .before .before .before .before .before .before .before .before .before .before .before .write-circuits .kept .1 .1 .1 .1 .1 .0 in
-    let write-function-body-kept = c .before .before .before .before .before .before .before .before .before .before .before .before .before .before .before .before .write-function-body .kept .1 .1 .1 .1 .1 .1 .1 .0 in
+    (λ c. c .before .before .before .before .before .before .write-heading .kept .1 .1 .1 .1 .0)
+    (λ c. c .before .before .before .before .before .before .write-heading .kept .1 .1 .1 .1 .1 .0)
+    (λ c. let write-circuits-kept = c .before .before .before .before .before .before .before .before .before .before .before .before .before .before .before .before .before .before .before .before .before .before .before .before .before .before .before .before .before .before .before .write-circuits .kept .1 .1 .1 .1 .1 .0 in
+    let write-function-body-kept = c .before .before .before .before .before .before .before .before .before .before .before .before .before .before .before .before .before .before .write-function-body .kept .1 .1 .1 .1 .1 .1 .1 .0 in
     write-function-body-kept ∙ write-circuits-kept)
-    (λ c. let start = c .before .before .before .before .before .before .before .before .before .before .before .before .before .before .before .before .before .before .before .before .before .before .before .before .before .before .before .before .before .before .before .before .before .before .before .before .before .before .before .before .before in
+    (λ c. let start = c .before .before .before .before .before .before .before .before .before .before .before .before .before .before .before .before .before .before .before .before .before .before .before .before .before .before .before .before .before .before .before .before .before .before .before .before .before .before .before .before .before .before .before in
     let args-nodes-at = start .args .nodes-at in let pre = start .pre in
-    let write-circuits = c .before .before .before .before .before .before .before .before .before .before .before .before .before .before .before .before .before .before .before .before .before .before .before .before .before .before .before .before .before .write-circuits .ensures in
-    let write-function-body = c .before .before .before .before .before .before .before .before .before .before .before .before .before .before .before .before .write-function-body .ensures in
-    function-written _ _ args-nodes-at _ _ _ _ _ _ _ _ _ pre _ _ _ _ write-circuits _ _ write-function-body _ _ (c .before .before .before .before .write-heading .ensures)))
+    let write-circuits = c .before .before .before .before .before .before .before .before .before .before .before .before .before .before .before .before .before .before .before .before .before .before .before .before .before .before .before .before .before .before .before .write-circuits .ensures in
+    let write-function-body = c .before .before .before .before .before .before .before .before .before .before .before .before .before .before .before .before .before .before .write-function-body .ensures in
+    function-written _ _ args-nodes-at _ _ _ _ _ _ _ _ _ pre _ _ _ _ write-circuits _ _ write-function-body _ _ _ (c .before .before .before .before .before .before .write-heading .ensures) (c .count-crossings .ensures)))

@@ -49,4 +49,4 @@ write-parts-spec =
     let append-field-section = c .before .before .before .before .before .before .before .before .before .before .before .before .before .before .before .before .before .before .before .before .before .before .before .before .before .append-field-section .ensures in
     let append-byte = c .before .before .before .before .before .before .before .before .before .before .before .before .before .before .before .before .before .before .before .before .append-byte .ensures in
     let write-functions = c .before .before .before .before .before .before .before .before .before .write-functions .ensures in
-    parts-put args-file _ _ _ _ _ _ _ _ _ _ _ (pre .headingSpace) (accepted-fields args-file (pre .accepted) .few) read-layout-functions append-field-section append-byte write-functions))
+    parts-put args-file _ _ _ _ _ _ _ _ _ _ _ _ (pre .headingSpace) (accepted-fields args-file (pre .accepted) .few) read-layout-functions append-field-section append-byte write-functions))

@@ -1,0 +1,9 @@
+-- 02, Note 2: a function's crossings where they come from, among the variables that rewriting makes.
+use Prim.Native.Nat.{ℕ}
+use lib.Dec.{leb}
+use Rattle.definitions.specs.Basics.{countIf}
+use Rattle.definitions.specs.Rewriting.{origin, WrittenFunction}
+
+-- "count of variables with origins 0 to 3"
+abbrev pub crossings : WrittenFunction → ℕ
+crossings g = countIf (λ v. leb (origin v) 3) (g .variables)
