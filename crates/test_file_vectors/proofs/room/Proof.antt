@@ -1,9 +1,0 @@
--- The room's length, by the law of `replicate` and not by counting.
-use mathlib.Core.Path.{sym}
-use Prim.Native.Nat.{ℕ}
-use lib.ListN.{length-replicate}
-use Rattle.test_file_vectors.proofs.room.Statement.{statement}
-use Rattle.test_file_vectors.proofs.room.Tie as tie
-
-pub room-spec : {M : Type 1} → statement M
-room-spec = tie.close (tie.spec (λ c. sym (length-replicate {0} {A = ℕ} 700000 0)))

@@ -1,0 +1,23 @@
+-- The parts of a call are read one after another.
+use mathlib.Core.Path.{refl, ap, _∙_}
+use Prim.Native.Nat.{ℕ}
+use Rattle.rehearse_scripts.specs.Scripts.{numbersAt}
+use borrow.Author.Needs.{needs}
+use Rattle.test_ledgers.proofs.recorded.read_call.Statement.{statement}
+use Rattle.test_ledgers.proofs.recorded.read_call.Tie as tie
+
+pub read-call-spec : {M : Type 1} → statement M
+read-call-spec =
+    tie.close (tie.spec
+    (λ c κs. search needs) (λ c κs. search needs) (λ c κs. search needs) (λ c κs. search needs) (λ c. search needs) (λ c. search needs)
+    (λ c. search needs) (λ c. search needs)
+    (λ c. let count = c .before .byte-at3 .ensures in let made = c .arguments .ensures in
+    record {
+      function = c .before .before .before .byte-at .ensures .0;
+      caller = c .before .before .byte-at2 .ensures .0;
+      counted = count .0;
+      room = made .0;
+      stand = made .1 ∙ ap (λ (n : ℕ). numbersAt n (c .before .before .before .before .before .args .bytes .now) 3) (count .0);
+      behind = refl;
+      few = count .1;
+    }))

@@ -1,0 +1,11 @@
+-- Parts of recorded bytes.
+use mathlib.Core.Bool.{cond}
+use mathlib.Core.List.{List, []}
+use Prim.Native.Nat.{ℕ}
+use lib.Dec.{leb}
+use lib.ListN.{length}
+use Rattle.rehearse_scripts.specs.Scripts.{part}
+
+-- The bytes from one place up to another; none where they are not all there.
+abbrev pub partIn : ℕ → ℕ → List ℕ → List ℕ
+partIn start end s = cond (leb end (length s)) (part start end s) []
