@@ -31,11 +31,12 @@ pub fn hand_out(
         (r .counts .crossings) ⌝ }
 {
     let total = headings.len() + 2 + nodes.len();
+    let none = no_counts();
     if out.len() < total {
         return Answer {
             number: 16,
             length: 0,
-            counts: no_counts(),
+            counts: none,
         };
     }
     let middle = append(headings, out, 0);

@@ -12,10 +12,10 @@ hand-out-spec =
     tie.close (tie.spec
     (λ c. search needs) (λ c. search needs) (λ c κs. search needs)
     (λ c. let args = c .before .before .before .before .before .args in
-    let short = three-long (args .headings .now) (args .nodes .now) (args .count) _ (omega (arith, c .before .if1 .taken)) in
-    (too-short _ _ short, no-counts-out _ _ _ _ short (c .no-counts .ensures)))
+    let short = three-long (args .headings .now) (args .nodes .now) (args .count) _ (omega (arith, c .if1 .taken)) in
+    (too-short _ _ short, no-counts-out _ _ _ _ short (c .before .no-counts .ensures)))
     (λ c κs. search needs) (λ c κs. search needs) (λ c κs. search needs) (λ c. search needs)
-    (λ c. let args = c .before .before .before .before .before .before .before .before .before .before .before .before .before .before .before .before .args in
+    (λ c. let args = c .before .before .before .before .before .before .before .before .before .before .before .before .before .before .before .before .before .args in
     let if1-left = c .before .before .before .before .before .before .before .before .before .before .before .before .if1 .left in
     let append = c .before .before .before .before .before .before .before .before .before .before .append .ensures in
     let append-two-bytes = c .before .before .before .before .before .before .append-two-bytes .ensures in
