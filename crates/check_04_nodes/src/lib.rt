@@ -3,7 +3,7 @@ use check_03_declarations::is_final_code;
 use file_bytes::Node;
 use file_children::child_count;
 ghost use mathlib.Core.Path.{_≡_};
-ghost use Prim.Native.Nat.{_+_, _-_};
+ghost use Prim.Native.Nat.{_-_};
 ghost use lib.Dec.{leb};
 ghost use Rattle.definitions.specs.Basics.{any};
 ghost use Rattle.definitions.specs.ContractFile.{nodeOf, fieldsNamed, children};

@@ -10,22 +10,10 @@ use lib.Seq.{getD-set-same, getD-set-other}
 use borrow.Author.Tests.{eqb-true, eqb-false}
 use Rattle.definitions.specs.Basics.{countIf}
 use Rattle.definitions.specs.ContractFile.{NodeRecord, nodeOf, children}
-use Rattle.theory_laws.proofs.Lists.{count-append}
+use Rattle.theory_laws.proofs.Lists.{count-append, count-length}
 use Rattle.file_children.specs.Children.{childCount}
 use Rattle.file_children.proofs.ByCount.{no-children, one-child, two-children, three-children}
 use Rattle.check_05_uses.specs.Counting.{Room, Counted}
-
-countIf-length : (test : ℕ → Bool) (xs : List ℕ) → countIf test xs ≤ length xs
-unfolding countIf
-countIf-length test [] = omega arith
-countIf-length test (x ∷ xs) =
-    let e = countIf-length test xs in
-    let b = bit-small (test x) in
-    omega arith
-  where
-    bit-small : (b : Bool) → cond b 1 0 ≤ 1
-    bit-small true = omega arith
-    bit-small false = omega arith
 
 pub counted-none : (counts : List ℕ) → Counted counts counts []
 unfolding countIf
@@ -42,7 +30,7 @@ counted-more a b c xs ys p q =
 pub room-after : (a b xs : List ℕ) (more left : ℕ) → Counted a b xs → Room a more → length xs + left ≤ more → Room b left
 room-after a b xs more left p r h =
     record {
-      each = λ n k. (let e = p .each n k in let f = r .each n k in let g = countIf-length (eqb n) xs in omega arith);
+      each = λ n k. (let e = p .each n k in let f = r .each n k in let g = count-length (eqb n) xs in omega arith);
       long = p .long
           ∙ r .long;
     }

@@ -23,8 +23,9 @@ use Rattle.definitions.specs.Original.{operate, value, isWorkedOut, plac
 use Rattle.definitions.specs.Original.{originalCompletes, originalAfter, originalDiscloses, numbersFrom, perPlace, position}
 use Rattle.definitions.specs.Original.{deployedNumbers}
 use Rattle.definitions.specs.Owners.{withLink, nameOf, ownerOf, linksOfCondition, linksAfter}
-use Rattle.definitions.specs.Crossings.{originsUpToThree, writtenFunctionEnd, crossingsFrom, crossingsIn, crossingsAfterWriting}
+use Rattle.definitions.specs.Crossings.{originsAt, writtenFunctionEnd, originsFrom, originsIn, crossingsIn, totalIn, crossingsAfterWriting}
 use Rattle.definitions.specs.Report.{tallies, insert, sorted, digits, reportText, reportNumber, reportLength, outputAfterReport}
+use Rattle.definitions.specs.Report.{refusedLine}
 use Rattle.definitions.specs.Rewriting.{kept, onePart, twoParts, supplying, reading, stepsBefore, single, inSequence, inBranch}
 use Rattle.definitions.specs.Rewriting.{inBranches, rewriteStatement, privateParameters, openings, rewriteFunction, rewrite, inBody}
 use Rattle.definitions.specs.Rewriting.{inCircuit, size, numbered, bodyTree, circuitTree, commandTree, sizes, numberedAll, eachOnce}
@@ -50,6 +51,8 @@ pub data Case : Type 0 where
   isReported : List ℕ → List ℕ → Case
   -- a file and the lent output; the report's number and length, and the output afterwards
   reports : List ℕ → List ℕ → ℕ → ℕ → List ℕ → Case
+  -- a number, and the line that is printed where it refuses
+  isRefusedBy : ℕ → List ℕ → Case
   -- a file, the finals' addresses, and the deployment's number
   hasDeployNumber : List ℕ → List ℕ → ℕ → Case
   -- a ledger, a call on it, and its number
@@ -98,6 +101,7 @@ Holds (writes file out number long after) = written file out ≡ answered number
 Holds (handsBack file room counts) = crossingsAfterWriting file room ≡ counts
 Holds (isReported file text) = reportText file ≡ text
 Holds (reports file out number long after) = reported file out ≡ answered number long after
+Holds (isRefusedBy n line) = refusedLine n ≡ line
 Holds (hasDeployNumber file addresses n) = deployNumber file addresses ≡ n
 Holds (hasCallNumber l r n) = callNumber l (r .function) (r .caller) (r .arguments) ≡ n
 Holds (isTakenOrNot file addresses r taken) = isTaken (runAtDeployment file addresses) r ≡ taken
@@ -159,6 +163,7 @@ passes (writes file out number long after) = sameNumbers (written file out) (ans
 passes (handsBack file room counts) = sameNumbers (crossingsAfterWriting file room) counts
 passes (isReported file text) = sameNumbers (reportText file) text
 passes (reports file out number long after) = sameNumbers (reported file out) (answered number long after)
+passes (isRefusedBy n line) = sameNumbers (refusedLine n) line
 passes (hasDeployNumber file addresses n) = eqb (deployNumber file addresses) n
 passes (hasCallNumber l r n) = eqb (callNumber l (r .function) (r .caller) (r .arguments)) n
 passes (isTakenOrNot file addresses r taken) = eqb (bit (isTaken (runAtDeployment file addresses) r)) (bit taken)
@@ -179,6 +184,7 @@ holds (writes file out number long after) t = same-numbers _ (answered number lo
 holds (handsBack file room counts) t = same-numbers _ counts t
 holds (isReported file text) t = same-numbers _ text t
 holds (reports file out number long after) t = same-numbers _ (answered number long after) t
+holds (isRefusedBy n line) t = same-numbers _ line t
 holds (hasDeployNumber file addresses n) t = eqb→eq _ n t
 holds (hasCallNumber l r n) t = eqb→eq _ n t
 holds (isTakenOrNot file addresses r taken) t = same-bit _ taken (eqb→eq _ _ t)
@@ -190,7 +196,7 @@ holds (isDisclosed file addresses requests party lists) t = same-lists _ lists t
 holds (callDiscloses file places r party values) t = same-numbers _ values t
 
 unfoldable pub allPass : List Case → Bool
-unfolding all any anyNumbered countIf largest flatMap firstThatHolds deployNumber deployed allFit publicOf isWellFormed notCallable argumentsOff callNumber callWith honestContents honestVariables honestParameters ledgerAfterCall functionsEnd nodesAt fieldRecords parameterRecords functionRecords nodeRecords sectionsOf sectionPart fieldOf parameterOf typeOf circuitValue contentOf isWalked stateAfter walkCompletes kindOf nodeOfKind expressionParts statementParts fieldsNamed chainLength expressionOf expressionAt statementOf statementAt contractOf endsWrongly countOffLimits fieldInTables parameterInTables kindInTables outsideTables namesNothing usesOf usedOtherThanOnce tooDeep wrongSort expressionFaults statementFaults contractFaults checkNumber sectionNumber sectionAnswer value isWorkedOut placesAfter completes disclosed disclosedBy originalCompletes originalAfter originalDiscloses withLink nameOf ownerOf linksOfCondition linksAfter numbersFrom perPlace position deployedNumbers originsUpToThree writtenFunctionEnd crossingsFrom crossingsIn crossingsAfterWriting tallies insert sorted digits reportText reportNumber reportLength outputAfterReport kept onePart twoParts supplying reading stepsBefore single inSequence inBranch inBranches rewriteStatement privateParameters openings rewriteFunction rewrite inBody inCircuit runAtDeployment isTaken runAfter disclosedIn disclosedOn disclosedNumber disclosedLength outputAfterDisclosing viewsAfter disclosures sameName itemFor itemsFor itemBytes viewBytes viewNumber viewLength outputAfterView size numbered bodyTree circuitTree commandTree sizes numberedAll eachOnce constraintBytes functionBytes functionsBytes contractBytes writtenFile writeNumber writtenLength outputAfterWriting zipWith sameNumbers sameLists
+unfolding all any anyNumbered countIf largest flatMap firstThatHolds deployNumber deployed allFit publicOf isWellFormed notCallable argumentsOff callNumber callWith honestContents honestVariables honestParameters ledgerAfterCall functionsEnd nodesAt fieldRecords parameterRecords functionRecords nodeRecords sectionsOf sectionPart fieldOf parameterOf typeOf circuitValue contentOf isWalked stateAfter walkCompletes kindOf nodeOfKind expressionParts statementParts fieldsNamed chainLength expressionOf expressionAt statementOf statementAt contractOf endsWrongly countOffLimits fieldInTables parameterInTables kindInTables outsideTables namesNothing usesOf usedOtherThanOnce tooDeep wrongSort expressionFaults statementFaults contractFaults checkNumber sectionNumber sectionAnswer value isWorkedOut placesAfter completes disclosed disclosedBy originalCompletes originalAfter originalDiscloses withLink nameOf ownerOf linksOfCondition linksAfter numbersFrom perPlace position deployedNumbers originsAt writtenFunctionEnd originsFrom originsIn crossingsIn totalIn crossingsAfterWriting tallies insert sorted digits reportText reportNumber reportLength outputAfterReport kept onePart twoParts supplying reading stepsBefore single inSequence inBranch inBranches rewriteStatement privateParameters openings rewriteFunction rewrite inBody inCircuit runAtDeployment isTaken runAfter disclosedIn disclosedOn disclosedNumber disclosedLength outputAfterDisclosing viewsAfter disclosures sameName itemFor itemsFor itemBytes viewBytes viewNumber viewLength outputAfterView size numbered bodyTree circuitTree commandTree sizes numberedAll eachOnce constraintBytes functionBytes functionsBytes contractBytes writtenFile writeNumber writtenLength outputAfterWriting zipWith sameNumbers sameLists
 allPass [] = true
 allPass (c ∷ cs) = passes c && allPass cs
 

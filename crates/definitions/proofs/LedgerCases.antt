@@ -7,7 +7,7 @@ use lib.ListN.{replicate}
 use Rattle.definitions.specs.Ledger.{Content, plain, cell, Ledger}
 use Rattle.definitions.proofs.Cases.{Case, writes, reports, hasDeployNumber, hasCallNumber, looks, tells}
 use Rattle.definitions.proofs.Contracts.{fileA, bank, revealAroundRequire, request}
-use Rattle.definitions.proofs.Files.{file, finalField, function, publicBool, privateBool, skip}
+use Rattle.definitions.proofs.Files.{file, function, publicBool, privateBool, skip}
 
 abbrev cellOf : ℕ → ℕ → ℕ → ℕ → Content
 cellOf owner call index value = cell (record { owner = owner; call = call; index = index; value = value })
@@ -63,7 +63,8 @@ nothingWritten = 0 ∷ 1 ∷ 0 ∷ 0 ∷ 0 ∷ 0 ∷ 0 ∷ 0 ∷ 0 ∷ 0 ∷ 0 �
 abbrev nothingReported : List ℕ
 nothingReported =
     102 ∷ 117 ∷ 110 ∷ 99 ∷ 116 ∷ 105 ∷ 111 ∷ 110 ∷ 32 ∷ 99 ∷ 114 ∷ 111 ∷ 115 ∷ 115 ∷ 105 ∷ 110 ∷ 103 ∷ 115 ∷ 10
-    ∷ 48 ∷ 32 ∷ 48 ∷ 10 ∷ []
+    ∷ 48 ∷ 32 ∷ 48 ∷ 10
+    ∷ 116 ∷ 111 ∷ 116 ∷ 97 ∷ 108 ∷ 32 ∷ 48 ∷ 10 ∷ []
 
 -- "A refusal returns it with length 0 ..; lent memory and ledger keep their contents. An accepted request changes only the output bytes
 -- that its length covers, and its ledger."
@@ -75,9 +76,9 @@ outputCases =
     ∷ writes nothing (replicate 23 9) 0 21 (nothingWritten ++ (9 ∷ 9 ∷ []))
     ∷ writes [] (9 ∷ []) 1 0 (9 ∷ [])
     -- A report refuses as writing does, and prints nothing itself.
-    ∷ reports nothing (replicate 22 9) 16 0 (replicate 22 9)
-    ∷ reports nothing (replicate 24 9) 0 23 (nothingReported ++ (9 ∷ []))
-    ∷ reports [] (replicate 20 9) 1 0 (replicate 20 9)
+    ∷ reports nothing (replicate 30 9) 16 0 (replicate 30 9)
+    ∷ reports nothing (replicate 32 9) 0 31 (nothingReported ++ (9 ∷ []))
+    ∷ reports [] (replicate 40 9) 1 0 (replicate 40 9)
     ∷ []
 
 unfoldable pub ledgerCases : List Case

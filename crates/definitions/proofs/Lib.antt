@@ -8,5 +8,6 @@ pub mod LedgerCases
 pub mod Marked
 pub mod NumberCases
 pub mod Products
+pub mod TotalCases
 pub mod ViewCases
 pub mod WrittenCases

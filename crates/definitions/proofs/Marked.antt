@@ -12,6 +12,7 @@ use Rattle.definitions.proofs.Files.{contract, negations, chain}
 use Rattle.definitions.proofs.NumberCases.{numberCases}
 use Rattle.definitions.proofs.WrittenCases.{writtenCases}
 use Rattle.definitions.proofs.CrossingCases.{crossingCases}
+use Rattle.definitions.proofs.TotalCases.{totalCases}
 use Rattle.definitions.proofs.LedgerCases.{openedFrom, outputCases, ledgerCases}
 use Rattle.definitions.proofs.ViewCases.{viewCases}
 use Rattle.definitions.proofs.DisclosureCases.{disclosureCases}
@@ -36,7 +37,8 @@ marked =
     ∷ [])
     ∷ isReported fileA
     (102 ∷ 117 ∷ 110 ∷ 99 ∷ 116 ∷ 105 ∷ 111 ∷ 110 ∷ 32 ∷ 99 ∷ 114 ∷ 111 ∷ 115 ∷ 115 ∷ 105 ∷ 110 ∷ 103 ∷ 115 ∷ 10
-    ∷ 48 ∷ 32 ∷ 51 ∷ 10 ∷ [])
+    ∷ 48 ∷ 32 ∷ 51 ∷ 10
+    ∷ 116 ∷ 111 ∷ 116 ∷ 97 ∷ 108 ∷ 32 ∷ 51 ∷ 10 ∷ [])
     -- "A less its last byte (1)"
     ∷ hasNumber (take 38 fileA) 1
     -- "the empty file (1)"
@@ -100,16 +102,18 @@ pinned =
     (skip ∷ me ∷ me ∷ entryRead 0 2 ∷ parameterRead 0 ∷ operator 0 3 4 ∷ assignEntry 0 1 5
     ∷ skip ∷ me ∷ me ∷ entryRead 0 9 ∷ parameterRead 0 ∷ operator 0 10 11 ∷ assignEntry 0 8 12 ∷ []))
     (102 ∷ 117 ∷ 110 ∷ 99 ∷ 116 ∷ 105 ∷ 111 ∷ 110 ∷ 32 ∷ 99 ∷ 114 ∷ 111 ∷ 115 ∷ 115 ∷ 105 ∷ 110 ∷ 103 ∷ 115 ∷ 10
-    ∷ 49 ∷ 32 ∷ 52 ∷ 10 ∷ 51 ∷ 32 ∷ 52 ∷ 10 ∷ 48 ∷ 32 ∷ 48 ∷ 10 ∷ 50 ∷ 32 ∷ 48 ∷ 10 ∷ [])
+    ∷ 49 ∷ 32 ∷ 52 ∷ 10 ∷ 51 ∷ 32 ∷ 52 ∷ 10 ∷ 48 ∷ 32 ∷ 48 ∷ 10 ∷ 50 ∷ 32 ∷ 48 ∷ 10
+    ∷ 116 ∷ 111 ∷ 116 ∷ 97 ∷ 108 ∷ 32 ∷ 56 ∷ 10 ∷ [])
     ∷ isReported (contract (constant 0 1 ∷ skip ∷ skip ∷ conditional 0 1 2 ∷ []))
     (102 ∷ 117 ∷ 110 ∷ 99 ∷ 116 ∷ 105 ∷ 111 ∷ 110 ∷ 32 ∷ 99 ∷ 114 ∷ 111 ∷ 115 ∷ 115 ∷ 105 ∷ 110 ∷ 103 ∷ 115 ∷ 10
-    ∷ 48 ∷ 32 ∷ 49 ∷ 10 ∷ [])
+    ∷ 48 ∷ 32 ∷ 49 ∷ 10
+    ∷ 116 ∷ 111 ∷ 116 ∷ 97 ∷ 108 ∷ 32 ∷ 49 ∷ 10 ∷ [])
     ∷ []
 
 -- What takes longest to compute stands last, so that a definition that an early case refuses is refused early.
 pub table : List Case
-table = pinned ++ writtenCases ++ crossingCases ++ outputCases ++ ledgerCases ++ viewCases ++ disclosureCases ++ numberCases ++ marked
+table = pinned ++ writtenCases ++ crossingCases ++ totalCases ++ outputCases ++ ledgerCases ++ viewCases ++ disclosureCases ++ numberCases ++ marked
 
 pub every-case-holds : (c : Case) → List·Memᴰ c table → Holds c
-unfolding allPass table marked pinned numberCases writtenCases crossingCases outputCases ledgerCases viewCases disclosureCases joined negations openedFrom flatMap
+unfolding allPass table marked pinned numberCases writtenCases crossingCases totalCases outputCases ledgerCases viewCases disclosureCases joined negations openedFrom flatMap
 every-case-holds c m = each-holds table tt c m

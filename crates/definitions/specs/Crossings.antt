@@ -1,13 +1,19 @@
--- 02, Note 2: "let writing hand back, beside its length, each function's count of variables with origins 0 to 3". A crossing is document
--- 01's own term for such a variable. They are counted in the written file, origin byte by origin byte.
-use Rattle.definitions.specs.Basics.{cond, List, [], _∷_, _++_, ℕ, zero, suc, _+_, _*_, _-_, eqb, leb, bit, length, replicate, force}
+-- 02, Note 2: "let writing hand back, beside its length, each function's count of variables with origins 0 to 3"; Note 3: "the number of
+-- variables with origins 0 to 3 in the written file, counted there". A crossing is document 01's own term for such a variable. They are
+-- counted in the written file, origin byte by origin byte.
+use Rattle.definitions.specs.Basics.{cond, List, [], _∷_, _++_, map, flatMap, ℕ, zero, suc, _+_, _*_, _-_, eqb, leb, countIf}
+use Rattle.definitions.specs.Basics.{length, replicate, force}
 use Rattle.definitions.specs.ContractFile.{byteAt, twoBytesAt, functionsAt, functionCount}
 use Rattle.definitions.specs.Rewriting.{writtenFile, writeNumber}
 
--- "each origin and owner code": of so many variables from a place on, those with origins 0 to 3.
-unfoldable pub originsUpToThree : ℕ → List ℕ → ℕ → ℕ
-originsUpToThree zero written at = 0
-originsUpToThree (suc more) written at = bit (leb (byteAt written at) 3) + originsUpToThree more written (at + 2)
+-- "each origin and owner code": the origins of so many variables from a place on.
+unfoldable pub originsAt : ℕ → List ℕ → ℕ → List ℕ
+originsAt zero written at = []
+originsAt (suc more) written at = byteAt written at ∷ originsAt more written (at + 2)
+
+-- "variables with origins 0 to 3"
+abbrev pub upToThree : List ℕ → ℕ
+upToThree origins = countIf (λ origin. leb origin 3) origins
 
 -- "Written per function: parameters; two-byte count of variables ..; two-byte count of owner codes needing keys ..; two-byte count of
 -- constraints ..; body root.": where the variables of the function that begins at a place are counted, and where the function ends.
@@ -25,15 +31,24 @@ writtenFunctionEnd written at =
     let rootAt = behindCounted 6 written constraintsAt in
     rootAt + 2
 
-unfoldable pub crossingsFrom : ℕ → List ℕ → ℕ → List ℕ
-crossingsFrom zero written at = []
-crossingsFrom (suc more) written at =
-    originsUpToThree (twoBytesAt written (variablesAt written at)) written (variablesAt written at + 2)
-    ∷ force (writtenFunctionEnd written at) (crossingsFrom more written)
+-- The origins of each function's variables, of so many functions from a place on.
+unfoldable pub originsFrom : ℕ → List ℕ → ℕ → List (List ℕ)
+originsFrom zero written at = []
+originsFrom (suc more) written at =
+    originsAt (twoBytesAt written (variablesAt written at)) written (variablesAt written at + 2)
+    ∷ force (writtenFunctionEnd written at) (originsFrom more written)
 
--- "the count in the written file", of each function: fields and the count of functions stand there as in input.
+-- Fields and the count of functions stand in a written file as in input.
+unfoldable pub originsIn : List ℕ → List (List ℕ)
+originsIn written = originsFrom (functionCount written) written (functionsAt written + 1)
+
+-- "the count in the written file", of each function
 unfoldable pub crossingsIn : List ℕ → List ℕ
-crossingsIn written = crossingsFrom (functionCount written) written (functionsAt written + 1)
+crossingsIn written = map upToThree (originsIn written)
+
+-- 02, Note 3: "the number of variables with origins 0 to 3 in the written file, counted there": over the whole file.
+unfoldable pub totalIn : List ℕ → ℕ
+totalIn written = upToThree (flatMap (λ origins. origins) (originsIn written))
 
 -- "a refusal, or a function that isn't there, has 0": as many numbers as there can be functions.
 abbrev pub sixteen : List ℕ → List ℕ

@@ -11,7 +11,7 @@ use Rattle.definitions.specs.View.{disclosedOn}
 use Rattle.theory_trees.specs.Trees.{statementIn}
 use Rattle.memory_append.specs.Append.{Appended}
 use Rattle.file_bytes.proofs.Sections.{count-of-nodes}
-use Rattle.file_accepted.specs.Context.{nodesIn, fieldsIn, scopeIn}
+use Rattle.file_accepted.specs.Context.{nodesIn, fieldsIn}
 use Rattle.file_accepted.specs.Functions.{functionStart, rootAt}
 use Rattle.file_accepted.proofs.Functions.{functions-count, function-in}
 use Rattle.ledger_addresses.specs.Addresses.{AddressRoom, Addressed}

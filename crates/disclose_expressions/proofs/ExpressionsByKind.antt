@@ -1,5 +1,5 @@
 -- What an expression discloses by its kind, as code learns it from what its parts disclose.
-use mathlib.Core.Path.{_≡_, refl, ap, ap₂, sym, _∙_}
+use mathlib.Core.Path.{_≡_, refl, ap, sym, _∙_}
 use mathlib.Core.Bool.{Bool, true, false, cond, _&&_}
 use mathlib.Core.List.{List, [], _∷_, _++_}
 use Prim.Native.Nat.{ℕ, _+_, _*_, _<_, _≤_}
@@ -7,8 +7,8 @@ use native.Mathlib.Omega.{arith}
 use borrow.Author.Tests.{eqb-true, eqb-false}
 use lib.Dec.{eqb}
 use lib.ListN.{length}
-use Rattle.definitions.specs.ContractFile.{Name, meName, Owner, Operator, Expression, NodeRecord, nodeCount, nodeRecord}
-use Rattle.definitions.specs.Original.{value, isWorkedOut, operates, mayRead, readerOf, disclosed}
+use Rattle.definitions.specs.ContractFile.{meName, Owner, Operator, Expression, NodeRecord, nodeCount, nodeRecord}
+use Rattle.definitions.specs.Original.{isWorkedOut, operates, mayRead, readerOf, disclosed}
 use Rattle.theory_trees.specs.Trees.{expressionIn}
 use Rattle.memory_append.specs.Append.{Appended}
 use Rattle.memory_append.proofs.Appending.{appended-nothing}

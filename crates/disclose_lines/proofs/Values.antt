@@ -1,5 +1,5 @@
 -- Values in decimal, each after a space, appended one after another.
-use mathlib.Core.Path.{_≡_, refl}
+use mathlib.Core.Path.{_≡_}
 use mathlib.Core.List.{List, [], _∷_, _++_}
 use Prim.Native.Nat.{ℕ, _+_, _*_, _<_, _≤_}
 use native.Mathlib.Numerals.{add-one}
@@ -8,7 +8,7 @@ use lib.ListN.{length, getD, drop, drop-of-length-le, length-append}
 use lib.Seq.{drop-cons}
 use Rattle.definitions.specs.Basics.{flatMap}
 use Rattle.memory_append.specs.Append.{Appended, Appending}
-use Rattle.memory_append.proofs.Appending.{appended-length, appending-start, appending-next, appending-done}
+use Rattle.memory_append.proofs.Appending.{appending-start, appending-next, appending-done}
 use Rattle.report_text.proofs.Digits.{digits-length}
 use Rattle.disclose_lines.specs.Lines.{spacedValue}
 

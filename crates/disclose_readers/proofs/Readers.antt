@@ -5,7 +5,7 @@ use mathlib.Core.List.{List}
 use Prim.Native.Nat.{ℕ}
 use lib.Dec.{eqb}
 use Rattle.definitions.specs.ContractFile.{ownerOfCode}
-use Rattle.definitions.specs.Original.{Reader, only, mayRead, readerOf}
+use Rattle.definitions.specs.Original.{only, mayRead, readerOf}
 use Rattle.ledger_circuits.specs.Circuits.{addressFrom}
 
 module _ (addresses : List ℕ) (code party : ℕ) where

@@ -1,5 +1,4 @@
 -- Each reveal discloses at most one value, so a statement discloses no more values than it has nodes.
-use mathlib.Core.Path.{_≡_, ap}
 use mathlib.Core.Bool.{Bool, true, false, cond, _&&_}
 use mathlib.Core.List.{List, [], _∷_, _++_}
 use Prim.Native.Nat.{ℕ, _+_, _≤_}

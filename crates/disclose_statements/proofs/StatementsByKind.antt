@@ -9,7 +9,6 @@ use Rattle.definitions.specs.Basics.{isTrue}
 use Rattle.definitions.specs.ContractFile.{Expression, Statement}
 use Rattle.definitions.specs.Original.{position, placesAfter, completes, disclosedBy}
 use Rattle.theory_trees.specs.Trees.{expressionIn, statementIn}
-use Rattle.memory_append.specs.Append.{Appended}
 use Rattle.memory_append.proofs.Appending.{appended-nothing}
 use Rattle.file_accepted.specs.Context.{nodesIn, fieldsIn}
 use Rattle.disclose_expressions.specs.declared.Asked.{Asked}

@@ -4,7 +4,7 @@ use ledger_18_done::is_after_done;
 use ledger_18_failed::is_after_failed;
 use ledger_struct::Ledger;
 ghost use mathlib.Core.Path.{_≡_};
-ghost use Prim.Native.Nat.{_<_, _/_};
+ghost use Prim.Native.Nat.{_<_};
 ghost use Rattle.definitions.specs.Ledger.{isAfterCall};
 ghost use Rattle.ledger_struct.specs.Ledgers.{ledgerOf};
 ghost use Rattle.ledger_18_parts.specs.HandedOn.{Opened};

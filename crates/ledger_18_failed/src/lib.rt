@@ -4,7 +4,7 @@ use ledger_18_parameters::parameters_fit;
 use ledger_18_parts::put_parameters;
 use ledger_struct::Ledger;
 ghost use mathlib.Core.Path.{_≡_};
-ghost use Prim.Native.Nat.{_<_, _/_};
+ghost use Prim.Native.Nat.{_<_};
 ghost use Rattle.definitions.specs.ContractFile.{functionCount};
 ghost use Rattle.definitions.specs.Ledger.{isAfterFailed};
 ghost use Rattle.ledger_struct.specs.Ledgers.{ledgerOf};

@@ -2,7 +2,6 @@
 use ledger_struct::Ledger;
 use ledger_struct::at_most;
 ghost use mathlib.Core.Path.{_≡_};
-ghost use Prim.Native.Nat.{_/_};
 ghost use lib.ListN.{length};
 ghost use Rattle.ledger_struct.specs.Ledgers.{ledgerOf};
 ghost use Rattle.ledger_18_parts.specs.HandedOn.{Flat};

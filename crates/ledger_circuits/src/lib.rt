@@ -2,8 +2,6 @@
 use file_bytes::read_node;
 use ledger_arithmetic::negated;
 use ledger_arithmetic::operated;
-use ledger_contents::Content;
-use ledger_contents::content_at;
 use ledger_contents::opened_at;
 use ledger_contents::plain_at;
 use ledger_places::number_at;

@@ -7,7 +7,6 @@ pub use files::deliver;
 pub use files::write_file;
 use libc::STDERR_FILENO;
 use libc::STDOUT_FILENO;
-ghost use mathlib.Core.Path.{_≡_};
 ghost use Prim.Native.Nat.{_+_, _≤_};
 ghost use lib.ListN.{length};
 ghost use Rattle.definitions.specs.Report.{refusedLine};

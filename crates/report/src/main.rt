@@ -1,5 +1,5 @@
-// Reads a contract file and prints its report: each function's crossings, or `refused` and the file's number. It is the file that the
-// one argument names, or standard input.
+// Reads a contract file and prints its report: each function's crossings and their total, or `refused` and the file's number. It is the
+// file that the one argument names, or standard input.
 use program_input::contract_room;
 use program_input::read_input;
 use program_output::print;
@@ -8,10 +8,10 @@ ghost use mathlib.Core.Path.{_≡_};
 ghost use lib.ListN.{length};
 
 // Room for the longest report.
-fn text_room() -> [u8; 691]
-    ensures { λ r. ⌜ 691 ≡ length r ⌝ }
+fn text_room() -> [u8; 131]
+    ensures { λ r. ⌜ 131 ≡ length r ⌝ }
 {
-    [0; 691]
+    [0; 131]
 }
 
 fn main() {

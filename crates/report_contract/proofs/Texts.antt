@@ -6,26 +6,23 @@ use Prim.Native.Nat.{ℕ, zero, suc, _+_, _-_, _≤_}
 use native.Mathlib.Omega.{arith}
 use borrow.Author.Tests.{eq-eqb, ne-eqb}
 use lib.Dec.{ltb}
-use lib.ListN.{length, take, drop, replicate, length-map}
+use lib.ListN.{length, take, drop, replicate}
 use lib.Seq.{length-take-le, take-at}
 use Rattle.definitions.specs.Basics.{firstThatHolds}
-use Rattle.definitions.specs.ContractFile.{functionCount, contractIn}
+use Rattle.definitions.specs.ContractFile.{functionCount}
 use Rattle.definitions.specs.Crossings.{crossingsIn, sixteen, crossingsAfterWriting}
 use Rattle.definitions.specs.Numbers.{checkNumber, orElse}
-use Rattle.definitions.specs.Rewriting.{rewrite, writtenFile, writeNumber}
+use Rattle.definitions.specs.Rewriting.{writtenFile, writeNumber}
 use Rattle.definitions.specs.Report.{reportLines, reportText, reportNumber, reportLength, outputAfterReport}
-use Rattle.theory_crossings.specs.Crossings.{crossings}
-use Rattle.theory_crossings.proofs.Headings.{counts-are-read}
+use Rattle.theory_crossings.specs.Crossings.{sum}
 use Rattle.theory_laws.proofs.Rooms.{within-room}
 use Rattle.memory_buffer.specs.Buffer.{stored}
 use Rattle.memory_append.specs.Append.{Appended}
 use Rattle.memory_append.proofs.Appending.{appended-length}
 use Rattle.write_output.specs.Answers.{HandedOut}
-use Rattle.report_text.proofs.Lines.{report-length}
-use Rattle.write_room.proofs.Room.{room-suffices, room-is-never-short}
-use Rattle.write_function_room.specs.Functions.{writtenFunctions}
-use Rattle.write_function_room.proofs.Written.{functions-counted}
+use Rattle.write_room.proofs.Room.{room-is-never-short}
 use Rattle.write_function_room.proofs.Room.{functions-few}
+use Rattle.report_room.proofs.Room.{counts-many, text-is, text-few}
 
 -- What is answered where a number refuses.
 pub record Refused (file out : List ℕ) (number : ℕ) : Type 0 where
@@ -58,17 +55,6 @@ module _ (file : List ℕ) where
       (ap (λ (m : ℕ). orElse m (firstThatHolds 16 (ltb (length out) (length (reportText file)) ∷ []))) e) refused
 
   module _ (accepted : checkNumber file ≡ 0) where
-    -- As many counts as there are functions.
-    counts-many : length (crossingsIn (writtenFile file)) ≡ functionCount file
-    unfolding writtenFile
-    counts-many =
-        ap length (counts-are-read (rewrite (contractIn file)) (omega (arith, room-suffices file accepted)))
-        ∙ length-map (writtenFunctions file) crossings ∙ functions-counted file
-
-    text-few : length (reportText file) ≤ 691
-    unfolding reportText
-    text-few = report-length (crossingsIn (writtenFile file)) (omega (arith, counts-many, functions-few file accepted))
-
     -- Where writing refuses nothing, it hands back the counts in the written file.
     pub counts-handed : (number room : ℕ) (counts : List ℕ) → number ≡ writeNumber file room → number ≡ 0 → counts ≡ crossingsAfterWriting file room
         → counts ≡ sixteen (crossingsIn (writtenFile file))
@@ -81,31 +67,34 @@ module _ (file : List ℕ) where
       own : take functions counts ≡ crossingsIn (writtenFile file)
       own =
           ap (take functions) handed
-          ∙ take-at (crossingsIn (writtenFile file)) (replicate (16 - length (crossingsIn (writtenFile file))) 0) functions (omega (arith, counts-many))
+          ∙ take-at (crossingsIn (writtenFile file)) (replicate (16 - length (crossingsIn (writtenFile file))) 0) functions (omega (arith, counts-many file accepted))
 
       pub counts-taken : functions ≡ length (take functions counts)
-      counts-taken = omega (arith, ap length own, counts-many)
+      counts-taken = omega (arith, ap length own, counts-many file accepted)
 
-      pub lines-fit : (room : ℕ) → 691 ≤ room → (length (take functions counts) ≤ 16) × (length (reportLines (take functions counts)) ≤ room)
-      unfolding reportText
+      lines-are : reportLines (take functions counts) (sum (take functions counts)) ≡ reportText file
+      lines-are = ap (λ (l : List ℕ). reportLines l (sum l)) own ∙ sym (text-is file accepted)
+
+      pub lines-fit : (room : ℕ) → 131 ≤ room
+          → (length (take functions counts) ≤ 16) × (length (reportLines (take functions counts) (sum (take functions counts))) ≤ room)
       lines-fit room long =
-          (omega (arith, counts-taken, functions-few file accepted), omega (arith, ap (λ (l : List ℕ). length (reportLines l)) own, text-few))
+          (omega (arith, counts-taken, functions-few file accepted), omega (arith, ap length lines-are, text-few file accepted))
 
-      pub lines-told : (before after : List ℕ) (end : ℕ) → Appended before after 0 (reportLines (take functions counts)) end → Appended before after 0 (reportText file) end
-      unfolding reportText
-      lines-told before after end a = rw own at a
+      pub lines-told : (before after : List ℕ) (end : ℕ) → Appended before after 0 (reportLines (take functions counts) (sum (take functions counts))) end
+          → Appended before after 0 (reportText file) end
+      lines-told before after end a = rw lines-are at a
 
     room-number : (out : List ℕ) → reportNumber file (length out) ≡ firstThatHolds 16 (ltb (length out) (length (reportText file)) ∷ [])
     unfolding reportNumber
     room-number out = ap (λ (n : ℕ). orElse n (firstThatHolds 16 (ltb (length out) (length (reportText file)) ∷ []))) accepted
 
     -- The text stands in front of the local room, and goes to the output where that is long enough.
-    module _ (before after : List ℕ) (n : ℕ) (a : Appended before after 0 (reportText file) n) (room : 691 ≡ length before) where
-      pub text-end : n ≤ 691
-      text-end = omega (arith, a .place, text-few)
+    module _ (before after : List ℕ) (n : ℕ) (a : Appended before after 0 (reportText file) n) (room : 131 ≡ length before) where
+      pub text-end : n ≤ 131
+      text-end = omega (arith, a .place, text-few file accepted)
 
       pub text-taken : n ≡ length (take n after)
-      text-taken = sym (length-take-le n after (omega (arith, text-end, appended-length before 0 after (reportText file) n a (omega (arith, text-few)))))
+      text-taken = sym (length-take-le n after (omega (arith, text-end, appended-length before 0 after (reportText file) n a (omega (arith, text-few file accepted)))))
 
       text-front : take n after ≡ reportText file
       unfolding stored

@@ -1,5 +1,5 @@
 // 01, File A, whole: the report of any file, "function number and count of variables with origins 0 to 3", or the number that refuses it.
-// 02, Note 2: it prints the counts that writing hands back, and counts nothing itself.
+// 02, Note 2: it prints the counts that writing hands back, and counts nothing itself. Note 3: their total stands last.
 use check_refusals::is_refused;
 use file_bytes::read_layout;
 use report_output::Answer;
@@ -22,17 +22,17 @@ fn written_room() -> [u8; 49152]
     [0; 49152]
 }
 
-// Room for the longest text: the heading, and sixteen lines.
-fn text_room() -> [u8; 691]
-    ensures { λ r. ⌜ 691 ≡ length r ⌝ }
+// Room for the longest text: the heading, sixteen lines and the total.
+fn text_room() -> [u8; 131]
+    ensures { λ r. ⌜ 131 ≡ length r ⌝ }
 {
-    [0; 691]
+    [0; 131]
 }
 
 // The text of an accepted file: of the sixteen counts, those of its functions.
 fn append_counts(file: &[u8], counts: &[u16], text: &mut [u8]) -> usize
     requires { ⌜ (checkNumber (now file) ≡ 0) × (now counts ≡ sixteen (crossingsIn (writtenFile (now file))))
-        × (691 ≤ length (now text)) ⌝ }
+        × (131 ≤ length (now text)) ⌝ }
     ensures { λ r. ⌜ Appended (now (text .entry)) (now (text .exit)) 0 (reportText (now (file .entry))) r ⌝ }
 {
     let layout = read_layout(file);

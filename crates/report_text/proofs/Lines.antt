@@ -8,10 +8,13 @@ use native.Mathlib.Omega.{arith}
 use lib.ListN.{length, getD, take, drop, length-append, length-map, take-append-drop, List·getD-map}
 use lib.Seq.{take-suc, take-all, length-take-le, getD-take}
 use Rattle.definitions.specs.Basics.{flatMap}
-use Rattle.definitions.specs.Report.{Tally, comesBefore, insert, sorted, decimal, heading, tallyLine, refusedLine, tallies, reportLines}
+use Rattle.definitions.specs.Report.{Tally, comesBefore, insert, sorted, decimal, heading, tallyLine, totalLine, refusedLine, tallies, reportLines}
 use Rattle.theory_laws.proofs.Lists.{flat-append}
 use Rattle.memory_append.specs.Append.{Appended}
-use Rattle.memory_append.proofs.Appending.{appended-nothing, appended-length, appended-then}
+use Rattle.memory_append.proofs.Appending.{appended-nothing, appended-length, appended-then, second-room, third-room, three-appended}
+use Rattle.theory_crossings.specs.Crossings.{sum}
+use Rattle.report_total.specs.Totals.{totalOf}
+use Rattle.report_total.proofs.Sums.{lines-total}
 use Rattle.report_order.specs.Counts.{tallyOf, orderedTallies}
 use Rattle.report_text.proofs.Digits.{digits-length}
 
@@ -72,8 +75,8 @@ module _ (counts order : List ℕ) (enough : length counts ≤ length order) whe
     pub lines-done : (after : List ℕ) (i end : ℕ) → length counts ≤ i → Appended held after from (linesTo i) end → Appended held after from (flatMap tallyLine ordered) end
     lines-done after i end l a = let n = ordered-length in rw (ap (flatMap tallyLine) (take-all i ordered (omega arith))) at a
 
--- The heading, then the lines in sorted order.
-module _ (counts order held : List ℕ) (fits : length (reportLines counts) ≤ length held)
+-- The heading, then the lines in sorted order, then the total.
+module _ (counts order held : List ℕ) (fits : length (reportLines counts (sum counts)) ≤ length held)
     (is-sorted : orderedTallies counts (length counts) order ≡ sorted (tallies 0 counts)) where
   abbrev inOrder : List ℕ
   inOrder = flatMap tallyLine (orderedTallies counts (length counts) order)
@@ -81,17 +84,28 @@ module _ (counts order held : List ℕ) (fits : length (reportLines counts) ≤ 
   same-lines : inOrder ≡ flatMap tallyLine (sorted (tallies 0 counts))
   same-lines = ap (flatMap tallyLine) is-sorted
 
-  pub lines-room : (between : List ℕ) (at : ℕ) → Appended held between 0 heading at → at + length inOrder ≤ length between
-  lines-room between at a =
-      let n = ap length same-lines in
-      let same = appended-length held 0 between heading at a (omega arith) in
-      let place = a .place in
-      omega arith
+  fits-in-order : 0 + length (heading ++ inOrder ++ totalLine (sum counts)) ≤ length held
+  fits-in-order = rw same-lines (omega arith)
 
-  pub report-appended : (between after : List ℕ) (at end : ℕ) → Appended held between 0 heading at → Appended between after at inOrder end → Appended held after 0 (reportLines counts) end
-  report-appended between after at end a b =
-      let c : Appended between after at (flatMap tallyLine (sorted (tallies 0 counts))) end = rw same-lines at b in
-      appended-then held 0 between after heading (flatMap tallyLine (sorted (tallies 0 counts))) at end a (omega arith) c
+  -- What is added up line by line.
+  module _ (functions total : ℕ) (all : functions ≡ length counts) (added : total ≡ totalOf (orderedTallies counts functions order)) where
+    total-is : total ≡ sum counts
+    total-is =
+        added ∙ ap (λ (n : ℕ). totalOf (orderedTallies counts n order)) all ∙ ap totalOf is-sorted ∙ lines-total counts
+
+    pub lines-room : (between : List ℕ) (at : ℕ) → Appended held between 0 heading at → at + length inOrder ≤ length between
+    lines-room = second-room held 0 heading inOrder (totalLine (sum counts)) fits-in-order
+
+    pub total-room : (between later : List ℕ) (at next : ℕ) → Appended held between 0 heading at → Appended between later at inOrder next
+        → next + length (totalLine total) ≤ length later
+    total-room between later at next a b =
+        rw total-is (third-room held 0 heading inOrder (totalLine (sum counts)) fits-in-order between later at next a b)
+
+    pub report-appended : (between later after : List ℕ) (at next end : ℕ) → Appended held between 0 heading at → Appended between later at inOrder next
+        → Appended later after next (totalLine total) end → Appended held after 0 (reportLines counts (sum counts)) end
+    report-appended between later after at next end a b c =
+        let d : Appended later after next (totalLine (sum counts)) end = rw total-is at c in
+        rw same-lines at (three-appended held 0 heading inOrder (totalLine (sum counts)) fits-in-order between later after at next end a b d)
 
 -- At most twenty digits a number: 42 bytes a line.
 insert-length : (a : Tally) (bs : List Tally) → length (insert a bs) ≡ suc (length bs)
@@ -125,13 +139,6 @@ lines-length : (ts : List Tally) → length (flatMap tallyLine ts) ≤ 42 * leng
 unfolding flatMap
 lines-length [] = omega arith
 lines-length (t ∷ ts) = let h = lines-length ts in let k = line-length t in omega (arith, length-append (tallyLine t) (flatMap tallyLine ts))
-
-pub report-length : (counts : List ℕ) → length counts ≤ 16 → length (reportLines counts) ≤ 691
-report-length counts few =
-    let a = lines-length (sorted (tallies 0 counts)) in
-    let b = sorted-length (tallies 0 counts) in
-    let c = tallies-length 0 counts in
-    omega arith
 
 pub refused-length : (n : ℕ) → length (refusedLine n) ≤ 29
 refused-length n = let h = digits-length 20 n in omega (arith, length-append (decimal n) (10 ∷ []))

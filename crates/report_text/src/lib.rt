@@ -1,16 +1,18 @@
-// The report's text: decimal numbers, the refused line, and the lines of the tallies.
+// The report's text: decimal numbers, the refused line, the lines of the tallies, and their total.
 use memory_append::append;
 use memory_append::append_byte;
 use report_order::count_of;
 use report_order::sort_functions;
+use report_total::total_of;
 ghost use mathlib.Core.List.{[], _∷_, _++_};
 ghost use Prim.Native.Nat.{_+_, _<_, _≤_};
 ghost use lib.ListN.{length};
 ghost use Rattle.memory_append.specs.Append.{Appended};
 ghost use Rattle.definitions.specs.Basics.{flatMap};
 ghost use Rattle.definitions.specs.Report.{digits, decimal, refusedLine, tallyLine, reportLines};
+ghost use Rattle.theory_crossings.specs.Crossings.{sum};
 ghost use Rattle.report_order.specs.Counts.{orderedTallies};
-ghost use Rattle.report_text.specs.Lines.{spacedCount};
+ghost use Rattle.report_text.specs.Lines.{spacedCount, wordLine};
 
 // A number's decimal digits, as many as there are levels at most.
 pub fn append_digits(levels: usize, number: usize, out: &mut [u8], at: usize) -> usize
@@ -27,14 +29,22 @@ pub fn append_digits(levels: usize, number: usize, out: &mut [u8], at: usize) ->
     }
 }
 
+// A line of a word and a number: `refused N`, `total N`.
+fn append_word(word: &[u8], number: usize, out: &mut [u8], at: usize) -> usize
+    requires { ⌜ at + length (wordLine (now word) number) ≤ length (now out) ⌝ }
+    ensures { λ r. ⌜ Appended (now (out .entry)) (now (out .exit)) at (wordLine (now (word .entry)) number) r ⌝ }
+{
+    let next = append(word, out, at);
+    let line = append_digits(20, number, out, next);
+    append_byte(10, out, line)
+}
+
 // "A refused file prints `refused N`."
 pub fn refused_line(number: u8, out: &mut [u8]) -> usize
     requires { ⌜ length (refusedLine number) ≤ length (now out) ⌝ }
     ensures { λ r. ⌜ Appended (now (out .entry)) (now (out .exit)) 0 (refusedLine number) r ⌝ }
 {
-    let word = append(b"refused ", out, 0);
-    let line = append_digits(20, number as usize, out, word);
-    append_byte(10, out, line)
+    append_word(b"refused ", number as usize, out, 0)
 }
 
 fn append_count(count: u16, out: &mut [u8], at: usize) -> usize
@@ -72,13 +82,17 @@ fn append_tallies(counts: &[u16], order: &[u8], out: &mut [u8], from: usize) -> 
     at
 }
 
-// "the line `function crossings`, then function number and count .., most first, ties by lower number"
+// "the line `function crossings`, then function number and count .., most first, ties by lower number". 02, Note 3: "After the last line
+// print `total` and a number."
 pub fn report_lines(counts: &[u16], out: &mut [u8]) -> usize
-    requires { ⌜ (length (now counts) ≤ 16) × (length (reportLines (now counts)) ≤ length (now out)) ⌝ }
-    ensures { λ r. ⌜ Appended (now (out .entry)) (now (out .exit)) 0 (reportLines (now (counts .entry))) r ⌝ }
+    requires { ⌜ (length (now counts) ≤ 16) × (length (reportLines (now counts) (sum (now counts))) ≤ length (now out)) ⌝ }
+    ensures { λ r. ⌜ Appended (now (out .entry)) (now (out .exit)) 0 (reportLines (now (counts .entry)) (sum (now (counts .entry)))) r ⌝ }
 {
+    let functions = counts.len();
     let mut order: [u8; 16] = [0; 16];
     sort_functions(counts, &mut order);
+    let total = total_of(counts, &order, functions);
     let heading = append(b"function crossings\n", out, 0);
-    append_tallies(counts, &order, out, heading)
+    let lines = append_tallies(counts, &order, out, heading);
+    append_word(b"total ", total, out, lines)
 }

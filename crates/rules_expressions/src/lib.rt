@@ -15,7 +15,6 @@ use rules_scopes::Parameters;
 use rules_scopes::field_at;
 use rules_scopes::parameter_at;
 use rules_scopes::target_fits;
-ghost use mathlib.Core.Path.{_≡_};
 ghost use Prim.Native.Nat.{_<_};
 ghost use Rattle.definitions.specs.ContractFile.{nodeCount};
 ghost use Rattle.definitions.specs.Owners.{linksOfCondition};

@@ -1,6 +1,6 @@
 -- Links learnt one after the other, and none learnt.
 use mathlib.Core.Path.{_≡_, refl, sym, _∙_}
-use mathlib.Core.Bool.{true, false, true≢false}
+use mathlib.Core.Bool.{true, true≢false}
 use Rattle.definitions.specs.Owners.{Links}
 use Rattle.rules_links.specs.Names.{linkedBy}
 use Rattle.rules_links.specs.Growing.{Learnt}

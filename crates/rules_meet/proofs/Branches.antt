@@ -1,10 +1,7 @@
 -- Where one branch has added no link, what both have is what was there before.
 use mathlib.Core.Path.{_≡_, refl, sym, fun-ext}
 use mathlib.Core.Bool.{Bool, true, false, _&&_}
-use mathlib.Core.List.{List}
-use Prim.Native.Nat.{ℕ}
-use Rattle.definitions.specs.ContractFile.{Name}
-use Rattle.definitions.specs.Owners.{Links, linkedInBoth}
+use Rattle.definitions.specs.Owners.{linkedInBoth}
 use Rattle.rules_links.specs.Names.{linkedBy}
 use Rattle.rules_links.specs.Growing.{Learnt}
 use Rattle.rules_links.specs.declared.Classes.{Classes}

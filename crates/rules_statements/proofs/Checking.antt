@@ -1,12 +1,12 @@
 -- What is found of each kind of statement is right if what is found of its parts is.
 use mathlib.Core.Path.{_≡_, refl, ap, ap₂, sym, _∙_}
-use mathlib.Core.Bool.{true, false}
+use mathlib.Core.Bool.{false}
 use mathlib.Core.List.{_++_}
 use Prim.Native.Nat.{ℕ, min}
-use Rattle.definitions.specs.ContractFile.{Name, Expression, Statement, Scope}
+use Rattle.definitions.specs.ContractFile.{Expression, Statement, Scope}
 use Rattle.definitions.specs.Owners.{Links, linkedInBoth, linksAfter, linksOfCondition}
 use Rattle.definitions.specs.Numbers.{statementFaults, conditionFaults}
-use Rattle.theory_laws.proofs.GrowingLinks.{Within, within-chain, condition-grows, links-grow}
+use Rattle.theory_laws.proofs.GrowingLinks.{within-chain, condition-grows, links-grow}
 use Rattle.rules_faults.specs.Faults.{leastFault}
 use Rattle.rules_faults.proofs.Faults.{least-append, least-none}
 use Rattle.rules_links.specs.Names.{linkedBy}

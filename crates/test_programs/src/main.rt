@@ -1,6 +1,6 @@
-// Compares our entries and programs with recorded answers. They stand in the files that the three arguments name, in this order: contract
+// Compares our entries and programs with recorded answers. They stand in the files that the four arguments name, in this order: contract
 // files, with their numbers, written files and reports; inputs of the programs with what they print, those recorded for document 02's
-// Note 1 and for its Note 2. For each file one line is printed: how many records there were, and how many of them differ.
+// Notes 1, 2 and 3. For each file one line is printed: how many records there were, and how many of them differ.
 mod files;
 mod programs;
 
@@ -34,7 +34,7 @@ fn main() {
     let mut input = test_shared::input_room();
     let mut out = test_shared::output_room();
     let mut place: usize = 1;
-    while place <= 3 {
+    while place <= 4 {
         let read = test_shared::read_named(b"test_programs", place, &mut input);
         let length = read.length;
         if read.ready {

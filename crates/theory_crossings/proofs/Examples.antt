@@ -1,6 +1,6 @@
 -- The law cited at a written contract with a guard among its variables; and what its hypothesis rules out: a count that two bytes don't hold.
 use mathlib.Core.Path.{_≡_, refl, ap, ap₂}
-use mathlib.Core.List.{List, [], _∷_}
+use mathlib.Core.List.{List, [], _∷_, map}
 use Prim.Native.Nat.{ℕ, zero, suc, _+_, _*_, _%_, _/_}
 use native.Mathlib.Omega.{arith}
 use lib.ListN.{length, replicate, length-replicate}
@@ -8,7 +8,7 @@ use Rattle.definitions.specs.Basics.{countIf, flatMap}
 use Rattle.definitions.specs.ContractFile.{Expression, everyone, ownedBy, meName}
 use Rattle.definitions.specs.Rewriting.{Variable, supplied, guard, readFrom, Command, WrittenContract, sizes, size, commandTree}
 use Rattle.definitions.specs.Rewriting.{numberedAll, numbered, eachOnce, constraintBytes, functionBytes, functionsBytes, contractBytes}
-use Rattle.definitions.specs.Crossings.{originsUpToThree, writtenFunctionEnd, crossingsFrom, crossingsIn}
+use Rattle.definitions.specs.Crossings.{originsAt, upToThree, writtenFunctionEnd, originsFrom, originsIn, crossingsIn}
 use Rattle.theory_laws.proofs.Records.{force-is}
 use Rattle.theory_crossings.specs.Crossings.{crossings}
 use Rattle.theory_crossings.proofs.Headings.{counts-are-read}
@@ -26,13 +26,15 @@ guard-not-counted =
 
 -- With 65,536 variables the bytes of their count are 0 and 0, and no origin is read: no law without a bound could hold.
 many-not-read : (n : ℕ) → n % 65536 ≡ 0 → crossingsIn (contractBytes (withVariables (replicate n (supplied everyone Expression.me)))) ≡ 0 ∷ []
-unfolding contractBytes functionsBytes functionBytes flatMap crossingsIn crossingsFrom originsUpToThree
+unfolding contractBytes functionsBytes functionBytes flatMap countIf crossingsIn originsIn originsFrom originsAt
 many-not-read n h =
     let vs : List Variable = replicate n (supplied everyone Expression.me) in
     let long : length vs ≡ n = length-replicate n (supplied everyone Expression.me) in
     let none : length vs % 256 + 256 * (length vs / 256 % 256) ≡ 0 = omega arith in
     let written = contractBytes (withVariables vs) in
-    ap₂ (λ (a : ℕ) (l : List ℕ). a ∷ l) (ap (λ (k : ℕ). originsUpToThree k written 5) none) (force-is (writtenFunctionEnd written 2) (crossingsFrom 0 written))
+    ap (map upToThree)
+    (ap₂ (λ (a : List ℕ) (l : List (List ℕ)). a ∷ l) (ap (λ (k : ℕ). originsAt k written 5) none)
+    (force-is (writtenFunctionEnd written 2) (originsFrom 0 written)))
 
 all-crossings : (n : ℕ) → crossings (record { parameters = []; variables = replicate n (supplied everyone Expression.me); constraints = []; body = Command.skip }) ≡ n
 unfolding countIf

@@ -1,17 +1,17 @@
--- 02, Note 2: the count in the written file, byte by byte, is the count over the variables that rewriting makes.
+-- 02, Note 2: the origins in the written file, byte by byte, are those of the variables that rewriting makes, and so are their counts.
 use mathlib.Core.Path.{_≡_, refl, ap, ap₂, _∙_}
-use mathlib.Core.Bool.{Bool, true, false}
+use mathlib.Core.Bool.{Bool, true, false, cond}
 use mathlib.Core.List.{List, [], _∷_, _++_, map, append-assoc}
 use Prim.Native.Nat.{ℕ, _+_, _*_, _-_, _≤_}
 use native.Mathlib.Omega.{arith}
 use lib.Dec.{leb}
 use lib.ListN.{length, length-append}
-use Rattle.definitions.specs.Basics.{bit, countIf, flatMap, twoBytes}
+use Rattle.definitions.specs.Basics.{countIf, flatMap, twoBytes}
 use Rattle.definitions.specs.ContractFile.{Field, Parameter, byteAt, twoBytesAt, functionsAt}
 use Rattle.definitions.specs.Rewriting.{Variable, origin, Claim, equals, opensForCaller, Constraint, WrittenFunction, WrittenContract}
 use Rattle.definitions.specs.Rewriting.{claimTrees, claimBytes, sizes, numberedAll, nodeBytes, functionTrees, fieldBytes, parameterBytes, variableBytes, keyOf}
 use Rattle.definitions.specs.Rewriting.{eachOnce, constraintBytes, functionBytes, functionsBytes, contractBytes}
-use Rattle.definitions.specs.Crossings.{originsUpToThree, variablesAt, behindCounted, writtenFunctionEnd, crossingsFrom, crossingsIn}
+use Rattle.definitions.specs.Crossings.{originsAt, upToThree, variablesAt, behindCounted, writtenFunctionEnd, originsFrom, originsIn, crossingsIn}
 use Rattle.theory_laws.proofs.Records.{force-is}
 use Rattle.theory_crossings.specs.Crossings.{crossings}
 use Rattle.theory_crossings.proofs.Places.{HoldsFrom, byte-read, two-read, behind-run}
@@ -51,15 +51,17 @@ constraints-long n (c ∷ cs) =
     let h = constraints-long (n + sizes (claimTrees (c .claim))) cs in
     simp length-append (omega (arith, claim-long n (c .claim)))
 
+abbrev originsOf : WrittenFunction → List ℕ
+originsOf g = map origin (g .variables)
+
 -- The variables' origins, one after another.
 origins-read : (file : List ℕ) (vs : List Variable) (at : ℕ) (rest : List ℕ) → HoldsFrom file at (flatMap variableBytes vs ++ rest)
-    → originsUpToThree (length vs) file at ≡ countIf (λ v. leb (origin v) 3) vs
-unfolding originsUpToThree flatMap countIf
+    → originsAt (length vs) file at ≡ map origin vs
+unfolding originsAt flatMap
 origins-read file [] at rest h = refl
 origins-read file (v ∷ vs) at rest h =
     let later = flatMap variableBytes vs ++ rest in
-    ap₂ (λ (a b : ℕ). a + b)
-    (ap (λ (o : ℕ). bit (leb o 3)) (byte-read file at (origin v) _ h))
+    ap₂ (λ (a : ℕ) (l : List ℕ). a ∷ l) (byte-read file at (origin v) _ h)
     (origins-read file vs (at + 2) rest (behind-run file at (variableBytes v) later (at + 2) 2 h refl refl))
 
 -- "Written per function: parameters; two-byte count of variables ..": one function's heading, from a place of the file on.
@@ -113,9 +115,9 @@ module _ (file : List ℕ) (at n : ℕ) (g : WrittenFunction) (rest : List ℕ) 
   first-variable : HoldsFrom file (variablesAt file at + 2) (flatMap variableBytes (g .variables) ++ behindVariables)
   first-variable = behind-run file (variablesAt file at) (twoBytes variables) _ (variablesAt file at + 2) 2 variables-here refl refl
 
-  pub crossings-read : originsUpToThree (twoBytesAt file (variablesAt file at)) file (variablesAt file at + 2) ≡ crossings g
-  crossings-read =
-      ap (λ (k : ℕ). originsUpToThree k file (variablesAt file at + 2)) variables-read
+  pub function-read : originsAt (twoBytesAt file (variablesAt file at)) file (variablesAt file at + 2) ≡ originsOf g
+  function-read =
+      ap (λ (k : ℕ). originsAt k file (variablesAt file at + 2)) variables-read
       ∙ origins-read file (g .variables) (variablesAt file at + 2) behindVariables first-variable
 
   -- Behind a count of two bytes and what it counts.
@@ -138,8 +140,8 @@ module _ (file : List ℕ) (at n : ℕ) (g : WrittenFunction) (rest : List ℕ) 
       behind-run file rootPlace root rest (rootPlace + 2) 2 atRoot refl refl
 
 functions-read : (file : List ℕ) (gs : List WrittenFunction) (at n : ℕ) (rest : List ℕ) → HoldsFrom file at (functionsBytes n gs ++ rest)
-    → length (functionsBytes n gs) ≤ 65535 → crossingsFrom (length gs) file at ≡ map crossings gs
-unfolding functionsBytes crossingsFrom
+    → length (functionsBytes n gs) ≤ 65535 → originsFrom (length gs) file at ≡ map originsOf gs
+unfolding functionsBytes originsFrom
 functions-read file [] at n rest held few = refl
 functions-read file (g ∷ gs) at n rest held few =
     let first = functionBytes n g in
@@ -148,14 +150,23 @@ functions-read file (g ∷ gs) at n rest held few =
     let here : HoldsFrom file at (first ++ (later ++ rest)) = held ∙ append-assoc first later rest in
     let short : length first ≤ 65535 = omega arith in
     let next = function-past file at n g (later ++ rest) here short in
-    ap₂ (λ (a : ℕ) (l : List ℕ). a ∷ l) (crossings-read file at n g (later ++ rest) here short)
-    (force-is (writtenFunctionEnd file at) (crossingsFrom (length gs) file)
+    ap₂ (λ (a : List ℕ) (l : List (List ℕ)). a ∷ l) (function-read file at n g (later ++ rest) here short)
+    (force-is (writtenFunctionEnd file at) (originsFrom (length gs) file)
     ∙ functions-read file gs (writtenFunctionEnd file at) (n + sizes (functionTrees g)) rest next (omega arith))
 
--- The law: of a written file whose counts fit into their two bytes, as they do in one of at most 65,535 bytes.
-pub counts-are-read : (c : WrittenContract) → length (contractBytes c) ≤ 65535 → crossingsIn (contractBytes c) ≡ map crossings (c .functions)
-unfolding crossingsIn contractBytes
-counts-are-read c few =
+-- A count over origins is one over the variables that have them.
+crossings-are : (vs : List Variable) → upToThree (map origin vs) ≡ countIf (λ v. leb (origin v) 3) vs
+unfolding countIf
+crossings-are [] = refl
+crossings-are (v ∷ vs) = ap (λ (k : ℕ). cond (leb (origin v) 3) 1 0 + k) (crossings-are vs)
+
+each-counted : (gs : List WrittenFunction) → map upToThree (map originsOf gs) ≡ map crossings gs
+each-counted [] = refl
+each-counted (g ∷ gs) = ap₂ (λ (a : ℕ) (l : List ℕ). a ∷ l) (crossings-are (g .variables)) (each-counted gs)
+
+origins-are-read : (c : WrittenContract) → length (contractBytes c) ≤ 65535 → originsIn (contractBytes c) ≡ map originsOf (c .functions)
+unfolding originsIn contractBytes
+origins-are-read c few =
     let file = contractBytes c in
     let trees = flatMap functionTrees (c .functions) in
     let nodes = twoBytes (sizes trees) ++ flatMap nodeBytes (numberedAll 0 trees) in
@@ -168,5 +179,10 @@ counts-are-read c few =
     let functionsCounted = byte-read file (functionsAt file) (length (c .functions)) _ counted in
     let first = behind-run file (functionsAt file) (length (c .functions) ∷ []) (functions ++ nodes) (functionsAt file + 1) 1 counted refl refl in
     let long : length file ≡ 1 + 3 * length (c .fields) + 1 + length functions + length nodes = simp length-append (omega (arith, fields-long (c .fields))) in
-    ap (λ (k : ℕ). crossingsFrom k file (functionsAt file + 1)) functionsCounted
+    ap (λ (k : ℕ). originsFrom k file (functionsAt file + 1)) functionsCounted
     ∙ functions-read file (c .functions) (functionsAt file + 1) 0 nodes first (omega arith)
+
+-- The law: of a written file whose counts fit into their two bytes, as they do in one of at most 65,535 bytes.
+pub counts-are-read : (c : WrittenContract) → length (contractBytes c) ≤ 65535 → crossingsIn (contractBytes c) ≡ map crossings (c .functions)
+unfolding crossingsIn
+counts-are-read c few = ap (map upToThree) (origins-are-read c few) ∙ each-counted (c .functions)

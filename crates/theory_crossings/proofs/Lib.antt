@@ -1,3 +1,4 @@
 pub mod Places
 pub mod Headings
+pub mod Totals
 pub mod Examples

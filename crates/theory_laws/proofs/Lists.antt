@@ -1,8 +1,8 @@
 -- The lists' functions on lists one behind another, and a list's entries by number.
 use mathlib.Core.Path.{_≡_, refl, ap, sym, _∙_}
-use mathlib.Core.Bool.{Bool, false, true, _||_}
+use mathlib.Core.Bool.{Bool, false, true, cond, _||_}
 use mathlib.Core.List.{List, [], _∷_, _++_, map, append-assoc}
-use Prim.Native.Nat.{ℕ, zero, suc, _+_, _<_}
+use Prim.Native.Nat.{ℕ, zero, suc, _+_, _<_, _≤_}
 use lib.ListN.{length, replicate, getD, drop, length-append}
 use lib.Seq.{drop-cons}
 use native.Mathlib.Omega.{arith}
@@ -32,6 +32,18 @@ pub count-append : {A : Type 0} (test : A → Bool) (a b : List A) → countIf t
 unfolding countIf
 count-append test [] b = omega arith
 count-append test (x ∷ a) b = let h = count-append test a b in omega arith
+
+pub count-length : {A : Type 0} (test : A → Bool) (xs : List A) → countIf test xs ≤ length xs
+unfolding countIf
+count-length test [] = omega arith
+count-length test (x ∷ xs) =
+    let e = count-length test xs in
+    let b = bit-small (test x) in
+    omega arith
+  where
+    bit-small : (b : Bool) → cond b 1 0 ≤ 1
+    bit-small true = omega arith
+    bit-small false = omega arith
 
 pub four-lengths : (a b c d : List ℕ) → length (a ++ b ++ c ++ d) ≡ length a + length b + length c + length d
 four-lengths a b c d = simp length-append

@@ -1,13 +1,12 @@
 -- Each function of an accepted file can be written, behind those before it and alone.
 use mathlib.Core.Path.{_≡_, ap, _∙_}
-use mathlib.Core.Bool.{Bool, true, false, cond}
 use mathlib.Core.List.{List, [], _∷_}
 use Prim.Native.Nat.{ℕ, zero, suc, _+_, _*_, _-_, _<_, _≤_}
 use native.Mathlib.Omega.{arith}
 use lib.ListN.{length}
-use Rattle.definitions.specs.ContractFile.{Statement, Parameter, Function, functionAt, byteAt, functionCount, nodesAt, nodeCount, sectionsOf, contractOf}
+use Rattle.definitions.specs.ContractFile.{Statement, Function, functionAt, byteAt, functionCount, nodesAt, nodeCount, sectionsOf, contractOf}
 use Rattle.definitions.specs.Numbers.{checkNumber}
-use Rattle.definitions.specs.Rewriting.{always, privateParameters}
+use Rattle.definitions.specs.Rewriting.{always}
 use Rattle.file_accepted.proofs.Declarations.{parameters-count}
 use Rattle.file_bytes.proofs.Sections.{count-of-nodes}
 use Rattle.theory_accepted.specs.Settled.{Settled}
@@ -23,7 +22,7 @@ use Rattle.rewrite_events.proofs.Lengths.{statement-length}
 use Rattle.write_variables.specs.Variables.{ownersFit}
 use Rattle.write_parameters.specs.Parameters.{privateCount}
 use Rattle.write_room.specs.Sizes.{bodiesSize}
-use Rattle.write_room.proofs.Functions.{rewritten-weight}
+use Rattle.write_room.proofs.Functions.{private-length, rewritten-weight}
 use Rattle.write_room.proofs.Room.{nodes-suffice, room-suffices}
 use Rattle.write_function_room.specs.Functions.{functionIn, privateIn, eventsIn, headingsBefore, nodesBefore, FunctionRoom}
 use Rattle.write_function_room.proofs.Sparse.{variables-sparse}
@@ -37,18 +36,9 @@ body-within [] f h = absurd (omega arith)
 body-within (g ∷ gs) zero h = omega arith
 body-within (g ∷ gs) (suc f) h = omega (arith, body-within gs f (omega arith))
 
-private-few : (k : ℕ) (ps : List Parameter) → length (privateParameters k ps) ≤ length ps
-unfolding privateParameters
-private-few k [] = omega arith
-private-few k (p ∷ ps) = go (p .private) (private-few (suc k) ps)
-  where
-    go : (b : Bool) → length (privateParameters (suc k) ps) ≤ length ps → length (cond b (k ∷ privateParameters (suc k) ps) (privateParameters (suc k) ps)) ≤ suc (length ps)
-    go true h = omega arith
-    go false h = omega arith
-
 private-within : (file : List ℕ) (at : ℕ) → privateIn file at ≤ byteAt file at
 unfolding privateCount parametersIn
-private-within file at = omega (arith, private-few 0 (parametersIn file at), parameters-count file at)
+private-within file at = omega (arith, private-length 0 (parametersIn file at), parameters-count file at)
 
 -- What stands before a later function is no less than what stands before and in an earlier one.
 module _ (file : List ℕ) where

@@ -116,7 +116,7 @@ unfolding openings stepsSize claimsWeight claimWeight size bodyTree
 opening-weight [] i = record { variables = refl; steps = refl; claims = refl }
 opening-weight (k ∷ ks) i = let h = opening-weight ks (suc i) in record { variables = omega arith; steps = omega arith; claims = omega arith }
 
-private-length : (k : ℕ) (ps : List Parameter) → length (privateParameters k ps) ≤ length ps
+pub private-length : (k : ℕ) (ps : List Parameter) → length (privateParameters k ps) ≤ length ps
 unfolding privateParameters
 private-length k [] = omega arith
 private-length k (p ∷ ps) = go (p .private) (private-length (suc k) ps)

@@ -4,7 +4,7 @@ use mathlib.Core.List.{map}
 use native.Mathlib.Omega.{arith}
 use borrow.Author.Needs.{needs}
 use Rattle.ledger_contents.specs.Contents.{contentOfPlace}
-use Rattle.ledger_struct.proofs.Flat.{unmapped, take-many}
+use Rattle.ledger_struct.proofs.Flat.{take-many}
 use Rattle.ledger_struct.proofs.flatten_eight.Statement.{statement}
 use Rattle.ledger_struct.proofs.flatten_eight.Tie as tie
 

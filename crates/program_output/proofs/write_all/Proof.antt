@@ -1,6 +1,5 @@
 -- Each turn takes at least one byte more.
 use Prim.Native.Nat.{_-_, _≤_}
-use native.Mathlib.Omega.{arith}
 use lib.ListN.{length}
 use borrow.Author.Needs.{needs}
 use Rattle.program_output.proofs.write_all.Statement.{statement}

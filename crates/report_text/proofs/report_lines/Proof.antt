@@ -1,6 +1,7 @@
--- The heading, then the lines in sorted order.
+-- The heading, then the lines in sorted order, then the total of them.
+use mathlib.Core.Path.{refl}
 use native.Mathlib.Omega.{arith}
-use Rattle.report_text.proofs.Lines.{lines-room, report-appended}
+use Rattle.report_text.proofs.Lines.{lines-room, total-room, report-appended}
 use borrow.Author.Needs.{needs}
 use Rattle.report_text.proofs.report_lines.Statement.{statement}
 use Rattle.report_text.proofs.report_lines.Tie as tie
@@ -8,14 +9,16 @@ use Rattle.report_text.proofs.report_lines.Tie as tie
 pub report-lines-spec : {M : Type 1} → statement M
 report-lines-spec =
     tie.close (tie.spec
-    (λ c. search needs) (λ c κs. search needs) (λ c. search needs) (λ c κs. search needs) (λ c. search needs)
-    (λ c κs. let start = c .before .before .before .before .before .before .before .before .before .before .before .before in let args = start .args in
-    let (_, out-room) = start .pre in
-    let sort-functions = c .before .before .before .before .before .before .before .before .sort-functions .ensures in
-    (omega arith, lines-room (args .counts .now) _ (args .out .now) out-room sort-functions _ _ (c .before .before .before .before .append .ensures)))
+    (λ c. search needs) (λ c κs. search needs) (λ c. search needs) (λ c κs. search needs) (λ c. search needs) (λ c κs. search needs)
     (λ c. search needs)
-    (λ c. let start = c .before .before .before .before .before .before .before .before .before .before .before .before .before .before .before in
-    let args = start .args in let (_, out-room) = start .pre in
-    let sort-functions = c .before .before .before .before .before .before .before .before .before .before .before .sort-functions .ensures in
-    let append = c .before .before .before .before .before .before .before .append .ensures in
-    report-appended (args .counts .now) _ (args .out .now) out-room sort-functions _ _ _ _ append (c .before .before .append-tallies .ensures)))
+    (λ c κs. let headed = c .before .before .before .before in let summed = headed .before .before .before in let sorted = summed .before .before .before in
+    let start = sorted .before .before .before .before in let args = start .args in let (_, out-room) = start .pre in
+    (omega arith, lines-room (args .counts .now) _ (args .out .now) out-room (sorted .sort-functions .ensures) _ _ refl (summed .total-of .ensures) _ _ (headed .append .ensures)))
+    (λ c. search needs)
+    (λ c κs. let listed = c .before .before .before .before in let headed = listed .before .before .before .before .before in let summed = headed .before .before .before in let sorted = summed .before .before .before in
+    let start = sorted .before .before .before .before in let args = start .args in let (_, out-room) = start .pre in
+    total-room (args .counts .now) _ (args .out .now) out-room (sorted .sort-functions .ensures) _ _ refl (summed .total-of .ensures) _ _ _ _ (headed .append .ensures) (listed .append-tallies .ensures))
+    (λ c. search needs)
+    (λ c. let told = c .before .before in let listed = told .before .before .before .before .before in let headed = listed .before .before .before .before .before in let summed = headed .before .before .before in let sorted = summed .before .before .before in
+    let start = sorted .before .before .before .before in let args = start .args in let (_, out-room) = start .pre in
+    report-appended (args .counts .now) _ (args .out .now) out-room (sorted .sort-functions .ensures) _ _ refl (summed .total-of .ensures) _ _ _ _ _ _ (headed .append .ensures) (listed .append-tallies .ensures) (told .append-word .ensures)))

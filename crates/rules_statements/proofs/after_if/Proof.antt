@@ -1,4 +1,4 @@
-use mathlib.Core.Path.{ap, sym, _∙_}
+use mathlib.Core.Path.{ap, _∙_}
 use Prim.Native.Nat.{min}
 use borrow.Author.Needs.{needs}
 use Rattle.rules_statements.proofs.after_if.Statement.{statement}

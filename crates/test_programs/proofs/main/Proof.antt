@@ -8,10 +8,10 @@ use Rattle.test_programs.proofs.main.Statement.{statement}
 use Rattle.test_programs.proofs.main.Tie as tie
 
 abbrev Inv-loop : tie.InvT-loop
-Inv-loop input₀ out₀ place₀ name input out place = (place ≤ 4) × ((700000 ≡ length input) × (49152 ≡ length out))
+Inv-loop input₀ out₀ place₀ name input out place = (place ≤ 5) × ((700000 ≡ length input) × (49152 ≡ length out))
 
 abbrev μ-loop : tie.MeasureT-loop
-μ-loop input₀ out₀ place₀ name input out place = 4 - place
+μ-loop input₀ out₀ place₀ name input out place = 5 - place
 
 pub main-spec : {M : Type 1} → statement M
 main-spec =

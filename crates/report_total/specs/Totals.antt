@@ -1,0 +1,8 @@
+-- 02, Note 3: "the sum of the lines above".
+use mathlib.Core.List.{List, map}
+use Prim.Native.Nat.{ℕ}
+use Rattle.definitions.specs.Report.{Tally}
+use Rattle.theory_crossings.specs.Crossings.{sum}
+
+abbrev pub totalOf : List Tally → ℕ
+totalOf tallies = sum (map (λ t. t .count) tallies)
