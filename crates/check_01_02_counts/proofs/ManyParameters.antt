@@ -1,34 +1,51 @@
 -- The loop over the functions that asks for too many parameters.
-use mathlib.Core.Path.{_≡_, ap, sym, _∙_}
-use mathlib.Core.Bool.{Bool, true, _||_}
-use mathlib.Core.List.{List}
-use Prim.Native.Nat.{ℕ, _+_, _-_, _<_, _≤_}
+use mathlib.Core.Path.{_≡_, refl, ap, sym, _∙_}
+use mathlib.Core.Bool.{Bool, true, false, _||_}
+use mathlib.Core.List.{List, [], _∷_}
+use Prim.Native.Nat.{ℕ, zero, suc, _+_, _-_, _<_, _≤_}
+use native.Mathlib.Omega.{arith}
 use lib.Dec.{eqb, ltb}
 use lib.ListN.{length}
 use borrow.Author.Tests.{lt-ltb, le-ltb}
 use Rattle.definitions.specs.Basics.{any}
 use Rattle.definitions.specs.ContractFile.{FunctionRecord, byteAt, functionEnd, functionRecord, functionRecords}
 use Rattle.definitions.specs.Numbers.{countOffLimits}
-use Rattle.theory_laws.proofs.Records.{parameters-length}
+use Rattle.theory_laws.proofs.Records.{force-is, parameters-length}
 use Rattle.file_bytes.specs.declared.Layout.{Layout}
 use Rattle.file_bytes.specs.Layout.{IsLayout}
 use Rattle.file_bytes.proofs.Sections.{functions-are}
-use Rattle.file_children.proofs.Scans.{functions-next, functions-found}
+use Rattle.file_children.proofs.Loops.{any-next, any-found, any-done}
 
 abbrev pub hasManyParameters : FunctionRecord → Bool
 hasManyParameters f = ltb 8 (length (f .parameters))
 
-module _ (left : ℕ) (file : List ℕ) (at : ℕ) (goal : Bool) (inv : any hasManyParameters (functionRecords left file at) ≡ goal) (h : 0 < left)
-    (count : ℕ)
-    (e : count ≡ byteAt file at) where
-  counted : length ((functionRecord file at) .parameters) ≡ count
-  counted = parameters-length (byteAt file at) file (at + 1) ∙ sym e
+functions-step : (file : List ℕ) (at k next : ℕ) → 0 < k → next ≡ functionEnd file at
+    → functionRecords k file at ≡ functionRecord file at ∷ functionRecords (k - 1) file next
+unfolding functionRecords
+functions-step file at zero next h e = absurd (omega arith)
+functions-step file at (suc k) next h e =
+    let less : suc k - 1 ≡ k = omega arith in
+    rw (less, e, force-is (functionEnd file at) (functionRecords k file))
 
-  pub many-next : count ≤ 8 → (next : ℕ) → next ≡ functionEnd file at → any hasManyParameters (functionRecords (left - 1) file next) ≡ goal
-  many-next few next ends = functions-next hasManyParameters left file at goal inv h next ends (ap (ltb 8) counted ∙ le-ltb 8 count few)
+functions-end : (file : List ℕ) (at k : ℕ) → k ≤ 0 → functionRecords k file at ≡ []
+unfolding functionRecords
+functions-end file at zero h = refl
+functions-end file at (suc k) h = absurd (omega arith)
 
-  pub many-found : 8 < count → true ≡ goal
-  many-found many = functions-found hasManyParameters left file at goal inv h (ap (ltb 8) counted ∙ lt-ltb 8 count many)
+module _ (left : ℕ) (file : List ℕ) (at : ℕ) (goal : Bool) (inv : any hasManyParameters (functionRecords left file at) ≡ goal) where
+  module _ (h : 0 < left) (count : ℕ) (e : count ≡ byteAt file at) where
+    counted : length ((functionRecord file at) .parameters) ≡ count
+    counted = parameters-length (byteAt file at) file (at + 1) ∙ sym e
+
+    pub many-next : count ≤ 8 → (next : ℕ) → next ≡ functionEnd file at → any hasManyParameters (functionRecords (left - 1) file next) ≡ goal
+    many-next few next ends = any-next hasManyParameters _ _ _ goal (functions-step file at left next h ends) inv (ap (ltb 8) counted ∙ le-ltb 8 count few)
+
+    pub many-found : 8 < count → true ≡ goal
+    many-found many =
+        any-found hasManyParameters _ _ _ goal (functions-step file at left (functionEnd file at) h refl) inv (ap (ltb 8) counted ∙ lt-ltb 8 count many)
+
+  pub none-many : left ≤ 0 → false ≡ goal
+  none-many h = any-done hasManyParameters _ goal (functions-end file at left h) inv
 
 -- Number 2 in a layout's numbers.
 pub limits : (file : List ℕ) (l : Layout) → IsLayout file l

@@ -1,28 +1,14 @@
--- Number 2 bounds the nodes; numbers 8 to 15 come after 1 to 7; of a file of number 0 none of the seven holds.
-use mathlib.Core.Path.{_≡_, refl, sym, _∙_}
-use mathlib.Core.Bool.{Bool, true, false, _||_}
+-- Numbers 8 to 15 come after 1 to 7; of a file of number 0 none of the seven holds; 3 to 7 come after 1 and 2.
+use mathlib.Core.Path.{_≡_, refl}
+use mathlib.Core.Bool.{Bool, true, false}
 use mathlib.Core.List.{List, [], _∷_}
-use Prim.Native.Nat.{ℕ, _+_, _≤_}
-use lib.Dec.{eqb, ltb}
-use borrow.Author.Tests.{ltb-false}
-use Rattle.definitions.specs.Basics.{any, firstThatHolds}
-use Rattle.definitions.specs.ContractFile.{functionRecords, sectionsOf, contractOf}
+use Prim.Native.Nat.{ℕ}
+use Rattle.definitions.specs.Basics.{firstThatHolds}
+use Rattle.definitions.specs.ContractFile.{sectionsOf, contractOf}
 use Rattle.definitions.specs.Numbers.{endsWrongly, countOffLimits, outsideTables, namesNothing, usedOtherThanOnce, tooDeep, wrongSort, contractSentences, checkNumber, orElse}
-use Rattle.file_bytes.specs.declared.Layout.{Layout}
-use Rattle.file_bytes.specs.Layout.{IsLayout}
-use Rattle.file_children.proofs.Truth.{either-false}
-use Rattle.check_01_02_counts.proofs.ManyParameters.{limits, hasManyParameters}
 use Rattle.theory_accepted.specs.Settled.{Settled}
 use Rattle.theory_accepted.proofs.Sentences.{none-holds}
-use Rattle.check_01_to_07.specs.Shape.{shapeNumber}
-
-pub few-nodes : (file : List ℕ) (l : Layout) → IsLayout file l → countOffLimits file ≡ false → l .nodes ≤ 512
-few-nodes file l is h =
-    ltb-false 512 (l .nodes)
-    (either-false
-    (ltb 64 (l .fields) || eqb (l .functions) 0 || ltb 16 (l .functions)
-    || any hasManyParameters (functionRecords (l .functions) file (l .«functions_at» + 1)))
-    (ltb 512 (l .nodes)) (sym (limits file l is) ∙ h) .1)
+use Rattle.check_01_to_07.specs.Shape.{shapeNumber, sectionsNumber}
 
 -- Numbers 8 to 15 are asked where none of 1 to 7 holds.
 seven-then : (a b c d e f g : Bool) (later : List Bool)
@@ -51,3 +37,8 @@ unfolding shapeNumber
 settled file h =
     let no = none-holds 0 _ h in
     record { ends = no 0; counts = no 1; tables = no 2; numbers = no 3; uses = no 4; depth = no 5; sorts = no 6 }
+
+-- Numbers 3 to 7 are asked where 1 and 2 let the file pass.
+pub shape-after-counts : (file : List ℕ) → endsWrongly file ≡ false → countOffLimits file ≡ false → shapeNumber file ≡ sectionsNumber (sectionsOf file)
+unfolding shapeNumber sectionsNumber firstThatHolds
+shape-after-counts file ends counts = rw (ends, counts)

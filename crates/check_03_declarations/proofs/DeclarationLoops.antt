@@ -2,45 +2,60 @@
 use mathlib.Core.Path.{_≡_, _∙_}
 use mathlib.Core.Bool.{Bool, true, false, not}
 use mathlib.Core.List.{List}
-use Prim.Native.Nat.{ℕ, _+_, _-_, _<_}
+use Prim.Native.Nat.{ℕ, _+_, _*_, _-_, _<_, _≤_}
+use native.Mathlib.Omega.{arith}
 use Rattle.definitions.specs.Basics.{any}
-use Rattle.definitions.specs.ContractFile.{byteAt, functionEnd, fieldRecords, parameterRecords, functionRecords}
 use Rattle.definitions.specs.Numbers.{fieldInTables, parameterInTables}
-use Rattle.file_children.proofs.Steps.{fieldRecord, parameterRecord}
-use Rattle.file_children.proofs.Scans.{fields-next, fields-found, parameters-next, parameters-found, functions-next, functions-found}
+use Rattle.file_decoded.specs.Slices.{numberAt, fieldFrom, fieldsFrom, parameterFrom, parametersFrom, functionFrom, functionsFrom}
+use Rattle.file_decoded.proofs.Records.{fields-step, fields-end, parameters-step, parameters-end, functions-step, functions-end}
+use Rattle.file_children.proofs.Loops.{any-next, any-found, any-done}
 use Rattle.check_03_declarations.specs.Outside.{fieldOutside, parameterOutside, functionOutside}
 
-module _ (left : ℕ) (file : List ℕ) (at : ℕ) (goal : Bool) (inv : any fieldOutside (fieldRecords left file at) ≡ goal) (h : 0 < left)
-    (shape type owner : ℕ)
-    (a : shape ≡ byteAt file at) (b : type ≡ byteAt file (at + 1)) (c : owner ≡ byteAt file (at + 2)) (inside : Bool)
-    (e : inside ≡ fieldInTables (record { shape = shape; type = type; owner = owner })) where
-  field-asked : fieldOutside (fieldRecord file at) ≡ not inside
-  field-asked = rw (e, a, b, c)
+module _ (left : ℕ) (fields : List ℕ) (at : ℕ) (goal : Bool) (inv : any fieldOutside (fieldsFrom left fields at) ≡ goal) where
+  module _ (h : 0 < left) (shape type owner : ℕ)
+      (a : shape ≡ numberAt fields at) (b : type ≡ numberAt fields (at + 1)) (c : owner ≡ numberAt fields (at + 2)) (inside : Bool)
+      (e : inside ≡ fieldInTables (record { shape = shape; type = type; owner = owner })) where
+    field-asked : fieldOutside (fieldFrom fields at) ≡ not inside
+    field-asked = rw (e, a, b, c)
 
-  pub field-inside : not inside ≡ false → any fieldOutside (fieldRecords (left - 1) file (at + 3)) ≡ goal
-  field-inside t = fields-next fieldOutside left file at goal inv h (field-asked ∙ t)
+    pub field-inside : not inside ≡ false → any fieldOutside (fieldsFrom (left - 1) fields (at + 3)) ≡ goal
+    field-inside t = any-next fieldOutside _ _ _ goal (fields-step fields at left h) inv (field-asked ∙ t)
 
-  pub field-outside : not inside ≡ true → true ≡ goal
-  field-outside t = fields-found fieldOutside left file at goal inv h (field-asked ∙ t)
+    pub field-outside : not inside ≡ true → true ≡ goal
+    field-outside t = any-found fieldOutside _ _ _ goal (fields-step fields at left h) inv (field-asked ∙ t)
 
-module _ (left : ℕ) (file : List ℕ) (at : ℕ) (goal : Bool) (inv : any parameterOutside (parameterRecords left file at) ≡ goal) (h : 0 < left)
-    (type owner : ℕ)
-    (a : type ≡ byteAt file at) (b : owner ≡ byteAt file (at + 1)) (inside : Bool)
-    (e : inside ≡ parameterInTables (record { type = type; owner = owner })) where
-  parameter-asked : parameterOutside (parameterRecord file at) ≡ not inside
-  parameter-asked = rw (e, a, b)
+  pub fields-inside : left ≤ 0 → false ≡ goal
+  fields-inside h = any-done fieldOutside _ goal (fields-end fields at left h) inv
 
-  pub parameter-inside : not inside ≡ false → any parameterOutside (parameterRecords (left - 1) file (at + 2)) ≡ goal
-  parameter-inside t = parameters-next parameterOutside left file at goal inv h (parameter-asked ∙ t)
+module _ (left : ℕ) (parameters : List ℕ) (at : ℕ) (goal : Bool) (inv : any parameterOutside (parametersFrom left parameters at) ≡ goal) where
+  module _ (h : 0 < left) (type owner : ℕ) (a : type ≡ numberAt parameters at) (b : owner ≡ numberAt parameters (at + 1)) (inside : Bool)
+      (e : inside ≡ parameterInTables (record { type = type; owner = owner })) where
+    parameter-asked : parameterOutside (parameterFrom parameters at) ≡ not inside
+    parameter-asked = rw (e, a, b)
 
-  pub parameter-outside : not inside ≡ true → true ≡ goal
-  parameter-outside t = parameters-found parameterOutside left file at goal inv h (parameter-asked ∙ t)
+    pub parameter-inside : not inside ≡ false → any parameterOutside (parametersFrom (left - 1) parameters (at + 2)) ≡ goal
+    parameter-inside t = any-next parameterOutside _ _ _ goal (parameters-step parameters at left h) inv (parameter-asked ∙ t)
 
-module _ (left : ℕ) (file : List ℕ) (at : ℕ) (goal : Bool) (inv : any functionOutside (functionRecords left file at) ≡ goal) (h : 0 < left)
-    (count : ℕ)
-    (a : count ≡ byteAt file at) (outside : Bool) (e : outside ≡ any parameterOutside (parameterRecords count file (at + 1))) where
-  pub function-inside : outside ≡ false → (next : ℕ) → next ≡ functionEnd file at → any functionOutside (functionRecords (left - 1) file next) ≡ goal
-  function-inside t next ends = functions-next functionOutside left file at goal inv h next ends (rw (← a, ← e) t)
+    pub parameter-outside : not inside ≡ true → true ≡ goal
+    parameter-outside t = any-found parameterOutside _ _ _ goal (parameters-step parameters at left h) inv (parameter-asked ∙ t)
 
-  pub function-outside : outside ≡ true → true ≡ goal
-  function-outside t = functions-found functionOutside left file at goal inv h (rw (← a, ← e) t)
+  pub parameters-inside : left ≤ 0 → false ≡ goal
+  parameters-inside h = any-done parameterOutside _ goal (parameters-end parameters at left h) inv
+
+module _ (count f : ℕ) (functions parameters : List ℕ) (goal : Bool) (inv : any functionOutside (functionsFrom parameters (count - f) functions (3 * f)) ≡ goal) where
+  module _ (h : f < count) (first own : ℕ) (a : first ≡ numberAt functions (3 * f)) (b : own ≡ numberAt functions (3 * f + 1)) (outside : Bool)
+      (e : outside ≡ any parameterOutside (parametersFrom own parameters first)) where
+    function-asked : functionOutside (functionFrom parameters functions (3 * f)) ≡ outside
+    function-asked = rw (e, a, b)
+
+    pub function-inside : outside ≡ false → any functionOutside (functionsFrom parameters (count - (f + 1)) functions (3 * (f + 1))) ≡ goal
+    function-inside t =
+        let left : count - f - 1 ≡ count - (f + 1) = omega arith in
+        let next : 3 * f + 3 ≡ 3 * (f + 1) = omega arith in
+        rw (left, next) at (any-next functionOutside _ _ _ goal (functions-step parameters functions (3 * f) (count - f) (omega arith)) inv (function-asked ∙ t))
+
+    pub function-outside : outside ≡ true → true ≡ goal
+    function-outside t = any-found functionOutside _ _ _ goal (functions-step parameters functions (3 * f) (count - f) (omega arith)) inv (function-asked ∙ t)
+
+  pub functions-inside : count ≤ f → false ≡ goal
+  functions-inside h = any-done functionOutside _ goal (functions-end parameters functions (3 * f) (count - f) (omega arith)) inv

@@ -1,13 +1,14 @@
 // Number 3 for fields and parameters: their shapes, types and owner codes.
-use file_bytes::byte_at;
-use file_bytes::function_end;
+use file_decoded::number_from;
 ghost use mathlib.Core.Path.{_≡_};
 ghost use mathlib.Core.Bool.{_&&_, _||_};
-ghost use Prim.Native.Nat.{_+_, _*_, _≤_};
+ghost use Prim.Native.Nat.{_+_, _*_, _/_, _≤_};
 ghost use lib.Dec.{eqb};
+ghost use lib.ListN.{length};
 ghost use Rattle.definitions.specs.Basics.{any, isZero};
-ghost use Rattle.definitions.specs.ContractFile.{isFinalCode, fieldRecords, parameterRecords, functionRecords};
+ghost use Rattle.definitions.specs.ContractFile.{isFinalCode};
 ghost use Rattle.definitions.specs.Numbers.{fieldInTables, parameterInTables};
+ghost use Rattle.file_decoded.specs.Slices.{fieldsFrom, parametersFrom, functionsFrom, ParametersInside};
 ghost use Rattle.check_03_declarations.specs.Outside.{fieldOutside, parameterOutside, functionOutside};
 
 // "16+f": an owner code that names a field; number 4 asks whether the field is there.
@@ -49,16 +50,15 @@ fn field_in_tables(shape: usize, data_type: usize, owner: usize) -> bool
 }
 
 // Whether some of the fields is outside the tables.
-pub fn fields_outside(file: &[u8], count: usize) -> bool
-    requires { ⌜ count ≤ 255 ⌝ }
-    ensures { λ r. ⌜ r ≡ any fieldOutside (fieldRecords count (now (file .entry)) 1) ⌝ }
+pub fn fields_outside(fields: &[u16]) -> bool
+    ensures { λ r. ⌜ r ≡ any fieldOutside (fieldsFrom (length (now (fields .entry)) / 3) (now (fields .entry)) 0) ⌝ }
 {
-    let mut at: usize = 1;
-    let mut left = count;
+    let mut at: usize = 0;
+    let mut left = fields.len() / 3;
     while 0 < left {
-        let shape = byte_at(file, at);
-        let data_type = byte_at(file, at + 1);
-        let owner = byte_at(file, at + 2);
+        let shape = number_from(fields, at);
+        let data_type = number_from(fields, at + 1);
+        let owner = number_from(fields, at + 2);
         if !field_in_tables(shape, data_type, owner) {
             return true;
         }
@@ -75,15 +75,15 @@ fn parameter_in_tables(data_type: usize, owner: usize) -> bool
 }
 
 // Whether some of a function's parameters is outside the tables.
-fn parameters_outside(file: &[u8], from: usize, count: usize) -> bool
-    requires { ⌜ from + 2 * count ≤ 1000000 ⌝ }
-    ensures { λ r. ⌜ r ≡ any parameterOutside (parameterRecords count (now (file .entry)) from) ⌝ }
+fn parameters_outside(parameters: &[u16], from: usize, count: usize) -> bool
+    requires { ⌜ from + 2 * count ≤ length (now parameters) ⌝ }
+    ensures { λ r. ⌜ r ≡ any parameterOutside (parametersFrom count (now (parameters .entry)) from) ⌝ }
 {
     let mut at = from;
     let mut left = count;
     while 0 < left {
-        let data_type = byte_at(file, at);
-        let owner = byte_at(file, at + 1);
+        let data_type = number_from(parameters, at);
+        let owner = number_from(parameters, at + 1);
         if !parameter_in_tables(data_type, owner) {
             return true;
         }
@@ -94,19 +94,20 @@ fn parameters_outside(file: &[u8], from: usize, count: usize) -> bool
 }
 
 // Whether a parameter of some of the functions is outside the tables.
-pub fn functions_outside(file: &[u8], from: usize, count: usize) -> bool
-    requires { ⌜ from + 513 * count ≤ 200000 ⌝ }
-    ensures { λ r. ⌜ r ≡ any functionOutside (functionRecords count (now (file .entry)) from) ⌝ }
+pub fn functions_outside(functions: &[u16], parameters: &[u16]) -> bool
+    requires { ⌜ ParametersInside (now functions) (now parameters) ⌝ }
+    ensures { λ r. ⌜ r ≡ any functionOutside
+        (functionsFrom (now (parameters .entry)) (length (now (functions .entry)) / 3) (now (functions .entry)) 0) ⌝ }
 {
-    let mut at = from;
-    let mut left = count;
-    while 0 < left {
-        let parameters = byte_at(file, at);
-        if parameters_outside(file, at + 1, parameters) {
+    let count = functions.len() / 3;
+    let mut f: usize = 0;
+    while f < count {
+        let first = number_from(functions, 3 * f);
+        let own = number_from(functions, 3 * f + 1);
+        if parameters_outside(parameters, first, own) {
             return true;
         }
-        at = function_end(file, at);
-        left -= 1;
+        f += 1;
     }
     false
 }

@@ -1,20 +1,19 @@
 -- A node against the tables by its kind's number, and the loop over the nodes.
 use mathlib.Core.Path.{_≡_, ap, sym, _∙_}
-use mathlib.Core.Bool.{Bool, true, false, not, _||_}
+use mathlib.Core.Bool.{Bool, true, false, not}
 use mathlib.Core.List.{List}
 use mathlib.Core.Logic.{_⊎_, inl, inr, ⊎-elim}
-use Prim.Native.Nat.{ℕ, _+_, _-_, _<_}
+use Prim.Native.Nat.{ℕ, _+_, _-_, _<_, _≤_}
 use borrow.Author.Tests.{ne-eqb}
 use Rattle.definitions.specs.Basics.{any}
-use Rattle.definitions.specs.ContractFile.{NodeRecord, fieldRecords, functionRecords, nodeRecord, nodeRecords, sectionsOf, kindOf}
-use Rattle.definitions.specs.Numbers.{kindInTables, nodeInTables, outsideTables}
-use Rattle.file_bytes.specs.declared.Layout.{Layout}
+use Rattle.definitions.specs.ContractFile.{NodeRecord, kindOf}
+use Rattle.definitions.specs.Numbers.{kindInTables, nodeInTables}
 use Rattle.file_bytes.specs.declared.Node.{Node}
-use Rattle.file_bytes.specs.Layout.{IsLayout}
-use Rattle.file_bytes.specs.Node.{recordOf, IsNode}
-use Rattle.file_bytes.proofs.Sections.{fields-are, functions-are, nodes-are}
-use Rattle.file_children.proofs.Scans.{nodes-next, nodes-found}
-use Rattle.check_03_declarations.specs.Outside.{fieldOutside, functionOutside}
+use Rattle.file_bytes.specs.Node.{recordOf}
+use Rattle.file_decoded.specs.Slices.{nodeFrom, nodesFrom}
+use Rattle.file_decoded.specs.Node.{IsDecoded}
+use Rattle.file_decoded.proofs.Records.{nodes-step, nodes-end}
+use Rattle.file_children.proofs.Loops.{any-next, any-found, any-done}
 use Rattle.check_03_nodes.specs.Outside.{nodeOutside}
 
 -- A node of a known kind.
@@ -25,24 +24,19 @@ pub of-two-kinds : (r : NodeRecord) (n m : ℕ) (answer : Bool) → answer ≡ k
     → (r .kind ≡ n) ⊎ (r .kind ≡ m) → answer ≡ nodeInTables r
 of-two-kinds r n m answer a b = ⊎-elim (λ e. a ∙ sym (of-kind r n e)) (λ e. b ∙ sym (of-kind r m e))
 
-module _ (left : ℕ) (file : List ℕ) (at : ℕ) (goal : Bool) (inv : any nodeOutside (nodeRecords left file at) ≡ goal) (h : 0 < left) (node : Node)
-    (is : IsNode (nodeRecord file at) node) (inside : Bool) (e : inside ≡ nodeInTables (recordOf node)) where
-  node-asked : nodeOutside (nodeRecord file at) ≡ not inside
-  node-asked = ap nodeOutside (sym (is .same)) ∙ ap not (sym e)
+module _ (left : ℕ) (nodes : List ℕ) (at : ℕ) (goal : Bool) (inv : any nodeOutside (nodesFrom left nodes at) ≡ goal) where
+  module _ (h : 0 < left) (node : Node) (is : IsDecoded (nodeFrom nodes at) node) (inside : Bool) (e : inside ≡ nodeInTables (recordOf node)) where
+    node-asked : nodeOutside (nodeFrom nodes at) ≡ not inside
+    node-asked = ap nodeOutside (sym (is .same)) ∙ ap not (sym e)
 
-  pub node-inside : not inside ≡ false → any nodeOutside (nodeRecords (left - 1) file (at + 8)) ≡ goal
-  node-inside t = nodes-next nodeOutside left file at goal inv h (node-asked ∙ t)
+    pub node-inside : not inside ≡ false → any nodeOutside (nodesFrom (left - 1) nodes (at + 5)) ≡ goal
+    node-inside t = any-next nodeOutside _ _ _ goal (nodes-step nodes at left h) inv (node-asked ∙ t)
 
-  pub node-outside : not inside ≡ true → true ≡ goal
-  node-outside t = nodes-found nodeOutside left file at goal inv h (node-asked ∙ t)
+    pub node-outside : not inside ≡ true → true ≡ goal
+    node-outside t = any-found nodeOutside _ _ _ goal (nodes-step nodes at left h) inv (node-asked ∙ t)
 
--- Number 3 in a layout's numbers.
-pub outside : (file : List ℕ) (l : Layout) → IsLayout file l
-    → outsideTables (sectionsOf file)
-    ≡ (any fieldOutside (fieldRecords (l .fields) file 1) || any functionOutside (functionRecords (l .functions) file (l .«functions_at» + 1))
-    || any nodeOutside (nodeRecords (l .nodes) file (l .«nodes_at» + 2)))
-unfolding outsideTables
-outside file l is = rw (is .fields, is .functions, is .functionsStart, is .nodes, is .nodesStart, fields-are file, functions-are file, nodes-are file)
+  pub nodes-inside : left ≤ 0 → false ≡ goal
+  nodes-inside h = any-done nodeOutside _ goal (nodes-end nodes at left h) inv
 
 -- A kind that is none of the listed ones.
 pub of-no-kind : (r : NodeRecord) → (r .kind ≡ 1 → ⊥) → ((r .kind ≡ 2) ⊎ (r .kind ≡ 16) → ⊥) → ((r .kind ≡ 3) ⊎ (r .kind ≡ 5) → ⊥)

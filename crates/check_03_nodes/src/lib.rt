@@ -2,18 +2,18 @@
 use check_03_declarations::fields_outside;
 use check_03_declarations::functions_outside;
 use check_03_declarations::is_final_code;
-use file_bytes::Layout;
 use file_bytes::Node;
-use file_bytes::read_node;
+use file_decoded::node_from;
 ghost use mathlib.Core.Path.{_≡_};
 ghost use mathlib.Core.Bool.{_&&_};
-ghost use Prim.Native.Nat.{_+_, _*_, _≤_};
+ghost use Prim.Native.Nat.{_+_, _*_, _/_, _≤_};
 ghost use lib.Dec.{leb};
+ghost use lib.ListN.{length};
 ghost use Rattle.definitions.specs.Basics.{any, isZero};
-ghost use Rattle.definitions.specs.ContractFile.{isParameterCode, dataTypeOf, nodeRecords, sectionsOf, isOfType};
+ghost use Rattle.definitions.specs.ContractFile.{isParameterCode, dataTypeOf, isOfType};
 ghost use Rattle.definitions.specs.Numbers.{targetInTables, nodeInTables, outsideTables};
-ghost use Rattle.file_bytes.specs.Layout.{IsLayout};
 ghost use Rattle.file_bytes.specs.Node.{recordOf};
+ghost use Rattle.file_decoded.specs.Slices.{nodesFrom, sectionsFrom, ParametersInside};
 ghost use Rattle.check_03_nodes.specs.Outside.{nodeOutside};
 
 fn is_parameter_code(code: usize) -> bool
@@ -103,33 +103,33 @@ fn node_in_tables(node: Node) -> bool
 }
 
 // Whether some of the nodes is outside the tables.
-fn nodes_outside(file: &[u8], from: usize, count: usize) -> bool
-    requires { ⌜ from + 8 * count ≤ 1000000 ⌝ }
-    ensures { λ r. ⌜ r ≡ any nodeOutside (nodeRecords count (now (file .entry)) from) ⌝ }
+fn nodes_outside(nodes: &[u16]) -> bool
+    ensures { λ r. ⌜ r ≡ any nodeOutside (nodesFrom (length (now (nodes .entry)) / 5) (now (nodes .entry)) 0) ⌝ }
 {
-    let mut at = from;
-    let mut left = count;
+    let mut at: usize = 0;
+    let mut left = nodes.len() / 5;
     while 0 < left {
-        let node = read_node(file, at);
+        let node = node_from(nodes, at);
         if !node_in_tables(node) {
             return true;
         }
-        at += 8;
+        at += 5;
         left -= 1;
     }
     false
 }
 
 // "3. A shape, type, owner code, kind, operator, constant or unused part is outside the tables above."
-pub fn outside_tables(file: &[u8], l: Layout) -> bool
-    requires { ⌜ IsLayout (now file) l ⌝ }
-    ensures { λ r. ⌜ r ≡ outsideTables (sectionsOf (now (file .entry))) ⌝ }
+pub fn outside_tables(fields: &[u16], functions: &[u16], parameters: &[u16], nodes: &[u16]) -> bool
+    requires { ⌜ ParametersInside (now functions) (now parameters) ⌝ }
+    ensures { λ r. ⌜ r ≡ outsideTables (sectionsFrom (now (fields .entry)) (now (functions .entry))
+        (now (parameters .entry)) (now (nodes .entry))) ⌝ }
 {
-    if fields_outside(file, l.fields) {
+    if fields_outside(fields) {
         return true;
     }
-    if functions_outside(file, l.functions_at + 1, l.functions) {
+    if functions_outside(functions, parameters) {
         return true;
     }
-    nodes_outside(file, l.nodes_at + 2, l.nodes)
+    nodes_outside(nodes)
 }

@@ -6,20 +6,18 @@ use Prim.Native.Nat.{ℕ, zero, suc, _+_, _*_, _-_, _<_, _≤_}
 use native.Mathlib.Numerals.{add-one}
 use native.Mathlib.Omega.{arith}
 use lib.Dec.{eqb}
-use lib.ListN.{length, getD, take, replicate, getD-replicate}
+use lib.ListN.{length, getD, take, replicate, getD-replicate, length-map}
 use borrow.Author.Tests.{eq-eqb, ne-eqb}
 use Rattle.definitions.specs.Basics.{anyNumbered, countIf, flatMap}
-use Rattle.definitions.specs.ContractFile.{FunctionRecord, NodeRecord, twoBytesAt, functionEnd, functionRecord, functionRecords, nodeRecord, nodeRecords, sectionsOf, nodeOf, children}
+use Rattle.definitions.specs.ContractFile.{NodeRecord, Sections, nodeOf, children}
 use Rattle.definitions.specs.Numbers.{usesOf, usedOtherThanOnce}
-use Rattle.theory_laws.proofs.Records.{force-is}
-use Rattle.file_bytes.specs.declared.Layout.{Layout}
 use Rattle.file_bytes.specs.declared.Node.{Node}
-use Rattle.file_bytes.specs.Layout.{IsLayout}
-use Rattle.file_bytes.specs.Node.{recordOf, IsNode}
-use Rattle.file_bytes.proofs.Sections.{functions-are, nodes-are, count-of-nodes}
+use Rattle.file_bytes.specs.Node.{recordOf}
 use Rattle.file_children.specs.Children.{childCount}
 use Rattle.file_children.proofs.Children.{children-are}
-use Rattle.file_children.proofs.Steps.{functionRecords-step, functionRecords-end, nodeRecords-step, nodeRecords-end}
+use Rattle.file_decoded.specs.Slices.{numberAt, functionsFrom, nodeFrom, nodesFrom}
+use Rattle.file_decoded.specs.Node.{IsDecoded}
+use Rattle.file_decoded.proofs.Records.{functions-length, functions-step, functions-end, nodes-step, nodes-end}
 use Rattle.check_05_uses.specs.Counting.{Room, Counted, rootOf, childrenOf, otherThanOne, anyFrom}
 use Rattle.check_05_uses.proofs.UseCounts.{counted-none, counted-more, room-after}
 
@@ -38,32 +36,30 @@ leads-next : (start current next rest first later all : List ℕ) → Leads star
 leads-next start current next rest first later all inv e c =
     record { to = λ final d. inv .to final (rw e (counted-more current next final first later c d)) }
 
-module _ (start current all : List ℕ) (left : ℕ) (file : List ℕ) (at : ℕ)
-    (inv : Leads start current (map rootOf (functionRecords left file at)) all) where
+module _ (start current all : List ℕ) (left : ℕ) (functions : List ℕ) (at : ℕ) (parameters : List ℕ)
+    (inv : Leads start current (map rootOf (functionsFrom parameters left functions at)) all) where
   pub roots-done : left ≤ 0 → Counted start current all
-  roots-done h = leads-done start current _ all inv (ap (map rootOf) (functionRecords-end file at left h))
+  roots-done h = leads-done start current _ all inv (ap (map rootOf) (functions-end parameters functions at left h))
 
-  pub roots-next : 0 < left → (after root : ℕ) → after ≡ functionEnd file at → root ≡ twoBytesAt file (after - 2) → (counts : List ℕ)
-      → Counted current counts (root ∷ []) → Leads start counts (map rootOf (functionRecords (left - 1) file after)) all
-  roots-next h after root a b counts c =
-      let e : functionRecord file at .root ≡ root = sym (b ∙ ap (λ (n : ℕ). twoBytesAt file (n - 2)) a) in
-      leads-next start current counts _ (root ∷ []) (map rootOf (functionRecords (left - 1) file after)) all inv
-      (ap (map rootOf) (functionRecords-step file at left after h a) ∙ ap (λ (n : ℕ). n ∷ map rootOf (functionRecords (left - 1) file after)) e) c
+  pub roots-next : 0 < left → (root : ℕ) → root ≡ numberAt functions (at + 2) → (counts : List ℕ) → Counted current counts (root ∷ [])
+      → Leads start counts (map rootOf (functionsFrom parameters (left - 1) functions (at + 3))) all
+  roots-next h root e counts c =
+      leads-next start current counts _ (root ∷ []) _ all inv (ap (map rootOf) (functions-step parameters functions at left h) ∙ rw e) c
 
-module _ (start current all : List ℕ) (left : ℕ) (file : List ℕ) (at : ℕ)
-    (inv : Leads start current (flatMap childrenOf (nodeRecords left file at)) all) where
+module _ (start current all : List ℕ) (left : ℕ) (nodes : List ℕ) (at : ℕ)
+    (inv : Leads start current (flatMap childrenOf (nodesFrom left nodes at)) all) where
   pub nodes-done : left ≤ 0 → Counted start current all
   unfolding flatMap
-  nodes-done h = leads-done start current _ all inv (ap (flatMap childrenOf) (nodeRecords-end file at left h))
+  nodes-done h = leads-done start current _ all inv (ap (flatMap childrenOf) (nodes-end nodes at left h))
 
-  pub nodes-next : 0 < left → (node : Node) → IsNode (nodeRecord file at) node → (counts : List ℕ)
+  pub nodes-next : 0 < left → (node : Node) → IsDecoded (nodeFrom nodes at) node → (counts : List ℕ)
       → Counted current counts (children (nodeOf (recordOf node))) → Leads start counts
-      (flatMap childrenOf (nodeRecords (left - 1) file (at + 8))) all
+      (flatMap childrenOf (nodesFrom (left - 1) nodes (at + 5))) all
   unfolding flatMap
   nodes-next h node is counts c =
-      leads-next start current counts _ (childrenOf (recordOf node)) (flatMap childrenOf (nodeRecords (left - 1) file (at + 8))) all inv
-      (ap (flatMap childrenOf) (nodeRecords-step file at left h)
-      ∙ ap (λ (r : NodeRecord). childrenOf r ++ flatMap childrenOf (nodeRecords (left - 1) file (at + 8))) (sym (is .same)))
+      leads-next start current counts _ (childrenOf (recordOf node)) (flatMap childrenOf (nodesFrom (left - 1) nodes (at + 5))) all inv
+      (ap (flatMap childrenOf) (nodes-step nodes at left h)
+      ∙ ap (λ (r : NodeRecord). childrenOf r ++ flatMap childrenOf (nodesFrom (left - 1) nodes (at + 5))) (sym (is .same)))
       c
 
 take-few : {A : Type 0} (n : ℕ) (a b c : A) → length (take n (a ∷ b ∷ c ∷ [])) ≤ 3
@@ -104,7 +100,7 @@ from-end test n (suc left) h = absurd (omega arith)
 pub from-done : (test : ℕ → Bool) (n left : ℕ) (goal : Bool) → anyFrom test n left ≡ goal → left ≤ 0 → false ≡ goal
 from-done test n left goal inv h = sym (from-end test n left h) ∙ inv
 
--- Number 5 in a layout's numbers.
+-- Number 5 in the counts.
 numbered-from : {A : Type 0} (test : ℕ → Bool) (n : ℕ) (xs : List A) → anyNumbered (λ k x. test k) n xs ≡ anyFrom test n (length xs)
 unfolding anyNumbered anyFrom
 numbered-from test n [] = refl
@@ -118,44 +114,31 @@ from-same t u n (suc left) bound h e = rw (e n (omega arith), from-same t u (suc
 unfoldable pub no-uses : List ℕ
 no-uses = replicate 512 0
 
-pub room-start : (more : ℕ) → more ≤ 1000000 → Room no-uses more
+pub room-start : (more : ℕ) → more ≤ 65535 → Room no-uses more
 unfolding no-uses
 room-start more h = record { each = λ n k. (let none = getD-replicate {A = ℕ} 512 n 0 0 k in omega arith); long = refl }
 
-length-roots : (count : ℕ) (file : List ℕ) (at : ℕ) → length (map rootOf (functionRecords count file at)) ≡ count
-unfolding functionRecords
-length-roots zero file at = refl
-length-roots (suc count) file at =
-    ap suc (ap (λ (rs : List FunctionRecord). length (map rootOf rs)) (force-is (functionEnd file at) (functionRecords count file))
-    ∙ length-roots count file (functionEnd file at))
+pub room-after-roots : (parameters : List ℕ) (count : ℕ) (functions : List ℕ) (at : ℕ) (roots : List ℕ) (more : ℕ)
+    → Counted no-uses roots (map rootOf (functionsFrom parameters count functions at)) → count + more ≤ 65535 → Room roots more
+room-after-roots parameters count functions at roots more c h =
+    let records = functionsFrom parameters count functions at in
+    room-after no-uses roots _ (count + more) more c (room-start (count + more) h)
+    (omega (arith, length-map records rootOf, functions-length parameters count functions at))
 
-pub room-after-roots : (count : ℕ) (file : List ℕ) (at : ℕ) (roots : List ℕ) (more : ℕ) → Counted no-uses roots
-    (map rootOf (functionRecords count file at))
-    → count + more ≤ 1000000 → Room roots more
-room-after-roots count file at roots more c h =
-    room-after no-uses roots _ (count + more) more c (room-start (count + more) h) (omega (arith, length-roots count file at))
-
-module _ (file : List ℕ) (l : Layout) (is : IsLayout file l) (few : l .nodes ≤ 512) (roots counts : List ℕ)
-    (a : Counted no-uses roots (map rootOf (functionRecords (l .functions) file (l .«functions_at» + 1))))
-    (b : Counted roots counts (flatMap childrenOf (nodeRecords (l .nodes) file (l .«nodes_at» + 2)))) where
-  uses-are : usesOf (sectionsOf file)
-      ≡ map rootOf (functionRecords (l .functions) file (l .«functions_at» + 1)) ++ flatMap childrenOf
-      (nodeRecords (l .nodes) file (l .«nodes_at» + 2))
-  unfolding usesOf
-  uses-are = rw (is .functions, is .functionsStart, is .nodes, is .nodesStart, functions-are file, nodes-are file)
-
-  counts-are : (n : ℕ) → n < 512 → getD counts n 0 ≡ countIf (eqb n) (usesOf (sectionsOf file))
-  unfolding no-uses
+module _ (s : Sections) (count : ℕ) (long : length (s .nodes) ≡ count) (few : count ≤ 512) (roots counts : List ℕ)
+    (a : Counted no-uses roots (map rootOf (s .functions))) (b : Counted roots counts (flatMap childrenOf (s .nodes))) where
+  counts-are : (n : ℕ) → n < 512 → getD counts n 0 ≡ countIf (eqb n) (usesOf s)
+  unfolding no-uses usesOf
   counts-are n h =
       let whole = counted-more no-uses roots counts _ _ a b .each n h in
       let none = getD-replicate {A = ℕ} 512 n 0 0 h in
-      rw uses-are (omega arith)
+      omega arith
 
   used : ℕ → Bool
-  used n = not (eqb (countIf (eqb n) (usesOf (sectionsOf file))) 1)
+  used n = not (eqb (countIf (eqb n) (usesOf s)) 1)
 
-  pub uses-counted : anyFrom (otherThanOne counts) 0 (l .nodes) ≡ usedOtherThanOnce (sectionsOf file)
+  pub uses-counted : anyFrom (otherThanOne counts) 0 count ≡ usedOtherThanOnce s
   unfolding usedOtherThanOnce used
   uses-counted =
-      from-same (otherThanOne counts) used 0 (l .nodes) 512 (omega arith) (λ n h. ap (λ (k : ℕ). not (eqb k 1)) (counts-are n h))
-      ∙ (ap (anyFrom used 0) (is .nodes ∙ sym (count-of-nodes file)) ∙ sym (numbered-from used 0 ((sectionsOf file) .nodes)))
+      from-same (otherThanOne counts) used 0 count 512 (omega arith) (λ n h. ap (λ (k : ℕ). not (eqb k 1)) (counts-are n h))
+      ∙ (ap (anyFrom used 0) (sym long) ∙ sym (numbered-from used 0 (s .nodes)))

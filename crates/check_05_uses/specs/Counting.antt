@@ -7,17 +7,10 @@ use lib.Dec.{eqb}
 use lib.ListN.{length, getD}
 use Rattle.definitions.specs.Basics.{countIf}
 use Rattle.definitions.specs.ContractFile.{FunctionRecord, NodeRecord, nodeOf, children}
-use Rattle.file_bytes.specs.declared.Layout.{Layout}
-use Rattle.file_bytes.specs.Layout.{IsLayout}
-
--- What number 2 has settled: the layout is the file's, and there are counts enough for its nodes.
-pub record FewNodes (file : List ℕ) (l : Layout) : Type 0 where
-  pub layout : IsLayout file l
-  pub few : l .nodes ≤ 512
 
 -- There is a count for each node that there can be, and each can grow by as much as is given.
 pub record Room (counts : List ℕ) (more : ℕ) : Type 0 where
-  pub each : (n : ℕ) → n < 512 → getD counts n 0 + more ≤ 1000000
+  pub each : (n : ℕ) → n < 512 → getD counts n 0 + more ≤ 65535
   pub long : length counts ≡ 512
 
 -- The later counts are the earlier ones with these uses.

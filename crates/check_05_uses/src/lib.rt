@@ -1,21 +1,21 @@
 // Number 5: how often each node is used, as a root or a child.
-use file_bytes::Layout;
 use file_bytes::Node;
-use file_bytes::function_end;
-use file_bytes::read_node;
-use file_bytes::two_bytes_at;
 use file_children::child_count;
+use file_decoded::node_from;
+use file_decoded::number_from;
 ghost use mathlib.Core.Path.{_≡_};
-ghost use mathlib.Core.List.{[], _∷_, map};
-ghost use Prim.Native.Nat.{_+_, _*_, _≤_};
+ghost use mathlib.Core.List.{List, [], _∷_, map};
+ghost use Prim.Native.Nat.{ℕ, _*_, _/_, _≤_};
+ghost use lib.ListN.{length};
 ghost use Rattle.definitions.specs.Basics.{flatMap};
-ghost use Rattle.definitions.specs.ContractFile.{functionRecords, nodeRecords, sectionsOf, nodeOf, children};
+ghost use Rattle.definitions.specs.ContractFile.{nodeOf, children};
 ghost use Rattle.definitions.specs.Numbers.{usedOtherThanOnce};
 ghost use Rattle.file_bytes.specs.Node.{recordOf};
-ghost use Rattle.check_05_uses.specs.Counting.{FewNodes, Room, Counted, rootOf, childrenOf, otherThanOne, anyFrom};
+ghost use Rattle.file_decoded.specs.Slices.{functionsFrom, nodesFrom, sectionsFrom, Shaped};
+ghost use Rattle.check_05_uses.specs.Counting.{Room, Counted, rootOf, childrenOf, otherThanOne, anyFrom};
 
 // One more use of node n, where n can be a node.
-fn count_use(counts: &mut [usize; 512], n: usize)
+fn count_use(counts: &mut [u16; 512], n: usize)
     requires { ⌜ Room (now counts) 1 ⌝ }
     ensures { λ _. ⌜ Counted (now (counts .entry)) (now (counts .exit)) (n ∷ []) ⌝ }
 {
@@ -25,7 +25,7 @@ fn count_use(counts: &mut [usize; 512], n: usize)
 }
 
 // The uses of a node's children.
-fn count_children(counts: &mut [usize; 512], node: Node)
+fn count_children(counts: &mut [u16; 512], node: Node)
     requires { ⌜ Room (now counts) 3 ⌝ }
     ensures { λ _. ⌜ Counted (now (counts .entry)) (now (counts .exit)) (children (nodeOf (recordOf node))) ⌝ }
 {
@@ -44,37 +44,38 @@ fn count_children(counts: &mut [usize; 512], node: Node)
     count_use(counts, node.third);
 }
 
-fn count_roots(file: &[u8], from: usize, count: usize, counts: &mut [usize; 512])
-    requires { ⌜ (from + 513 * count ≤ 200000) × (Room (now counts) count) ⌝ }
-    ensures { λ _. ⌜ Counted (now (counts .entry)) (now (counts .exit)) (map rootOf (functionRecords count (now (file .entry)) from)) ⌝ }
+fn count_roots(functions: &[u16], counts: &mut [u16; 512])
+    requires { ⌜ Room (now counts) (length (now functions) / 3) ⌝ }
+    ensures { λ _. ⌜ ((parameters : List ℕ) → Counted (now (counts .entry)) (now (counts .exit))
+        (map rootOf (functionsFrom parameters (length (now (functions .entry)) / 3) (now (functions .entry)) 0))) ⌝ }
 {
-    let mut at = from;
-    let mut left = count;
+    let mut at: usize = 0;
+    let mut left = functions.len() / 3;
     while 0 < left {
-        at = function_end(file, at);
-        let root = two_bytes_at(file, at - 2);
+        let root = number_from(functions, at + 2);
         count_use(counts, root);
+        at += 3;
         left -= 1;
     }
 }
 
-fn count_nodes(file: &[u8], from: usize, count: usize, counts: &mut [usize; 512])
-    requires { ⌜ (from + 8 * count ≤ 1000000) × (Room (now counts) (3 * count)) ⌝ }
+fn count_nodes(nodes: &[u16], counts: &mut [u16; 512])
+    requires { ⌜ Room (now counts) (3 * (length (now nodes) / 5)) ⌝ }
     ensures { λ _. ⌜ Counted (now (counts .entry)) (now (counts .exit))
-        (flatMap childrenOf (nodeRecords count (now (file .entry)) from)) ⌝ }
+        (flatMap childrenOf (nodesFrom (length (now (nodes .entry)) / 5) (now (nodes .entry)) 0)) ⌝ }
 {
-    let mut at = from;
-    let mut left = count;
+    let mut at: usize = 0;
+    let mut left = nodes.len() / 5;
     while 0 < left {
-        let node = read_node(file, at);
+        let node = node_from(nodes, at);
         count_children(counts, node);
-        at += 8;
+        at += 5;
         left -= 1;
     }
 }
 
 // Whether some of the first counts is other than one.
-fn some_other_than_one(counts: &[usize; 512], count: usize) -> bool
+fn some_other_than_one(counts: &[u16; 512], count: usize) -> bool
     requires { ⌜ count ≤ 512 ⌝ }
     ensures { λ r. ⌜ r ≡ anyFrom (otherThanOne (now (counts .entry))) 0 count ⌝ }
 {
@@ -91,12 +92,14 @@ fn some_other_than_one(counts: &[usize; 512], count: usize) -> bool
 }
 
 // "5. A node is used other than once, as a root or a child."
-pub fn used_other_than_once(file: &[u8], l: Layout) -> bool
-    requires { ⌜ FewNodes (now file) l ⌝ }
-    ensures { λ r. ⌜ r ≡ usedOtherThanOnce (sectionsOf (now (file .entry))) ⌝ }
+pub fn used_other_than_once(functions: &[u16], nodes: &[u16]) -> bool
+    requires { ⌜ Shaped (now functions) (now nodes) ⌝ }
+    ensures { λ r. ⌜ ((fields parameters : List ℕ)
+        → r ≡ usedOtherThanOnce (sectionsFrom fields (now (functions .entry)) parameters (now (nodes .entry)))) ⌝ }
 {
-    let mut counts = [0usize; 512];
-    count_roots(file, l.functions_at + 1, l.functions, &mut counts);
-    count_nodes(file, l.nodes_at + 2, l.nodes, &mut counts);
-    some_other_than_one(&counts, l.nodes)
+    let mut counts = [0u16; 512];
+    count_roots(functions, &mut counts);
+    count_nodes(nodes, &mut counts);
+    let count = nodes.len() / 5;
+    some_other_than_one(&counts, count)
 }

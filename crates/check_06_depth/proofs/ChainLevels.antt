@@ -62,6 +62,7 @@ module _ (nodes : List Node) (below : ChildrenBelow nodes) where
       record {
         each = λ k l. noted (eqb k n) k n depths chain inside refl (λ same. is ∙ ap (λ (m : ℕ). chainLength (suc m) nodes m) (sym same))
             (λ other. c .each k (omega (arith, other)));
+        later = λ k l. getD-set-other depths n k chain 0 (λ same. omega arith) ∙ c .later k (omega arith);
         bounded = record {
           each = λ k. kept (eqb k n) k n depths chain inside refl small (c .bounded .each k);
           long = length-set depths n chain

@@ -1,27 +1,27 @@
 -- A node's chain by how many children it has, and the loops that note depths and ask the roots'.
 use mathlib.Core.Path.{_≡_, refl, ap, sym, _∙_}
-use mathlib.Core.Bool.{Bool, true, false, _||_}
+use mathlib.Core.Bool.{Bool, true, false}
 use mathlib.Core.List.{List, [], _∷_, map}
-use Prim.Native.Nat.{ℕ, zero, suc, _+_, _*_, _-_, _<_, _≤_, max}
+use Prim.Native.Nat.{ℕ, suc, _+_, _*_, _-_, _<_, _≤_, max}
 use native.Mathlib.Omega.{arith}
 use lib.Dec.{leb, ltb}
-use lib.ListN.{set, replicate, getD-replicate, List·getD-eq-default}
-use borrow.Author.Tests.{lt-ltb, le-ltb, ltb-true, ltb-false, leb-false}
-use Rattle.definitions.specs.Basics.{any, anyNumbered, largest}
-use Rattle.definitions.specs.ContractFile.{NodeRecord, FunctionRecord, twoBytesAt, functionEnd, fieldRecords, functionRecord, functionRecords, nodeRecord, nodeRecords, sectionsOf, nodeOf, nodeAt, children, fieldsNamed, expressionParts, statementParts, chainLength}
-use Rattle.definitions.specs.Numbers.{tooDeep}
-use Rattle.file_bytes.specs.declared.Layout.{Layout}
+use lib.ListN.{length, set, replicate, length-map, List·getD-map, List·getD-eq-default}
+use borrow.Author.Tests.{lt-ltb, le-ltb, lt-leb, ltb-true, ltb-false}
+use Rattle.definitions.specs.Basics.{all, any, largest}
+use Rattle.definitions.specs.ContractFile.{NodeRecord, FunctionRecord, Sections, Node as Form, unknownNode, nodeOf, nodeAt, children, expressionParts, statementParts, chainLength}
+use Rattle.definitions.specs.Numbers.{namesNothing, tooDeep}
+use Rattle.theory_laws.proofs.Lists.{getD-inside, zeros-at}
+use Rattle.theory_laws.proofs.TruthValues.{and-left, and-right}
+use Rattle.theory_trees.proofs.Falls.{nodes-fall}
 use Rattle.file_bytes.specs.declared.Node.{Node}
-use Rattle.file_bytes.specs.Node.{recordOf, IsNode}
-use Rattle.file_bytes.proofs.Sections.{functions-are, nodes-are}
+use Rattle.file_bytes.specs.Node.{recordOf}
 use Rattle.file_children.specs.Children.{childCount}
-use Rattle.file_children.proofs.Truth.{either-false}
 use Rattle.file_children.proofs.ByCount.{no-children, one-child, two-children, three-children}
-use Rattle.file_children.proofs.Lookups.{node-within, node-past}
-use Rattle.file_children.proofs.Scans.{functions-next, functions-found}
-use Rattle.check_04_nodes.specs.Naming.{ownerNamesNothing, rootNamesNothing, nodeNamesNothing}
-use Rattle.check_04_names.proofs.NamingLoops.{nothing-named}
-use Rattle.check_06_depth.specs.Chains.{InOrder, ChildrenBelow, Bounded, Chains, depthIn, rootTooDeep}
+use Rattle.file_children.proofs.Loops.{any-next, any-found, any-done}
+use Rattle.file_decoded.specs.Slices.{numberAt, functionFrom, functionsFrom, nodeFrom, nodesFrom}
+use Rattle.file_decoded.specs.Node.{IsDecoded}
+use Rattle.file_decoded.proofs.Records.{nodes-length, node-of, functions-step, functions-end}
+use Rattle.check_06_depth.specs.Chains.{ChildrenBelow, Chains, depthIn, rootTooDeep}
 use Rattle.check_06_depth.proofs.ChainLevels.{note}
 
 module _ (depths : List ℕ) (r : NodeRecord) (count : ℕ) (is : count ≡ childCount (r .kind)) where
@@ -45,123 +45,86 @@ module _ (depths : List ℕ) (r : NodeRecord) (count : ℕ) (is : count ≡ chil
       chain-three k third all d n = rw (three-children r count is k) (omega arith)
 
 -- The loop that notes depths.
-pub chains-start : (count : ℕ) (file : List ℕ) (from : ℕ) (depths : List ℕ) → Bounded depths → Chains
-    (map nodeOf (nodeRecords count file from)) 0 depths
-chains-start count file from depths b = record { each = λ n h. absurd (omega arith); bounded = b }
+node-within : (count : ℕ) (nodes : List ℕ) (n : ℕ) → n < count → nodeAt (map nodeOf (nodesFrom count nodes 0)) n
+    ≡ nodeOf (nodeFrom nodes (0 + 5 * n))
+node-within count nodes n h =
+    let records = nodesFrom count nodes 0 in
+    let first = nodeFrom nodes 0 in
+    getD-inside (map nodeOf records) n unknownNode (nodeOf first) (omega (arith, length-map records nodeOf, nodes-length count nodes 0))
+    ∙ List·getD-map nodeOf records n first ∙ ap nodeOf (node-of count nodes 0 n first h)
 
-pub chains-next : (count : ℕ) (file : List ℕ) (from n at : ℕ) (node : Node) (depths : List ℕ) (chain : ℕ)
-    → ChildrenBelow (map nodeOf (nodeRecords count file from)) → Chains (map nodeOf (nodeRecords count file from)) n depths → n < count → count ≤ 512
-    → at ≡ from + 8 * n → IsNode (nodeRecord file at) node → chain ≡ suc (largest (map (depthIn depths) (children (nodeOf (recordOf node)))))
-    → Chains (map nodeOf (nodeRecords count file from)) (n + 1) (set depths n chain)
-chains-next count file from n at node depths chain below c h few e is made =
-    let same : nodeOf (recordOf node) ≡ nodeAt (map nodeOf (nodeRecords count file from)) n =
-    ap nodeOf (is .same) ∙ ap (λ (m : ℕ). nodeOf (nodeRecord file m)) e ∙ sym (node-within count file from n h) in
-    note (map nodeOf (nodeRecords count file from)) below n depths chain (omega arith) c
+pub chains-next : (count : ℕ) (nodes : List ℕ) (n at : ℕ) (node : Node) (depths : List ℕ) (chain : ℕ)
+    → ChildrenBelow (map nodeOf (nodesFrom count nodes 0)) → Chains (map nodeOf (nodesFrom count nodes 0)) n depths → n < count → count ≤ 512
+    → at ≡ 5 * n → IsDecoded (nodeFrom nodes at) node → chain ≡ suc (largest (map (depthIn depths) (children (nodeOf (recordOf node)))))
+    → Chains (map nodeOf (nodesFrom count nodes 0)) (n + 1) (set depths n chain)
+chains-next count nodes n at node depths chain below c h few e is made =
+    let there : at ≡ 0 + 5 * n = omega arith in
+    let same : nodeOf (recordOf node) ≡ nodeAt (map nodeOf (nodesFrom count nodes 0)) n =
+    ap nodeOf (is .same) ∙ ap (λ (m : ℕ). nodeOf (nodeFrom nodes m)) there ∙ sym (node-within count nodes n h) in
+    note (map nodeOf (nodesFrom count nodes 0)) below n depths chain (omega arith) c
     (made ∙ ap (λ m. suc (largest (map (depthIn depths) (children m)))) same)
 
-pub chains-done : (count : ℕ) (file : List ℕ) (from n : ℕ) (depths : List ℕ) → Chains (map nodeOf (nodeRecords count file from)) n depths → n ≤ count
-    → count ≤ n
-    → Chains (map nodeOf (nodeRecords count file from)) count depths
-chains-done count file from n depths c g h = record { each = λ k l. c .each k (omega arith); bounded = c .bounded }
+pub chains-done : (nodes : List Form) (n count : ℕ) (depths : List ℕ) → Chains nodes n depths → n ≤ count → count ≤ n → Chains nodes count depths
+chains-done nodes n count depths c g h =
+    let e : n ≡ count = omega arith in
+    rw e at c
 
 -- The loop over the roots.
-module _ (depths : List ℕ) (left : ℕ) (file : List ℕ) (at : ℕ) (goal : Bool) (inv : any (rootTooDeep depths) (functionRecords left file at) ≡ goal)
-    (h : 0 < left) (next : ℕ) (a : next ≡ functionEnd file at) (root : ℕ) (b : root ≡ twoBytesAt file (next - 2)) (depth : ℕ)
-    (e : depth ≡ depthIn depths root) where
-  depth-is : depth ≡ depthIn depths ((functionRecord file at) .root)
-  depth-is = e ∙ ap (depthIn depths) (b ∙ ap (λ (n : ℕ). twoBytesAt file (n - 2)) a)
+module _ (depths : List ℕ) (left : ℕ) (functions : List ℕ) (at : ℕ) (goal : Bool) (parameters : List ℕ)
+    (inv : any (rootTooDeep depths) (functionsFrom parameters left functions at) ≡ goal) where
+  pub roots-done : left ≤ 0 → false ≡ goal
+  roots-done h = any-done (rootTooDeep depths) _ goal (functions-end parameters functions at left h) inv
 
-  pub root-in-depth : depth ≤ 64 → any (rootTooDeep depths) (functionRecords (left - 1) file next) ≡ goal
-  root-in-depth t = functions-next (rootTooDeep depths) left file at goal inv h next a (ap (ltb 64) (sym depth-is) ∙ le-ltb 64 depth t)
+  module _ (h : 0 < left) (root : ℕ) (a : root ≡ numberAt functions (at + 2)) (depth : ℕ) (e : depth ≡ depthIn depths root) where
+    asked : (b : Bool) → ltb 64 depth ≡ b → rootTooDeep depths (functionFrom parameters functions at) ≡ b
+    asked b t = ap (ltb 64) (sym (e ∙ ap (depthIn depths) a)) ∙ t
 
-  pub root-too-deep : 64 < depth → true ≡ goal
-  root-too-deep t = functions-found (rootTooDeep depths) left file at goal inv h (ap (ltb 64) (sym depth-is) ∙ lt-ltb 64 depth t)
+    pub root-in-depth : depth ≤ 64 → any (rootTooDeep depths) (functionsFrom parameters (left - 1) functions (at + 3)) ≡ goal
+    root-in-depth t = any-next (rootTooDeep depths) _ _ _ goal (functions-step parameters functions at left h) inv (asked false (le-ltb 64 depth t))
+
+    pub root-too-deep : 64 < depth → true ≡ goal
+    root-too-deep t = any-found (rootTooDeep depths) _ _ _ goal (functions-step parameters functions at left h) inv (asked true (lt-ltb 64 depth t))
 
 -- What number 4 has settled.
-numbered-none : (test : ℕ → NodeRecord → Bool) (k count : ℕ) (file : List ℕ) (at : ℕ) → anyNumbered test k (nodeRecords count file at) ≡ false
-    → (n : ℕ) → n < count → test (k + n) (nodeRecord file (at + 8 * n)) ≡ false
-unfolding anyNumbered nodeRecords
-numbered-none test k zero file at e n h = absurd (omega arith)
-numbered-none test k (suc count) file at e zero h =
-    let first : k + 0 ≡ k = omega arith in
-    let here : at + 8 * 0 ≡ at = omega arith in
-    rw (first, here) (either-false (test k (nodeRecord file at)) _ e .0)
-numbered-none test k (suc count) file at e (suc n) h =
-    let later : k + suc n ≡ suc k + n = omega arith in
-    let there : at + 8 * suc n ≡ at + 8 + 8 * n = omega arith in
-    rw (later, there) (numbered-none test (suc k) count file (at + 8) (either-false (test k (nodeRecord file at)) _ e .1) n (omega arith))
+none-above : (n : ℕ) (xs : List ℕ) → all (λ x. ltb x n) xs ≡ true → any (leb n) xs ≡ false
+unfolding any all
+none-above n [] h = refl
+none-above n (x ∷ xs) h =
+    rw (lt-leb n x (ltb-true x n (and-left (ltb x n) (all (λ y. ltb y n) xs) h)))
+    (none-above n xs (and-right (ltb x n) (all (λ y. ltb y n) xs) h))
 
-any-same : (guard t u : FunctionRecord → Bool) (xs : List FunctionRecord) → any guard xs ≡ false
-    → ((x : FunctionRecord) → guard x ≡ false → t x ≡ u x) → any t xs ≡ any u xs
+pub children-below : (s : Sections) → namesNothing s ≡ false → ChildrenBelow (map nodeOf (s .nodes))
+children-below s named = record { each = λ n. none-above n _ (nodes-fall s named .below n) }
+
+-- Number 6 in the depths. A root that is no node has a chain of one, and no depth is noted for it.
+asked-same : (nodes : List Form) (depths : List ℕ) → Chains nodes (length nodes) depths → (n : ℕ) (b : Bool) → ltb n (length nodes) ≡ b
+    → ltb 64 (depthIn depths n) ≡ ltb 64 (chainLength (suc n) nodes n)
+unfolding chainLength largest expressionParts statementParts
+asked-same nodes depths c n true e = ap (ltb 64) (c .each n (ltb-true n (length nodes) e))
+asked-same nodes depths c n false e =
+    let past = ltb-false n (length nodes) e in
+    rw (c .later n past, List·getD-eq-default nodes unknownNode past)
+
+any-same : (t u : FunctionRecord → Bool) (xs : List FunctionRecord) → ((x : FunctionRecord) → t x ≡ u x) → any t xs ≡ any u xs
 unfolding any
-any-same guard t u [] g e = refl
-any-same guard t u (x ∷ xs) g e =
-    let both = either-false (guard x) (any guard xs) g in
-    rw (e x (both .0), any-same guard t u xs (both .1) e)
+any-same t u [] e = refl
+any-same t u (x ∷ xs) e = rw (e x, any-same t u xs e)
 
-module _ (file : List ℕ) (l : Layout) (s : InOrder file l) where
-  owners : Bool
-  owners = any (ownerNamesNothing (l .fields)) (fieldRecords (l .fields) file 1)
-
-  roots : Bool
-  roots = any (rootNamesNothing (l .nodes)) (functionRecords (l .functions) file (l .«functions_at» + 1))
-
-  nodes : Bool
-  nodes = anyNumbered (nodeNamesNothing (l .fields)) 0 (nodeRecords (l .nodes) file (l .«nodes_at» + 2))
-
-  settled : owners || roots || nodes ≡ false
-  unfolding owners roots nodes
-  settled = sym (nothing-named file l (s .layout)) ∙ s .named
-
-  settled-roots : any (rootNamesNothing (l .nodes)) (functionRecords (l .functions) file (l .«functions_at» + 1)) ≡ false
-  unfolding roots
-  settled-roots = either-false owners roots (either-false (owners || roots) nodes settled .0) .1
-
-  settled-nodes : anyNumbered (nodeNamesNothing (l .fields)) 0 (nodeRecords (l .nodes) file (l .«nodes_at» + 2)) ≡ false
-  unfolding nodes
-  settled-nodes = either-false (owners || roots) nodes settled .1
-
-  child-below : (n : ℕ) (r : NodeRecord) → nodeNamesNothing (l .fields) (0 + n) r ≡ false → any (leb n) (children (nodeOf r)) ≡ false
-  child-below n r h =
-      let none : 0 + n ≡ n = omega arith in
-      either-false (any (leb (l .fields)) (fieldsNamed (nodeOf r))) (any (leb n) (children (nodeOf r))) (rw none at h) .1
-
-  below-by : (n : ℕ) (b : Bool) → ltb n (l .nodes) ≡ b → any (leb n)
-      (children (nodeAt (map nodeOf (nodeRecords (l .nodes) file (l .«nodes_at» + 2))) n)) ≡ false
-  unfolding any expressionParts statementParts
-  below-by n true e =
-      let h = ltb-true n (l .nodes) e in
-      rw (node-within (l .nodes) file (l .«nodes_at» + 2) n h)
-      (child-below n _ (numbered-none (nodeNamesNothing (l .fields)) 0 (l .nodes) file (l .«nodes_at» + 2) settled-nodes n h))
-  below-by n false e = rw (node-past (l .nodes) file (l .«nodes_at» + 2) n (ltb-false n (l .nodes) e))
-
-  pub children-below : ChildrenBelow (map nodeOf (nodeRecords (l .nodes) file (l .«nodes_at» + 2)))
-  children-below = record { each = λ n. below-by n (ltb n (l .nodes)) refl }
-
-  -- Number 6 in a layout's numbers.
-  pub depths-noted : (depths : List ℕ) → Chains (map nodeOf (nodeRecords (l .nodes) file (l .«nodes_at» + 2))) (l .nodes) depths
-      → any (rootTooDeep depths) (functionRecords (l .functions) file (l .«functions_at» + 1)) ≡ tooDeep (sectionsOf file)
-  unfolding tooDeep
-  depths-noted depths c =
-      any-same (rootNamesNothing (l .nodes)) (rootTooDeep depths)
-      (λ r. ltb 64 (chainLength (suc (r .root)) (map nodeOf (nodeRecords (l .nodes) file (l .«nodes_at» + 2))) (r .root)))
-      (functionRecords (l .functions) file (l .«functions_at» + 1)) settled-roots
-      (λ r g. ap (ltb 64) (c .each (r .root) (leb-false (l .nodes) (r .root) g)))
-      ∙ rw
-      (s .layout .functions, s .layout .functionsStart, s .layout .nodes, s .layout .nodesStart, functions-are file, nodes-are file)
+pub depths-noted : (s : Sections) (count : ℕ) → length (s .nodes) ≡ count → (depths : List ℕ) → Chains (map nodeOf (s .nodes)) count depths
+    → any (rootTooDeep depths) (s .functions) ≡ tooDeep s
+unfolding tooDeep
+depths-noted s count long depths c =
+    let nodes = map nodeOf (s .nodes) in
+    any-same (rootTooDeep depths) (λ r. ltb 64 (chainLength (suc (r .root)) nodes (r .root))) (s .functions)
+    (λ r. asked-same nodes depths (rw (length-map (s .nodes) nodeOf ∙ long) c) (r .root) (ltb (r .root) (length nodes)) refl)
 
 unfoldable pub no-depths : List ℕ
 no-depths = replicate 512 0
 
-zero-by : (n : ℕ) (b : Bool) → ltb n 512 ≡ b → depthIn no-depths n ≤ 512
+pub none-noted : (nodes : List Form) → Chains nodes 0 no-depths
 unfolding no-depths
-zero-by n true e =
-    let none = getD-replicate {A = ℕ} 512 n 0 0 (ltb-true n 512 e) in
-    omega arith
-zero-by n false e =
-    let none : depthIn no-depths n ≡ 0 = List·getD-eq-default (replicate 512 0) 0 (ltb-false n 512 e) in
-    omega arith
-
-pub no-depths-bounded : Bounded no-depths
-unfolding no-depths
-no-depths-bounded = record { each = λ n. zero-by n (ltb n 512) refl; long = refl }
+none-noted nodes = record {
+  each = λ n h. absurd (omega arith);
+  later = λ n h. zeros-at 512 n;
+  bounded = record { each = λ n. omega (arith, zeros-at 512 n); long = refl };
+}

@@ -6,17 +6,9 @@ use Prim.Native.Nat.{ℕ, suc, _<_, _≤_}
 use lib.Dec.{leb, ltb}
 use lib.ListN.{length, getD}
 use Rattle.definitions.specs.Basics.{any}
-use Rattle.definitions.specs.ContractFile.{FunctionRecord, sectionsOf, Node, nodeAt, children, chainLength}
-use Rattle.definitions.specs.Numbers.{namesNothing}
-use Rattle.file_bytes.specs.declared.Layout.{Layout}
-use Rattle.file_bytes.specs.Layout.{IsLayout}
+use Rattle.definitions.specs.ContractFile.{FunctionRecord, Node, nodeAt, children, chainLength}
 
--- What earlier numbers have settled: there is room for each node, and children are below their parents.
-pub record InOrder (file : List ℕ) (l : Layout) : Type 0 where
-  pub layout : IsLayout file l
-  pub few : l .nodes ≤ 512
-  pub named : namesNothing (sectionsOf file) ≡ false
-
+-- What number 4 has settled: children are below their parents.
 pub record ChildrenBelow (nodes : List Node) : Type 0 where
   pub each : (n : ℕ) → any (leb n) (children (nodeAt nodes n)) ≡ false
 
@@ -27,9 +19,10 @@ pub record Bounded (depths : List ℕ) : Type 0 where
   pub each : (n : ℕ) → depthIn depths n ≤ 512
   pub long : length depths ≡ 512
 
--- The depths of the first nodes are the lengths of their longest chains.
+-- The depths of the first nodes are the lengths of their longest chains; no other depth is noted.
 pub record Chains (nodes : List Node) (count : ℕ) (depths : List ℕ) : Type 0 where
   pub each : (n : ℕ) → n < count → depthIn depths n ≡ chainLength (suc n) nodes n
+  pub later : (n : ℕ) → count ≤ n → depthIn depths n ≡ 0
   pub bounded : Bounded depths
 
 abbrev pub rootTooDeep : List ℕ → FunctionRecord → Bool

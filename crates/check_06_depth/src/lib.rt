@@ -1,18 +1,18 @@
 // Number 6: the longest chain from a root to a leaf.
-use file_bytes::Layout;
 use file_bytes::Node;
-use file_bytes::function_end;
-use file_bytes::read_node;
-use file_bytes::two_bytes_at;
 use file_children::child_count;
+use file_decoded::node_from;
+use file_decoded::number_from;
 ghost use mathlib.Core.Path.{_≡_};
-ghost use mathlib.Core.List.{map};
-ghost use Prim.Native.Nat.{suc, _+_, _*_, _≤_, max};
+ghost use mathlib.Core.List.{List, map};
+ghost use Prim.Native.Nat.{ℕ, suc, _/_, _≤_, max};
+ghost use lib.ListN.{length};
 ghost use Rattle.definitions.specs.Basics.{any, largest};
-ghost use Rattle.definitions.specs.ContractFile.{functionRecords, nodeRecords, sectionsOf, nodeOf, children};
+ghost use Rattle.definitions.specs.ContractFile.{nodeOf, children};
 ghost use Rattle.definitions.specs.Numbers.{tooDeep};
 ghost use Rattle.file_bytes.specs.Node.{recordOf};
-ghost use Rattle.check_06_depth.specs.Chains.{Bounded, Chains, ChildrenBelow, InOrder, depthIn, rootTooDeep};
+ghost use Rattle.file_decoded.specs.Slices.{functionsFrom, nodesFrom, sectionsFrom, Shaped};
+ghost use Rattle.check_06_depth.specs.Chains.{Bounded, Chains, ChildrenBelow, depthIn, rootTooDeep};
 
 fn larger(a: usize, b: usize) -> usize
     ensures { λ r. ⌜ r ≡ max a b ⌝ }
@@ -21,18 +21,19 @@ fn larger(a: usize, b: usize) -> usize
 }
 
 // The depth that is noted for node n.
-fn depth_of(depths: &[usize; 512], n: usize) -> usize
+fn depth_of(depths: &[u16; 512], n: usize) -> usize
     requires { ⌜ Bounded (now depths) ⌝ }
     ensures { λ r. ⌜ r ≡ depthIn (now (depths .entry)) n ⌝ }
     ensures { λ r. ⌜ r ≤ 512 ⌝ }
 {
-    if n < 512 { depths[n] } else { 0 }
+    if n < 512 { depths[n] as usize } else { 0 }
 }
 
 // How many nodes the longest chain from a node has, with its children's depths noted.
-fn chain_from(depths: &[usize; 512], node: Node) -> usize
+fn chain_from(depths: &[u16; 512], node: Node) -> usize
     requires { ⌜ Bounded (now depths) ⌝ }
     ensures { λ r. ⌜ r ≡ suc (largest (map (depthIn (now (depths .entry))) (children (nodeOf (recordOf node))))) ⌝ }
+    ensures { λ r. ⌜ r ≤ 513 ⌝ }
 {
     let count = child_count(node.kind);
     if count < 1 {
@@ -50,47 +51,51 @@ fn chain_from(depths: &[usize; 512], node: Node) -> usize
 }
 
 // Notes the depth of each node. A child's number is below its parent's, so its depth is noted before.
-fn note_depths(file: &[u8], from: usize, count: usize, depths: &mut [usize; 512])
-    requires { ⌜ (from + 8 * count ≤ 1000000)
-        × (count ≤ 512)
-        × (ChildrenBelow (map nodeOf (nodeRecords count (now file) from)))
-        × (Bounded (now depths)) ⌝ }
-    ensures { λ _. ⌜ Chains (map nodeOf (nodeRecords count (now (file .entry)) from)) count (now (depths .exit)) ⌝ }
+fn note_depths(nodes: &[u16], depths: &mut [u16; 512])
+    requires { ⌜ (length (now nodes) ≤ 2560)
+        × (ChildrenBelow (map nodeOf (nodesFrom (length (now nodes) / 5) (now nodes) 0)))
+        × (Chains (map nodeOf (nodesFrom (length (now nodes) / 5) (now nodes) 0)) 0 (now depths)) ⌝ }
+    ensures { λ _. ⌜ Chains (map nodeOf (nodesFrom (length (now (nodes .entry)) / 5) (now (nodes .entry)) 0))
+        (length (now (nodes .entry)) / 5) (now (depths .exit)) ⌝ }
 {
-    let mut at = from;
+    let count = nodes.len() / 5;
+    let mut at: usize = 0;
     let mut n: usize = 0;
     while n < count {
-        let node = read_node(file, at);
+        let node = node_from(nodes, at);
         let chain = chain_from(depths, node);
-        depths[n] = chain;
-        at += 8;
+        depths[n] = chain as u16;
+        at += 5;
         n += 1;
     }
 }
 
-fn roots_too_deep(file: &[u8], from: usize, count: usize, depths: &[usize; 512]) -> bool
-    requires { ⌜ (from + 513 * count ≤ 200000) × (Bounded (now depths)) ⌝ }
-    ensures { λ r. ⌜ r ≡ any (rootTooDeep (now (depths .entry))) (functionRecords count (now (file .entry)) from) ⌝ }
+fn roots_too_deep(functions: &[u16], depths: &[u16; 512]) -> bool
+    requires { ⌜ Bounded (now depths) ⌝ }
+    ensures { λ r. ⌜ ((parameters : List ℕ) → r ≡ any (rootTooDeep (now (depths .entry)))
+        (functionsFrom parameters (length (now (functions .entry)) / 3) (now (functions .entry)) 0)) ⌝ }
 {
-    let mut at = from;
-    let mut left = count;
+    let mut at: usize = 0;
+    let mut left = functions.len() / 3;
     while 0 < left {
-        at = function_end(file, at);
-        let root = two_bytes_at(file, at - 2);
+        let root = number_from(functions, at + 2);
         if 64 < depth_of(depths, root) {
             return true;
         }
+        at += 3;
         left -= 1;
     }
     false
 }
 
 // "6. A chain from root to leaf has more than 64 nodes."
-pub fn too_deep(file: &[u8], l: Layout) -> bool
-    requires { ⌜ InOrder (now file) l ⌝ }
-    ensures { λ r. ⌜ r ≡ tooDeep (sectionsOf (now (file .entry))) ⌝ }
+pub fn too_deep(functions: &[u16], nodes: &[u16]) -> bool
+    requires { ⌜ (Shaped (now functions) (now nodes))
+        × (ChildrenBelow (map nodeOf (nodesFrom (length (now nodes) / 5) (now nodes) 0))) ⌝ }
+    ensures { λ r. ⌜ ((fields parameters : List ℕ)
+        → r ≡ tooDeep (sectionsFrom fields (now (functions .entry)) parameters (now (nodes .entry)))) ⌝ }
 {
-    let mut depths = [0usize; 512];
-    note_depths(file, l.nodes_at + 2, l.nodes, &mut depths);
-    roots_too_deep(file, l.functions_at + 1, l.functions, &depths)
+    let mut depths = [0u16; 512];
+    note_depths(nodes, &mut depths);
+    roots_too_deep(functions, &depths)
 }

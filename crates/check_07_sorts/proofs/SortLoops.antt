@@ -2,38 +2,41 @@
 use mathlib.Core.Path.{_≡_, refl, ap, sym, _∙_}
 use mathlib.Core.Bool.{Bool, true, false, not, _&&_, _||_}
 use mathlib.Core.List.{List}
-use Prim.Native.Nat.{ℕ, _+_, _*_, _-_, _<_, _≤_}
+use Prim.Native.Nat.{ℕ, _+_, _*_, _-_, _/_, _<_, _≤_}
 use native.Mathlib.Omega.{arith}
 use lib.Dec.{ltb}
+use lib.ListN.{length}
 use borrow.Author.Tests.{lt-ltb, le-ltb}
 use Rattle.definitions.specs.Basics.{any}
-use Rattle.definitions.specs.ContractFile.{NodeRecord, byteAt, twoBytesAt, functionEnd, functionRecord, functionRecords, nodeRecord, nodeRecords, sectionsOf, Kind, constantKind, meKind, fieldKind, entryKind, parameterKind, operatorKind, negationKind, revealKind, skipKind, sequenceKind, assignFieldKind, assignEntryKind, requireKind, conditionalKind, noKind, kindOf, Node, nodeOf, nodeOfKind, nodeAt, isExpression, isStatement, expressionParts, statementParts}
+use Rattle.definitions.specs.ContractFile.{NodeRecord, Kind, constantKind, meKind, fieldKind, entryKind, parameterKind, operatorKind, negationKind, revealKind, skipKind, sequenceKind, assignFieldKind, assignEntryKind, requireKind, conditionalKind, noKind, kindOf, Node, nodeOf, nodeOfKind, nodeAt, isExpression, isStatement, expressionParts, statementParts}
 use Rattle.definitions.specs.Numbers.{wrongSort}
-use Rattle.file_bytes.specs.declared.Layout.{Layout}
 use Rattle.file_bytes.specs.declared.Node as file-node
-use Rattle.file_bytes.specs.Layout.{IsLayout}
-use Rattle.file_bytes.specs.Node.{recordOf, IsNode}
-use Rattle.file_bytes.proofs.Sections.{functions-are, nodes-are}
+use Rattle.file_bytes.specs.Node.{recordOf}
+use Rattle.file_decoded.specs.Slices.{numberAt, functionFrom, functionsFrom, nodeFrom, nodesFrom, sectionsFrom}
+use Rattle.file_decoded.proofs.Records.{functions-step, functions-end, nodes-step, nodes-end, node-within, node-past}
+use Rattle.file_decoded.specs.Node.{IsDecoded}
 use Rattle.file_children.specs.Children.{childrenOfKind, expressionsOfKind, childCount, expressionCount, isExpressionKind, isStatementKind}
 use Rattle.file_children.proofs.Truth.{or-false}
 use Rattle.file_children.proofs.Children.{expression-is, statement-is}
-use Rattle.file_children.proofs.Lookups.{node-within, node-past, any-map}
-use Rattle.file_children.proofs.Scans.{functions-next, functions-found, nodes-next, nodes-found}
+use Rattle.file_children.proofs.Loops.{any-next, any-found, any-done, any-map}
 use Rattle.check_07_sorts.specs.Sorts.{nodesIn, hasSort, rootWrong, partsWrong}
 
 -- Nodes that are looked up.
-pub no-sort : (count : ℕ) (file : List ℕ) (at : ℕ) (expression : Bool) (n : ℕ) → count ≤ n → false ≡ hasSort (nodesIn count file at) expression n
-no-sort count file at true n h = sym (ap isExpression (node-past count file (at + 2) n h))
-no-sort count file at false n h = sym (ap isStatement (node-past count file (at + 2) n h))
+pub no-sort : (numbers : List ℕ) (expression : Bool) (n : ℕ) → length numbers / 5 ≤ n → false ≡ hasSort (nodesIn numbers) expression n
+no-sort numbers true n h = sym (ap isExpression (node-past (length numbers / 5) numbers 0 n h))
+no-sort numbers false n h = sym (ap isStatement (node-past (length numbers / 5) numbers 0 n h))
 
-module _ (count : ℕ) (file : List ℕ) (at n kind : ℕ) (h : n < count) (e : kind ≡ byteAt file (at + 2 + 8 * n)) where
-  pub expression-there : isExpressionKind kind ≡ isExpression (nodeAt (nodesIn count file at) n)
-  expression-there =
-      ap isExpressionKind e ∙ sym (expression-is (nodeRecord file (at + 2 + 8 * n))) ∙ sym (ap isExpression (node-within count file (at + 2) n h))
+module _ (numbers : List ℕ) (n kind : ℕ) (h : n < length numbers / 5) (is : kind ≡ numberAt numbers (5 * n)) where
+  there : nodeAt (nodesIn numbers) n ≡ nodeOf (nodeFrom numbers (5 * n))
+  there =
+      let e : 0 + 5 * n ≡ 5 * n = omega arith in
+      node-within (length numbers / 5) numbers 0 n h ∙ ap (λ (k : ℕ). nodeOf (nodeFrom numbers k)) e
 
-  pub statement-there : isStatementKind kind ≡ isStatement (nodeAt (nodesIn count file at) n)
-  statement-there =
-      ap isStatementKind e ∙ sym (statement-is (nodeRecord file (at + 2 + 8 * n))) ∙ sym (ap isStatement (node-within count file (at + 2) n h))
+  pub expression-there : isExpressionKind kind ≡ isExpression (nodeAt (nodesIn numbers) n)
+  expression-there = ap isExpressionKind is ∙ sym (expression-is (nodeFrom numbers (5 * n))) ∙ sym (ap isExpression there)
+
+  pub statement-there : isStatementKind kind ≡ isStatement (nodeAt (nodesIn numbers) n)
+  statement-there = ap isStatementKind is ∙ sym (statement-is (nodeFrom numbers (5 * n))) ∙ sym (ap isStatement there)
 
 or-three : (a b c : Bool) → (a || false) || (b || (c || false)) ≡ a || (b || c)
 or-three true b c = refl
@@ -108,42 +111,47 @@ module _ (nodes : List Node) (r : NodeRecord) (count expressions : ℕ) (a : cou
       unfolding wrongChildren
       third-asked u l third k = rw (by-child, lt-ltb 0 count h, ← e, t, lt-ltb 1 count g, ← f, u, lt-ltb 2 count l, k)
 
--- The loops.
-module _ (nodes : List Node) (left : ℕ) (file : List ℕ) (at : ℕ) (goal : Bool) (inv : any (rootWrong nodes) (functionRecords left file at) ≡ goal)
-    (h : 0 < left) (next : ℕ) (a : next ≡ functionEnd file at) (root : ℕ) (b : root ≡ twoBytesAt file (next - 2)) (right : Bool)
-    (e : right ≡ hasSort nodes false root) where
-  root-asked : rootWrong nodes (functionRecord file at) ≡ not right
-  root-asked = ap (λ (n : ℕ). not (isStatement (nodeAt nodes n))) (sym (b ∙ ap (λ (n : ℕ). twoBytesAt file (n - 2)) a)) ∙ ap not (sym e)
+-- The loops: what is left to ask has the same answer.
+module _ (nodes : List Node) (parameters : List ℕ) (left : ℕ) (functions : List ℕ) (at : ℕ) (goal : Bool)
+    (inv : any (rootWrong nodes) (functionsFrom parameters left functions at) ≡ goal) where
+  module _ (h : 0 < left) (root : ℕ) (b : root ≡ numberAt functions (at + 2)) (right : Bool) (e : right ≡ hasSort nodes false root) where
+    root-asked : rootWrong nodes (functionFrom parameters functions at) ≡ not right
+    root-asked = ap (λ (n : ℕ). not (isStatement (nodeAt nodes n))) (sym b) ∙ ap not (sym e)
 
-  pub root-right : not right ≡ false → any (rootWrong nodes) (functionRecords (left - 1) file next) ≡ goal
-  root-right t = functions-next (rootWrong nodes) left file at goal inv h next a (root-asked ∙ t)
+    pub root-right : not right ≡ false → any (rootWrong nodes) (functionsFrom parameters (left - 1) functions (at + 3)) ≡ goal
+    root-right t = any-next (rootWrong nodes) _ _ _ goal (functions-step parameters functions at left h) inv (root-asked ∙ t)
 
-  pub root-wrong : not right ≡ true → true ≡ goal
-  root-wrong t = functions-found (rootWrong nodes) left file at goal inv h (root-asked ∙ t)
+    pub root-wrong : not right ≡ true → true ≡ goal
+    root-wrong t = any-found (rootWrong nodes) _ _ _ goal (functions-step parameters functions at left h) inv (root-asked ∙ t)
+
+  pub roots-right : left ≤ 0 → false ≡ goal
+  roots-right h = any-done (rootWrong nodes) _ goal (functions-end parameters functions at left h) inv
 
 abbrev pub nodeWrong : List Node → NodeRecord → Bool
 nodeWrong nodes r = partsWrong nodes (nodeOf r)
 
-pub nodes-all : (count : ℕ) (file : List ℕ) (at : ℕ)
-    → any (nodeWrong (nodesIn count file at)) (nodeRecords count file (at + 2)) ≡ any (partsWrong (nodesIn count file at)) (nodesIn count file at)
-nodes-all count file at = sym (any-map (partsWrong (nodesIn count file at)) nodeOf (nodeRecords count file (at + 2)))
+pub nodes-all : (numbers : List ℕ)
+    → any (nodeWrong (nodesIn numbers)) (nodesFrom (length numbers / 5) numbers 0) ≡ any (partsWrong (nodesIn numbers)) (nodesIn numbers)
+nodes-all numbers = sym (any-map (partsWrong (nodesIn numbers)) nodeOf (nodesFrom (length numbers / 5) numbers 0))
 
-module _ (nodes : List Node) (left : ℕ) (file : List ℕ) (at : ℕ) (goal : Bool) (inv : any (nodeWrong nodes) (nodeRecords left file at) ≡ goal)
-    (h : 0 < left) (node : file-node.Node) (is : IsNode (nodeRecord file at) node) (wrong : Bool)
-    (e : wrong ≡ partsWrong nodes (nodeOf (recordOf node))) where
-  node-asked : nodeWrong nodes (nodeRecord file at) ≡ wrong
-  node-asked = ap (nodeWrong nodes) (sym (is .same)) ∙ sym e
+module _ (nodes : List Node) (left : ℕ) (numbers : List ℕ) (at : ℕ) (goal : Bool) (inv : any (nodeWrong nodes) (nodesFrom left numbers at) ≡ goal) where
+  module _ (h : 0 < left) (node : file-node.Node) (is : IsDecoded (nodeFrom numbers at) node) (wrong : Bool)
+      (e : wrong ≡ partsWrong nodes (nodeOf (recordOf node))) where
+    node-asked : nodeWrong nodes (nodeFrom numbers at) ≡ wrong
+    node-asked = ap (nodeWrong nodes) (sym (is .same)) ∙ sym e
 
-  pub node-right : wrong ≡ false → any (nodeWrong nodes) (nodeRecords (left - 1) file (at + 8)) ≡ goal
-  node-right t = nodes-next (nodeWrong nodes) left file at goal inv h (node-asked ∙ t)
+    pub node-right : wrong ≡ false → any (nodeWrong nodes) (nodesFrom (left - 1) numbers (at + 5)) ≡ goal
+    node-right t = any-next (nodeWrong nodes) _ _ _ goal (nodes-step numbers at left h) inv (node-asked ∙ t)
 
-  pub node-wrong : wrong ≡ true → true ≡ goal
-  node-wrong t = nodes-found (nodeWrong nodes) left file at goal inv h (node-asked ∙ t)
+    pub node-wrong : wrong ≡ true → true ≡ goal
+    node-wrong t = any-found (nodeWrong nodes) _ _ _ goal (nodes-step numbers at left h) inv (node-asked ∙ t)
 
--- Number 7 in a layout's numbers.
-pub sorts-wrong : (file : List ℕ) (l : Layout) → IsLayout file l
-    → wrongSort (sectionsOf file)
-    ≡ (any (rootWrong (nodesIn (l .nodes) file (l .«nodes_at»))) (functionRecords (l .functions) file (l .«functions_at» + 1))
-    || any (partsWrong (nodesIn (l .nodes) file (l .«nodes_at»))) (nodesIn (l .nodes) file (l .«nodes_at»)))
+  pub nodes-right : left ≤ 0 → false ≡ goal
+  nodes-right h = any-done (nodeWrong nodes) _ goal (nodes-end numbers at left h) inv
+
+-- Number 7 of the sections that slices hold.
+pub sorts-wrong : (fields functions parameters nodes : List ℕ)
+    → wrongSort (sectionsFrom fields functions parameters nodes)
+    ≡ (any (rootWrong (nodesIn nodes)) (functionsFrom parameters (length functions / 3) functions 0) || any (partsWrong (nodesIn nodes)) (nodesIn nodes))
 unfolding wrongSort
-sorts-wrong file l is = rw (is .functions, is .functionsStart, is .nodes, is .nodesStart, functions-are file, nodes-are file)
+sorts-wrong fields functions parameters nodes = refl

@@ -1,18 +1,15 @@
 -- 01, number 7: roots and children of another sort than is due.
 use mathlib.Core.Bool.{Bool, cond, not, _||_}
 use mathlib.Core.List.{List, map}
-use Prim.Native.Nat.{ℕ, _+_, _≤_}
+use Prim.Native.Nat.{ℕ, _/_}
+use lib.ListN.{length}
 use Rattle.definitions.specs.Basics.{any}
-use Rattle.definitions.specs.ContractFile.{FunctionRecord, nodeRecords, Node, nodeOf, nodeAt, isExpression, isStatement, expressionParts}
-use Rattle.definitions.specs.ContractFile.{statementParts}
+use Rattle.definitions.specs.ContractFile.{FunctionRecord, Node, nodeOf, nodeAt, isExpression, isStatement, expressionParts, statementParts}
+use Rattle.file_decoded.specs.Slices.{nodesFrom}
 
-pub record InReach (nodesStart nodes : ℕ) : Type 0 where
-  pub near : nodesStart ≤ 200000
-  pub few : nodes ≤ 65535
-
--- The nodes of the section whose count stands at a place.
-abbrev pub nodesIn : ℕ → List ℕ → ℕ → List Node
-nodesIn count file at = map nodeOf (nodeRecords count file (at + 2))
+-- The nodes whose numbers a slice holds.
+abbrev pub nodesIn : List ℕ → List Node
+nodesIn numbers = map nodeOf (nodesFrom (length numbers / 5) numbers 0)
 
 -- Node n is an expression, or a statement.
 abbrev pub hasSort : List Node → Bool → ℕ → Bool

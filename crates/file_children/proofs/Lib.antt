@@ -1,9 +1,6 @@
 pub mod Truth
 pub mod Loops
-pub mod Steps
-pub mod Scans
 pub mod Children
 pub mod Parts
 pub mod ByCount
 pub mod Tests
-pub mod Lookups

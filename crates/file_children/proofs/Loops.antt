@@ -1,7 +1,7 @@
 -- Steps of a loop that asks whether some element of a list passes a test: what is left to ask has the same answer.
-use mathlib.Core.Path.{_≡_, refl}
-use mathlib.Core.Bool.{Bool, true, false, _&&_}
-use mathlib.Core.List.{List, [], _∷_}
+use mathlib.Core.Path.{_≡_, refl, ap}
+use mathlib.Core.Bool.{Bool, true, false, _&&_, _||_}
+use mathlib.Core.List.{List, [], _∷_, map}
 use Prim.Native.Nat.{ℕ, zero, suc, _+_, _<_}
 use native.Mathlib.Omega.{arith}
 use native.Mathlib.Numerals.{add-one}
@@ -18,6 +18,11 @@ module _ {A : Type 0} (test : A → Bool) (x : A) (xs ys : List A) (goal : Bool)
   pub any-found : test x ≡ true → true ≡ goal
   unfolding any
   any-found h = rw (e, h) at inv
+
+pub any-map : {A B : Type 0} (test : B → Bool) (f : A → B) (xs : List A) → any test (map f xs) ≡ any (λ x. test (f x)) xs
+unfolding any
+any-map test f [] = refl
+any-map test f (x ∷ xs) = ap (λ (b : Bool). test (f x) || b) (any-map test f xs)
 
 pub any-done : {A : Type 0} (test : A → Bool) (ys : List A) (goal : Bool) → ys ≡ [] → any test ys ≡ goal → false ≡ goal
 unfolding any

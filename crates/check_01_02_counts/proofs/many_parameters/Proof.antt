@@ -4,8 +4,7 @@ use native.Mathlib.Omega.{arith}
 use borrow.Author.Needs.{needs}
 use Rattle.definitions.specs.Basics.{any}
 use Rattle.definitions.specs.ContractFile.{functionRecords}
-use Rattle.file_children.proofs.Scans.{functions-done}
-use Rattle.check_01_02_counts.proofs.ManyParameters.{hasManyParameters, many-next, many-found}
+use Rattle.check_01_02_counts.proofs.ManyParameters.{hasManyParameters, many-next, many-found, none-many}
 use Rattle.check_01_02_counts.proofs.many_parameters.Statement.{statement}
 use Rattle.check_01_02_counts.proofs.many_parameters.Tie as tie
 
@@ -29,4 +28,4 @@ many-parameters-spec =
           (c .function-end .ensures .0),
       omega arith,
     ))
-    (λ c. let (any-is, _) = c .before .loop .inv in functions-done _ _ _ _ _ any-is (c .loop-test .left)))
+    (λ c. let (any-is, _) = c .before .loop .inv in none-many _ _ _ _ any-is (c .loop-test .left)))

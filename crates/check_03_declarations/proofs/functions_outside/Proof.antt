@@ -1,35 +1,40 @@
-use mathlib.Core.Path.{_≡_}
-use Prim.Native.Nat.{_+_, _*_, _≤_}
+use mathlib.Core.Path.{_≡_, ap}
+use Prim.Native.Nat.{ℕ, _*_, _-_, _/_, _≤_}
 use native.Mathlib.Omega.{arith}
+use lib.ListN.{length}
 use borrow.Author.Needs.{needs}
 use Rattle.definitions.specs.Basics.{any}
-use Rattle.definitions.specs.ContractFile.{functionRecords}
-use Rattle.file_children.proofs.Scans.{functions-done}
+use Rattle.file_decoded.specs.Slices.{functionsFrom}
 use Rattle.check_03_declarations.specs.Outside.{functionOutside}
-use Rattle.check_03_declarations.proofs.DeclarationLoops.{function-inside, function-outside}
+use Rattle.check_03_declarations.proofs.DeclarationLoops.{function-inside, function-outside, functions-inside}
 use Rattle.check_03_declarations.proofs.functions_outside.Statement.{statement}
 use Rattle.check_03_declarations.proofs.functions_outside.Tie as tie
 
 abbrev Inv-loop : tie.InvT-loop
-Inv-loop file from count at₀ left₀ at left =
-    (any functionOutside (functionRecords left file at) ≡ any functionOutside (functionRecords count file from)) × (at + 513 * left ≤ 200000)
+Inv-loop functions parameters count f₀ f =
+    (any functionOutside (functionsFrom parameters (count - f) functions (3 * f)) ≡ any functionOutside (functionsFrom parameters (length functions / 3) functions 0))
+    × (f ≤ count)
 
 abbrev μ-loop : tie.MeasureT-loop
-μ-loop file from count at₀ left₀ at left = left
+μ-loop functions parameters count f₀ f = count - f
 
 pub functions-outside-spec : {M : Type 1} → statement M
 functions-outside-spec =
     tie.close (tie.spec Inv-loop μ-loop
-    (λ c. search needs) (λ c κs. search needs) (λ c. search needs) (λ c κs. search needs)
-    (λ c. let count = c .before .before in
-    let turn = count .before in
-    function-outside _ _ _ _ (turn .before .loop .inv .0) (turn .loop-test .taken) _ (count .byte-at .ensures .0) _
-    (c .before .parameters-outside .ensures) (c .if1 .taken))
-    (λ c κs. search needs) (λ c. search needs) (λ c. search needs)
-    (λ c. let count = c .before .before .before in
-    let turn = count .before in (
-      function-inside _ _ _ _ (turn .before .loop .inv .0) (turn .loop-test .taken) _ (count .byte-at .ensures .0) _
-          (c .before .before .parameters-outside .ensures) (c .before .if1 .left) _ (c .function-end .ensures .0),
+    (λ c. let args = c .before .before .args in
+    let all : length (args .functions .now) / 3 - 0 ≡ length (args .functions .now) / 3 = omega arith in
+    (ap (λ (n : ℕ). any functionOutside (functionsFrom (args .parameters .now) n (args .functions .now) 0)) all, omega arith))
+    (λ c. search needs) (λ c κs. omega arith) (λ c. search needs) (λ c. search needs) (λ c κs. omega arith)
+    (λ c κs. let start = c .before .before .before .before .before .before in let loop = c .before .before .before .loop in
+    omega (arith, start .pre .each (loop .f) (omega arith), c .number-from2 .ensures .0, c .before .number-from .ensures .0))
+    (λ c. let own = c .before .before in let turn = own .before .before in let args = turn .before .before .before .before .args in
+    function-outside _ _ (args .functions .now) (args .parameters .now) _ (turn .before .loop .inv .0) (turn .loop-test .taken) _ _ (own .before .number-from .ensures .0)
+    (own .number-from2 .ensures .0) _ (c .before .parameters-outside .ensures) (c .if1 .taken))
+    (λ c. search needs) (λ c. search needs)
+    (λ c. let own = c .before .before in let turn = own .before .before in let args = turn .before .before .before .before .args in (
+      function-inside _ _ (args .functions .now) (args .parameters .now) _ (turn .before .loop .inv .0) (turn .loop-test .taken) _ _ (own .before .number-from .ensures .0)
+          (own .number-from2 .ensures .0) _ (c .before .parameters-outside .ensures) (c .if1 .left),
       omega arith,
     ))
-    (λ c. let (any-is, _) = c .before .loop .inv in functions-done _ _ _ _ _ any-is (c .loop-test .left)))
+    (λ c. let args = c .before .before .before .before .args in
+    functions-inside _ _ (args .functions .now) (args .parameters .now) _ (c .before .loop .inv .0) (c .loop-test .left)))

@@ -7,26 +7,23 @@ pub names-nothing-spec : {M : Type 1} → statement M
 names-nothing-spec =
     tie.close (tie.spec
     (λ c κs. search needs)
-    (λ c. let start = c .before .before .before in
-    rw (nothing-named _ _ (start .pre), ← c .before .owners-name-nothing .ensures, c .if1 .taken))
-    (λ c. search needs) (λ c κs. search needs)
-    (λ c. let first = c .before .before .before in
-    let start = first .before .before .before in
+    (λ c parameters. rw (nothing-named _ _ parameters _, ← c .before .owners-name-nothing .ensures, c .if1 .taken))
+    (λ c κs. search needs)
+    (λ c parameters. let first = c .before .before in
     rw (
-      nothing-named _ _ (start .pre),
+      nothing-named _ _ parameters _,
       ← first .before .owners-name-nothing .ensures,
       first .if1 .left,
-      ← c .before .roots-name-nothing .ensures,
+      ← c .before .roots-name-nothing .ensures parameters,
       c .if2 .taken,
     ))
-    (λ c. search needs) (λ c κs. search needs)
-    (λ c. let second = c .before .before in
-    let first = second .before .before .before in
-    let start = first .before .before .before in
+    (λ c κs. search needs)
+    (λ c parameters. let second = c .before in
+    let first = second .before .before in
     rw (
-      nothing-named _ _ (start .pre),
+      nothing-named _ _ parameters _,
       ← first .before .owners-name-nothing .ensures,
       first .if1 .left,
-      ← second .before .roots-name-nothing .ensures,
+      ← second .before .roots-name-nothing .ensures parameters,
       second .if2 .left,
     ) (c .nodes-name-nothing .ensures)))

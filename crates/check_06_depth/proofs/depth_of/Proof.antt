@@ -6,4 +6,8 @@ use Rattle.check_06_depth.proofs.depth_of.Statement.{statement}
 use Rattle.check_06_depth.proofs.depth_of.Tie as tie
 
 pub depth-of-spec : {M : Type 1} → statement M
-depth-of-spec = tie.close (tie.spec (λ c. search needs) (λ c. search needs) (λ c. (refl, c .before .before .pre .each (c .before .before .args .n))) (λ c. let args = c .before .args in (sym (byteAt-past (args .depths .now) (args .n) (omega (arith, c .before .pre .long))), omega arith)))
+depth-of-spec =
+    tie.close (tie.spec (λ c. search needs) (λ c. search needs)
+    (λ c. omega (arith, c .before .before .pre .each (c .before .before .args .n)))
+    (λ c. (refl, c .before .before .pre .each (c .before .before .args .n)))
+    (λ c. let args = c .before .args in (sym (byteAt-past (args .depths .now) (args .n) (omega (arith, c .before .pre .long))), omega arith)))

@@ -7,11 +7,11 @@ use Rattle.check_07_sorts.proofs.has_sort.Tie as tie
 pub has-sort-spec : {M : Type 1} → statement M
 has-sort-spec =
     tie.close (tie.spec
-    (λ c. no-sort _ _ _ (c .before .before .args .expression) _ (c .if1 .taken))
-    (λ c. search needs) (λ c. search needs) (λ c. search needs) (λ c κs. search needs) (λ c κs. search needs) (λ c κs. search needs)
-    (λ c. let args-nodes-at = c .before .before .before .before .before .args .nodes-at in
-    rw (c .before .if2 .taken) (c .is-expression-kind .ensures ∙ expression-there _ _ args-nodes-at _ _
-    (c .before .before .before .if1 .left) (c .before .before .byte-at .ensures .0)))
-    (λ c. let args-nodes-at = c .before .before .before .before .before .args .nodes-at in
-    rw (c .before .if2 .left) (c .is-statement-kind .ensures ∙ statement-there _ _ args-nodes-at _ _
-    (c .before .before .before .if1 .left) (c .before .before .byte-at .ensures .0))))
+    (λ c. let args = c .before .before .args in no-sort (args .nodes .now) (args .expression) _ (c .if1 .taken))
+    (λ c. search needs) (λ c κs. search needs) (λ c κs. search needs) (λ c κs. search needs)
+    (λ c. let numbers = c .before .before .before .before .before .args .nodes .now in
+    rw (c .before .if2 .taken) (c .is-expression-kind .ensures ∙ expression-there numbers _ _
+    (c .before .before .before .if1 .left) (c .before .before .number-from .ensures .0)))
+    (λ c. let numbers = c .before .before .before .before .before .args .nodes .now in
+    rw (c .before .if2 .left) (c .is-statement-kind .ensures ∙ statement-there numbers _ _
+    (c .before .before .before .if1 .left) (c .before .before .number-from .ensures .0))))

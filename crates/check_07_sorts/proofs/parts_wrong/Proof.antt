@@ -10,16 +10,16 @@ parts-wrong-spec =
     tie.close (tie.spec
     (λ c κs. search needs) (λ c κs. search needs)
     (λ c. let s = c .before .before .before .before in
-    none-wrong (nodesIn (s .args .nodes) (s .args .file .now) (s .args .nodes-at)) (recordOf (s .args .node)) _ _
+    none-wrong (nodesIn (s .args .nodes .now)) (recordOf (s .args .node)) _ _
     (c .before .before .child-count .ensures) (c .before .expression-count .ensures) (c .if1 .taken))
     (λ c κs. search needs)
     (λ c. let s = c .before .before .before .before .before .before in
-    first-wrong (nodesIn (s .args .nodes) (s .args .file .now) (s .args .nodes-at)) (recordOf (s .args .node)) _ _
+    first-wrong (nodesIn (s .args .nodes .now)) (recordOf (s .args .node)) _ _
     (c .before .before .before .before .child-count .ensures) (c .before .before .before .expression-count .ensures) (c .before .before .if1 .left) _
     (c .before .has-sort .ensures) (c .if2 .taken))
     (λ c. let child-count = c .before .before .before .before .before .child-count .ensures in
     let s = c .before .before .before .before .before .before .before in
-    only-first-right (nodesIn (s .args .nodes) (s .args .file .now) (s .args .nodes-at)) (recordOf (s .args .node)) _ _
+    only-first-right (nodesIn (s .args .nodes .now)) (recordOf (s .args .node)) _ _
     child-count (c .before .before .before .before .expression-count .ensures)
     (c .before .before .before .if1 .left) _ (c .before .before .has-sort .ensures) (c .before .if2 .left) (c .if3 .taken))
     (λ c κs. search needs)
@@ -27,7 +27,7 @@ parts-wrong-spec =
     let expression-count = c .before .before .before .before .before .before .expression-count .ensures in
     let if1-left = c .before .before .before .before .before .if1 .left in
     let s = c .before .before .before .before .before .before .before .before .before in
-    second-wrong (nodesIn (s .args .nodes) (s .args .file .now) (s .args .nodes-at)) (recordOf (s .args .node)) _ _
+    second-wrong (nodesIn (s .args .nodes .now)) (recordOf (s .args .node)) _ _
     child-count
     expression-count if1-left _
     (c .before .before .before .before .has-sort .ensures) (c .before .before .before .if2 .left) (c .before .before .if3 .left) _
@@ -37,7 +37,7 @@ parts-wrong-spec =
     let if1-left = c .before .before .before .before .before .before .if1 .left in
     let has-sort = c .before .before .before .before .before .has-sort .ensures in
     let s = c .before .before .before .before .before .before .before .before .before .before in
-    only-two-right (nodesIn (s .args .nodes) (s .args .file .now) (s .args .nodes-at)) (recordOf (s .args .node)) _ _
+    only-two-right (nodesIn (s .args .nodes .now)) (recordOf (s .args .node)) _ _
     child-count
     expression-count
     if1-left _ has-sort
@@ -50,7 +50,7 @@ parts-wrong-spec =
     let has-sort = c .before .before .before .before .before .before .has-sort .ensures in
     let if2-left = c .before .before .before .before .before .if2 .left in
     let s = c .before .before .before .before .before .before .before .before .before .before .before in
-    third-asked (nodesIn (s .args .nodes) (s .args .file .now) (s .args .nodes-at)) (recordOf (s .args .node)) _ _
+    third-asked (nodesIn (s .args .nodes .now)) (recordOf (s .args .node)) _ _
     child-count
     expression-count
     if1-left _ has-sort

@@ -1,0 +1,168 @@
+-- The slices step by step: what is written stays, and records that agree place by place are the file's.
+use mathlib.Core.Path.{_≡_, refl, ap, ap₂, sym, _∙_}
+use mathlib.Core.Bool.{Bool, true, false}
+use mathlib.Core.List.{List, _∷_}
+use Prim.Native.Nat.{ℕ, zero, suc, _+_, _*_, _-_, _<_, _≤_}
+use native.Mathlib.Omega.{arith}
+use borrow.Author.Tests.{eqb-true, eqb-false}
+use lib.Dec.{eqb}
+use lib.ListN.{length, set, length-set}
+use lib.Seq.{getD-set-same, getD-set-other}
+use Rattle.definitions.specs.ContractFile.{ParameterRecord, NodeRecord, FieldRecord, byteAt, fieldRecords, parameterRecords, functionRecord, node, nodeRecord, nodeRecords}
+use Rattle.file_decoded.specs.Slices.{numberAt, fieldsFrom, parametersFrom, nodeFrom, nodesFrom}
+use Rattle.file_decoder.specs.Decoding.{SameBefore, Put, Copied, DecodedNode, DecodedFunction}
+
+pub put-set : (held : List ℕ) (at value : ℕ) → at < length held → Put held (set held at value) at value
+put-set held at value h =
+    record {
+      here = getD-set-same held at value 0 h;
+      others = λ i differ. getD-set-other held at i value 0 differ;
+      long = length-set held at value;
+    }
+
+-- Nothing before a place is touched by what is put there or behind it.
+pub same-refl : (held : List ℕ) (at : ℕ) → SameBefore held held at
+same-refl held at = record { front = λ i h. refl; long = refl }
+
+pub same-then : (a b c : List ℕ) (at : ℕ) → SameBefore a b at → SameBefore b c at → SameBefore a c at
+same-then a b c at p q = record { front = λ i h. q .front i h ∙ p .front i h; long = q .long ∙ p .long }
+
+pub same-less : (a b : List ℕ) (at later : ℕ) → at ≤ later → SameBefore a b later → SameBefore a b at
+same-less a b at later le p = record { front = λ i h. p .front i (omega arith); long = p .long }
+
+pub put-kept : (before after : List ℕ) (at place value : ℕ) → at ≤ place → Put before after place value → SameBefore before after at
+put-kept before after at place value le p = record { front = λ i h. p .others i (λ e. omega arith); long = p .long }
+
+-- One byte more.
+pub copied-none : (file : List ℕ) (from : ℕ) (held : List ℕ) (at : ℕ) → Copied file from 0 held held at
+copied-none file from held at = record { each = λ i h. absurd (omega arith); kept = same-refl held at }
+
+pub copied-next : (file : List ℕ) (from i : ℕ) (before between after : List ℕ) (at value : ℕ) → Copied file from i before between at
+    → value ≡ byteAt file (from + i) → Put between after (at + i) value → Copied file from (i + 1) before after at
+copied-next file from i before between after at value c e p =
+    record {
+      each = λ j h. go j (eqb j i) refl h;
+      kept = same-then before between after at (c .kept) (put-kept between after at (at + i) value (omega arith) p);
+    }
+  where
+    go : (j : ℕ) (b : Bool) → eqb j i ≡ b → j < i + 1 → numberAt after (at + j) ≡ byteAt file (from + j)
+    go j true same h = let z = eqb-true j i same in rw z (p .here ∙ e)
+    go j false same h = let n = eqb-false j i same in p .others (at + j) (λ m. n (omega arith)) ∙ c .each j (below-or n h)
+      where
+        below-or : (j ≡ i → ⊥) → j < i + 1 → j < i
+        below-or differ h = omega arith
+
+pub copied-done : (file : List ℕ) (from i count : ℕ) (before after : List ℕ) (at : ℕ) → i ≤ count → count ≤ i → Copied file from i before after at → Copied file from count before after at
+copied-done file from i count before after at le ge c = let e : i ≡ count = omega arith in rw e at c
+
+-- A node's five numbers.
+pub node-put : (file : List ℕ) (from : ℕ) (a b c d e f : List ℕ) (at kind arg first second third : ℕ)
+    → Put a b at kind → Put b c (at + 1) arg → Put c d (at + 2) first → Put d e (at + 3) second → Put e f (at + 4) third
+    → node kind arg first second third ≡ nodeRecord file from → DecodedNode file from a f at
+node-put file from a b c d e f at kind arg first second third p q r s t is =
+    let kind-is : numberAt f at ≡ kind = t .others at (λ m. omega arith) ∙ s .others at (λ m. omega arith) ∙ r .others at (λ m. omega arith) ∙ q .others at (λ m. omega arith) ∙ p .here in
+    let arg-is : numberAt f (at + 1) ≡ arg = t .others (at + 1) (λ m. omega arith) ∙ s .others (at + 1) (λ m. omega arith) ∙ r .others (at + 1) (λ m. omega arith) ∙ q .here in
+    let first-is : numberAt f (at + 2) ≡ first = t .others (at + 2) (λ m. omega arith) ∙ s .others (at + 2) (λ m. omega arith) ∙ r .here in
+    let second-is : numberAt f (at + 3) ≡ second = t .others (at + 3) (λ m. omega arith) ∙ s .here in
+    let third-is : numberAt f (at + 4) ≡ third = t .here in
+    record {
+      is = (λ i. node (kind-is i) (arg-is i) (first-is i) (second-is i) (third-is i)) ∙ is;
+      kept =
+          same-then a b f at (put-kept a b at at kind (omega arith) p)
+          (same-then b c f at (put-kept b c at (at + 1) arg (omega arith) q)
+          (same-then c d f at (put-kept c d at (at + 2) first (omega arith) r)
+          (same-then d e f at (put-kept d e at (at + 3) second (omega arith) s) (put-kept e f at (at + 4) third (omega arith) t))));
+    }
+
+-- Nodes so far.
+pub record NodesSo (file : List ℕ) (from n : ℕ) (numbers : List ℕ) : Type 0 where
+  pub each : (m : ℕ) → m < n → nodeFrom numbers (5 * m) ≡ nodeRecord file (from + 8 * m)
+
+pub no-nodes : (file : List ℕ) (from : ℕ) (numbers : List ℕ) → NodesSo file from 0 numbers
+no-nodes file from numbers = record { each = λ m h. absurd (omega arith) }
+
+node-kept : (a b : List ℕ) (at m : ℕ) → SameBefore a b at → 5 * m + 5 ≤ at → nodeFrom b (5 * m) ≡ nodeFrom a (5 * m)
+node-kept a b at m s h =
+    λ i. node (s .front (5 * m) (omega arith) i) (s .front (5 * m + 1) (omega arith) i) (s .front (5 * m + 2) (omega arith) i) (s .front (5 * m + 3) (omega arith) i) (s .front (5 * m + 4) (omega arith) i)
+
+pub nodes-more : (file : List ℕ) (from n : ℕ) (before after : List ℕ) → NodesSo file from n before → DecodedNode file (from + 8 * n) before after (5 * n)
+    → NodesSo file from (n + 1) after
+nodes-more file from n before after so d = record { each = λ m h. go m (eqb m n) refl h }
+  where
+    go : (m : ℕ) (b : Bool) → eqb m n ≡ b → m < n + 1 → nodeFrom after (5 * m) ≡ nodeRecord file (from + 8 * m)
+    go m true same h = let z = eqb-true m n same in rw z (d .is)
+    go m false same h =
+        let differ = eqb-false m n same in
+        let below : m < n = omega arith in
+        node-kept before after (5 * n) m (d .kept) (omega arith) ∙ so .each m below
+
+nodes-extend : (count : ℕ) (file : List ℕ) (from : ℕ) (numbers : List ℕ) (at : ℕ)
+    → ((m : ℕ) → m < count → nodeFrom numbers (at + 5 * m) ≡ nodeRecord file (from + 8 * m)) → nodesFrom count numbers at ≡ nodeRecords count file from
+unfolding nodesFrom nodeRecords
+nodes-extend zero file from numbers at each = refl
+nodes-extend (suc count) file from numbers at each =
+    let here : at + 5 * 0 ≡ at = omega arith in
+    let there : from + 8 * 0 ≡ from = omega arith in
+    let first : nodeFrom numbers at ≡ nodeRecord file from = ap (nodeFrom numbers) (sym here) ∙ each 0 (omega arith) ∙ ap (nodeRecord file) there in
+    ap₂ (λ (r : NodeRecord) (rs : List NodeRecord). r ∷ rs) first
+    (nodes-extend count file (from + 8) numbers (at + 5) (λ m h.
+    let e : at + 5 + 5 * m ≡ at + 5 * suc m = omega arith in
+    let g : from + 8 * suc m ≡ from + 8 + 8 * m = omega arith in
+    ap (nodeFrom numbers) e ∙ each (suc m) (omega arith) ∙ ap (nodeRecord file) g))
+
+pub nodes-done : (file : List ℕ) (from n count : ℕ) (numbers : List ℕ) → count ≤ n → NodesSo file from n numbers → nodesFrom count numbers 0 ≡ nodeRecords count file from
+nodes-done file from n count numbers le so =
+    nodes-extend count file from numbers 0 (λ m h. let e : 0 + 5 * m ≡ 5 * m = omega arith in ap (nodeFrom numbers) e ∙ so .each m (omega arith))
+
+-- Fields and parameters lie in the numbers as in the bytes.
+pub fields-extend : (count : ℕ) (file : List ℕ) (from : ℕ) (numbers : List ℕ) (at : ℕ)
+    → ((i : ℕ) → i < 3 * count → numberAt numbers (at + i) ≡ byteAt file (from + i)) → fieldsFrom count numbers at ≡ fieldRecords count file from
+unfolding fieldsFrom fieldRecords
+fields-extend zero file from numbers at each = refl
+fields-extend (suc count) file from numbers at each =
+    let shift : (k i : ℕ) → k + i < 3 * suc count → numberAt numbers (at + k + i) ≡ byteAt file (from + k + i) =
+    λ k i h. let e : at + k + i ≡ at + (k + i) = omega arith in let g : from + (k + i) ≡ from + k + i = omega arith in
+    ap (numberAt numbers) e ∙ each (k + i) h ∙ ap (byteAt file) g in
+    let zero-at : at ≡ at + 0 = omega arith in
+    let zero-from : from + 0 ≡ from = omega arith in
+    let shape : numberAt numbers at ≡ byteAt file from = ap (numberAt numbers) zero-at ∙ each 0 (omega arith) ∙ ap (byteAt file) zero-from in
+    let type = each 1 (omega arith) in
+    let owner = each 2 (omega arith) in
+    ap₂ (λ (r : FieldRecord) (rs : List FieldRecord). r ∷ rs) (λ i. record { shape = shape i; type = type i; owner = owner i })
+    (fields-extend count file (from + 3) numbers (at + 3) (λ i h. shift 3 i (omega arith)))
+
+parameters-extend : (count : ℕ) (file : List ℕ) (from : ℕ) (numbers : List ℕ) (at : ℕ)
+    → ((i : ℕ) → i < 2 * count → numberAt numbers (at + i) ≡ byteAt file (from + i)) → parametersFrom count numbers at ≡ parameterRecords count file from
+unfolding parametersFrom parameterRecords
+parameters-extend zero file from numbers at each = refl
+parameters-extend (suc count) file from numbers at each =
+    let zero-at : at ≡ at + 0 = omega arith in
+    let zero-from : from + 0 ≡ from = omega arith in
+    let type : numberAt numbers at ≡ byteAt file from = ap (numberAt numbers) zero-at ∙ each 0 (omega arith) ∙ ap (byteAt file) zero-from in
+    let owner = each 1 (omega arith) in
+    ap₂ (λ (r : ParameterRecord) (rs : List ParameterRecord). r ∷ rs) (λ i. record { type = type i; owner = owner i })
+    (parameters-extend count file (from + 2) numbers (at + 2) (λ i h.
+    let e : at + 2 + i ≡ at + (2 + i) = omega arith in let g : from + (2 + i) ≡ from + 2 + i = omega arith in
+    ap (numberAt numbers) e ∙ each (2 + i) (omega arith) ∙ ap (byteAt file) g))
+
+-- A function's three numbers and its parameters.
+pub function-put : (file : List ℕ) (from : ℕ) (a b c d : List ℕ) (at : ℕ) (parameters parameters′ : List ℕ) (first count root : ℕ)
+    → count ≡ byteAt file from → Put a b at first → Put b c (at + 1) count → Put c d (at + 2) root → root ≡ functionRecord file from .root
+    → Copied file (from + 1) (2 * count) parameters parameters′ first → DecodedFunction file from a d at parameters parameters′ first
+function-put file from a b c d at parameters parameters′ first count root counted p q r root-is copied =
+    let start-is : numberAt d at ≡ first = r .others at (λ m. omega arith) ∙ q .others at (λ m. omega arith) ∙ p .here in
+    let count-is : numberAt d (at + 1) ≡ byteAt file from = r .others (at + 1) (λ m. omega arith) ∙ q .here ∙ counted in
+    let own : parametersFrom (byteAt file from) parameters′ first ≡ parameterRecords (byteAt file from) file (from + 1) =
+    parameters-extend (byteAt file from) file (from + 1) parameters′ first (λ i h. copied .each i (omega arith)) in
+    let listed : parametersFrom (numberAt d (at + 1)) parameters′ (numberAt d at) ≡ parameterRecords (byteAt file from) file (from + 1) =
+    (λ i. parametersFrom (count-is i) parameters′ (start-is i)) ∙ own in
+    let root-here : numberAt d (at + 2) ≡ functionRecord file from .root = r .here ∙ root-is in
+    record {
+      is = λ i. record { parameters = listed i; root = root-here i };
+      start = start-is;
+      count = count-is;
+      keptFunctions =
+          same-then a b d at (put-kept a b at at first (omega arith) p)
+          (same-then b c d at (put-kept b c at (at + 1) count (omega arith) q) (put-kept c d at (at + 2) root (omega arith) r));
+      keptParameters = copied .kept;
+    }

@@ -1,0 +1,71 @@
+-- What the decoder's steps leave in the slices, place by place.
+use mathlib.Core.Path.{_≡_}
+use mathlib.Core.List.{List}
+use Prim.Native.Nat.{ℕ, _+_, _*_, _/_, _<_, _≤_}
+use lib.ListN.{length}
+use Rattle.definitions.specs.ContractFile.{byteAt, functionEnd, functionsEnd, functionRecord, functionRecords, nodeRecord, fileEnd, sectionsOf}
+use Rattle.file_bytes.specs.declared.Layout.{Layout}
+use Rattle.file_bytes.specs.Layout.{IsLayout}
+use Rattle.file_decoded.specs.Slices.{numberAt, functionFrom, functionsFrom, nodeFrom, sectionsFrom, ParametersInside}
+
+-- Before a place nothing is changed, and the slice is as long as it was.
+pub record SameBefore (before after : List ℕ) (at : ℕ) : Type 0 where
+  pub front : (i : ℕ) → i < at → numberAt after i ≡ numberAt before i
+  pub long : length after ≡ length before
+
+-- One number at a place, the others as they were.
+pub record Put (before after : List ℕ) (at value : ℕ) : Type 0 where
+  pub here : numberAt after at ≡ value
+  pub others : (i : ℕ) → (i ≡ at → ⊥) → numberAt after i ≡ numberAt before i
+  pub long : length after ≡ length before
+
+pub record Copied (file : List ℕ) (from count : ℕ) (before after : List ℕ) (at : ℕ) : Type 0 where
+  pub each : (i : ℕ) → i < count → numberAt after (at + i) ≡ byteAt file (from + i)
+  pub kept : SameBefore before after at
+
+pub record DecodedNode (file : List ℕ) (from : ℕ) (before after : List ℕ) (at : ℕ) : Type 0 where
+  pub is : nodeFrom after at ≡ nodeRecord file from
+  pub kept : SameBefore before after at
+
+-- The function's bytes are there, and so is room for its numbers and those of its parameters.
+pub record FunctionRoom (file : List ℕ) (from : ℕ) (functions : List ℕ) (at : ℕ) (parameters : List ℕ) (first : ℕ) : Type 0 where
+  pub there : functionEnd file from ≤ length file
+  pub numbers : at + 3 ≤ length functions
+  pub forParameters : first + 2 * byteAt file from ≤ length parameters
+  pub small : first ≤ 65535
+
+pub record DecodedFunction (file : List ℕ) (from : ℕ) (functions functions′ : List ℕ) (at : ℕ)
+    (parameters parameters′ : List ℕ) (first : ℕ) : Type 0 where
+  pub is : functionFrom parameters′ functions′ at ≡ functionRecord file from
+  pub start : numberAt functions′ at ≡ first
+  pub count : numberAt functions′ (at + 1) ≡ byteAt file from
+  pub keptFunctions : SameBefore functions functions′ at
+  pub keptParameters : SameBefore parameters parameters′ first
+
+-- The functions' bytes are there, and the slice for parameters is as long as they are all together.
+pub record FunctionsRoom (file : List ℕ) (from : ℕ) (functions parameters : List ℕ) : Type 0 where
+  pub there : functionsEnd (length functions / 3) file from ≤ length file
+  pub exact : from + 3 * (length functions / 3) + length parameters ≡ functionsEnd (length functions / 3) file from
+  pub near : functionsEnd (length functions / 3) file from ≤ 200000
+  pub small : length parameters ≤ 65535
+
+pub record DecodedFunctions (file : List ℕ) (from : ℕ) (functions functions′ parameters parameters′ : List ℕ) : Type 0 where
+  pub are : functionsFrom parameters′ (length functions′ / 3) functions′ 0 ≡ functionRecords (length functions / 3) file from
+  pub inside : ParametersInside functions′ parameters′
+  pub longFunctions : length functions′ ≡ length functions
+  pub longParameters : length parameters′ ≡ length parameters
+
+-- A file of right counts, and slices as long as they say.
+pub record Decodable (file : List ℕ) (l : Layout) (fields functions parameters nodes : List ℕ) : Type 0 where
+  pub layout : IsLayout file l
+  pub ends : length file ≡ fileEnd file
+  pub forFields : length fields ≡ 3 * l .fields
+  pub forFunctions : length functions ≡ 3 * l .functions
+  pub forParameters : l .«functions_at» + 1 + 3 * l .functions + length parameters ≡ l .«nodes_at»
+  pub forNodes : length nodes ≡ 5 * l .nodes
+  pub small : length parameters ≤ 65535
+
+-- The slices hold the file's sections.
+pub record Decoded (file fields functions parameters nodes : List ℕ) : Type 0 where
+  pub are : sectionsFrom fields functions parameters nodes ≡ sectionsOf file
+  pub inside : ParametersInside functions parameters

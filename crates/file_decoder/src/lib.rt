@@ -1,0 +1,130 @@
+// The decoder: a contract file whose counts are right, from its bytes into slices of numbers. Each byte is read once.
+use file_bytes::Layout;
+ghost use mathlib.Core.Path.{_≡_};
+ghost use Prim.Native.Nat.{_+_, _*_, _/_, _<_, _≤_};
+ghost use lib.ListN.{length};
+ghost use Rattle.definitions.specs.ContractFile.{byteAt, twoBytesAt, nodeRecords};
+ghost use Rattle.file_decoded.specs.Slices.{nodesFrom};
+ghost use Rattle.file_decoder.specs.Decoding.{Put, Copied, DecodedNode, DecodedFunction, FunctionRoom};
+ghost use Rattle.file_decoder.specs.Decoding.{FunctionsRoom, DecodedFunctions, Decodable, Decoded};
+
+// A store by a function of its own, so that its effect is said place by place.
+fn put(numbers: &mut [u16], at: usize, value: usize)
+    requires { ⌜ (at < length (now numbers)) × (value ≤ 65535) ⌝ }
+    ensures { λ _. ⌜ Put (now (numbers .entry)) (now (numbers .exit)) at value ⌝ }
+{
+    numbers[at] = value as u16;
+}
+
+fn byte_in(file: &[u8], at: usize) -> usize
+    requires { ⌜ at < length (now file) ⌝ }
+    ensures { λ r. ⌜ r ≡ byteAt (now (file .entry)) at ⌝ }
+    ensures { λ r. ⌜ r ≤ 255 ⌝ }
+{
+    file[at] as usize
+}
+
+fn two_bytes_in(file: &[u8], at: usize) -> usize
+    requires { ⌜ at + 2 ≤ length (now file) ⌝ }
+    ensures { λ r. ⌜ r ≡ twoBytesAt (now (file .entry)) at ⌝ }
+    ensures { λ r. ⌜ r ≤ 65535 ⌝ }
+{
+    byte_in(file, at) + 256 * byte_in(file, at + 1)
+}
+
+// Some bytes of the file, each as a number of its own.
+fn copy_bytes(file: &[u8], from: usize, count: usize, numbers: &mut [u16], at: usize)
+    requires { ⌜ (from + count ≤ length (now file)) × (at + count ≤ length (now numbers)) ⌝ }
+    ensures { λ _. ⌜ Copied (now (file .entry)) from count (now (numbers .entry)) (now (numbers .exit)) at ⌝ }
+{
+    let mut i = 0;
+    while i < count {
+        put(numbers, at + i, byte_in(file, from + i));
+        i += 1;
+    }
+}
+
+// "each is kind, arg, then first, second and third of two bytes"
+fn decode_node(file: &[u8], from: usize, nodes: &mut [u16], at: usize)
+    requires { ⌜ (from + 8 ≤ length (now file)) × (at + 5 ≤ length (now nodes)) ⌝ }
+    ensures { λ _. ⌜ DecodedNode (now (file .entry)) from (now (nodes .entry)) (now (nodes .exit)) at ⌝ }
+{
+    put(nodes, at, byte_in(file, from));
+    put(nodes, at + 1, byte_in(file, from + 1));
+    put(nodes, at + 2, two_bytes_in(file, from + 2));
+    put(nodes, at + 3, two_bytes_in(file, from + 4));
+    put(nodes, at + 4, two_bytes_in(file, from + 6));
+}
+
+fn decode_nodes(file: &[u8], from: usize, nodes: &mut [u16])
+    requires { ⌜ from + 8 * (length (now nodes) / 5) ≤ length (now file) ⌝ }
+    ensures { λ _. ⌜ (nodesFrom (length (now (nodes .exit)) / 5) (now (nodes .exit)) 0
+        ≡ nodeRecords (length (now (nodes .entry)) / 5) (now (file .entry)) from)
+        × (length (now (nodes .exit)) ≡ length (now (nodes .entry))) ⌝ }
+{
+    let count = nodes.len() / 5;
+    let mut n = 0;
+    while n < count {
+        decode_node(file, from + 8 * n, nodes, 5 * n);
+        n += 1;
+    }
+}
+
+// "each is a one-byte parameter count, 0 to 8; a type and an owner (0 or 1) for each parameter; a two-byte root node": the function at a
+// place of the file. The answer is how many parameters it has.
+fn decode_function(
+    file: &[u8],
+    from: usize,
+    functions: &mut [u16],
+    at: usize,
+    parameters: &mut [u16],
+    first: usize,
+) -> usize
+    requires { ⌜ FunctionRoom (now file) from (now functions) at (now parameters) first ⌝ }
+    ensures { λ r. ⌜ (r ≡ byteAt (now (file .entry)) from) × (r ≤ 255) ⌝ }
+    ensures { λ _. ⌜ DecodedFunction (now (file .entry)) from (now (functions .entry)) (now (functions .exit)) at
+        (now (parameters .entry)) (now (parameters .exit)) first ⌝ }
+{
+    let count = byte_in(file, from);
+    put(functions, at, first);
+    put(functions, at + 1, count);
+    put(functions, at + 2, two_bytes_in(file, from + 1 + 2 * count));
+    copy_bytes(file, from + 1, 2 * count, parameters, first);
+    count
+}
+
+fn decode_functions(file: &[u8], from: usize, functions: &mut [u16], parameters: &mut [u16])
+    requires { ⌜ FunctionsRoom (now file) from (now functions) (now parameters) ⌝ }
+    ensures { λ _. ⌜ DecodedFunctions (now (file .entry)) from (now (functions .entry)) (now (functions .exit))
+        (now (parameters .entry)) (now (parameters .exit)) ⌝ }
+{
+    let count = functions.len() / 3;
+    let mut place = from;
+    let mut first = 0;
+    let mut f = 0;
+    while f < count {
+        let own = decode_function(file, place, functions, 3 * f, parameters, first);
+        place += 1 + 2 * own + 2;
+        first += 2 * own;
+        f += 1;
+    }
+}
+
+// All sections of a file. The slices are as long as its counts say, and hold them afterwards.
+pub fn decode(
+    file: &[u8],
+    l: Layout,
+    fields: &mut [u16],
+    functions: &mut [u16],
+    parameters: &mut [u16],
+    nodes: &mut [u16],
+)
+    requires { ⌜ Decodable (now file) l (now fields) (now functions) (now parameters) (now nodes) ⌝ }
+    ensures { λ _. ⌜ Decoded (now (file .entry)) (now (fields .exit)) (now (functions .exit))
+        (now (parameters .exit)) (now (nodes .exit)) ⌝ }
+{
+    let length = fields.len();
+    copy_bytes(file, 1, length, fields, 0);
+    decode_functions(file, l.functions_at + 1, functions, parameters);
+    decode_nodes(file, l.nodes_at + 2, nodes);
+}
