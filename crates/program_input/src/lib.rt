@@ -1,4 +1,4 @@
-// What programs read: the file that their first argument names, or standard input, to its end.
+// What programs read, to its end: the file that their first argument names, or standard input; or the file that any argument names.
 use libc::STDIN_FILENO;
 use program_output::print;
 use program_output::tell;
@@ -84,14 +84,16 @@ fn read_from(program: &[u8], descriptor: i32, name: &[u8], room: &mut [u8]) -> I
     }
 }
 
-fn read_named(program: &[u8], room: &mut [u8]) -> Input
+// The file that the argument at a place names. A failure is told, of the file by its name, and of an argument that cannot be read by the
+// words that are given for it.
+pub fn read_named(program: &[u8], place: usize, argument: &[u8], room: &mut [u8]) -> Input
     ensures { λ r. ⌜ Counts (r .length) (now (room .exit)) ⌝ }
     ensures { λ r. ⌜ r .length ≡ whereReady (r .ready) (r .length) ⌝ }
 {
     let mut name = io::buffer();
-    let long = os::arg(1, &mut name);
+    let long = os::arg(place, &mut name);
     if os::errno() != 0 {
-        tell(program, b": cannot read ", b"its first argument");
+        tell(program, b": cannot read ", argument);
         return Input {
             length: 0,
             ready: false,
@@ -126,6 +128,6 @@ pub fn read_input(program: &[u8], most: usize, room: &mut [u8]) -> Input
     if names.count == 0 {
         read_from(program, STDIN_FILENO, b"standard input", room)
     } else {
-        read_named(program, room)
+        read_named(program, 1, b"its first argument", room)
     }
 }

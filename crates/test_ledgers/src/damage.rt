@@ -8,15 +8,23 @@ use ledger_contents::Content;
 use ledger_contents::Place;
 use ledger_struct::Ledger;
 use view::view;
-ghost use lib.ListN.{length};
+ghost use mathlib.Core.Path.{_≡_};
+ghost use Prim.Native.Nat.{_<_};
+ghost use lib.ListN.{set};
+ghost use Rattle.test_ledgers.specs.Damage.{plainPlace, cellPlace, withItems, damagedHead, damagedItem, damagedLedger};
+ghost use Rattle.test_ledgers.specs.Damage.{isAnswered, wrongAnswers, WrongOn};
 
-fn plain(value: u32) -> Place {
+fn plain(value: u32) -> Place
+    ensures { λ r. ⌜ r ≡ plainPlace value ⌝ }
+{
     Place {
         content: Content::Plain(value),
     }
 }
 
-fn cell(owner: u8, value: u32) -> Place {
+fn cell(owner: u8, value: u32) -> Place
+    ensures { λ r. ⌜ r ≡ cellPlace owner value ⌝ }
+{
     Place {
         content: Content::Cell(Cell {
             owner: owner,
@@ -28,7 +36,9 @@ fn cell(owner: u8, value: u32) -> Place {
 }
 
 // Its file, its length and the last call.
-fn damaged_head(l: Ledger, kind: u8) -> Ledger {
+fn damaged_head(l: Ledger, kind: u8) -> Ledger
+    ensures { λ r. ⌜ r ≡ damagedHead kind l ⌝ }
+{
     let mut d = l;
     match kind {
         1 => {
@@ -50,31 +60,60 @@ fn damaged_head(l: Ledger, kind: u8) -> Ledger {
     d
 }
 
-// An item: of another kind, of another owner, outside its type.
-fn damaged_item(l: Ledger, kind: u8) -> Ledger {
+// With another first parameter, another variable, another place.
+fn with_parameter(l: Ledger, item: Place) -> Ledger
+    ensures { λ r. ⌜ r ≡ withItems l (set (l .parameters) 0 item) (l .variables) (l .places) ⌝ }
+{
     let mut d = l;
     let mut parameters = d.parameters;
-    let mut variables = d.variables;
-    let mut places = d.places;
-    match kind {
-        12 => parameters[0] = plain(7),
-        13 => parameters[0] = cell(4, 7),
-        14 => variables[1] = plain(7),
-        15 => variables[1] = cell(3, 7),
-        16 => variables[2] = cell(5, 7),
-        17 => places[0] = plain(16),
-        18 => places[0] = cell(5, 5),
-        19 => places[0] = plain(6),
-        20 => places[1] = plain(7),
-        _ => places[1] = cell(3, 7),
-    }
+    parameters[0] = item;
     d.parameters = parameters;
+    d
+}
+
+fn with_variable(l: Ledger, i: usize, item: Place) -> Ledger
+    requires { ⌜ i < 1024 ⌝ }
+    ensures { λ r. ⌜ r ≡ withItems l (l .parameters) (set (l .variables) i item) (l .places) ⌝ }
+{
+    let mut d = l;
+    let mut variables = d.variables;
+    variables[i] = item;
     d.variables = variables;
+    d
+}
+
+fn with_place(l: Ledger, i: usize, item: Place) -> Ledger
+    requires { ⌜ i < 1024 ⌝ }
+    ensures { λ r. ⌜ r ≡ withItems l (l .parameters) (l .variables) (set (l .places) i item) ⌝ }
+{
+    let mut d = l;
+    let mut places = d.places;
+    places[i] = item;
     d.places = places;
     d
 }
 
-fn damaged(l: Ledger, kind: u8) -> Ledger {
+// An item: of another kind, of another owner, outside its type.
+fn damaged_item(l: Ledger, kind: u8) -> Ledger
+    ensures { λ r. ⌜ r ≡ damagedItem kind l ⌝ }
+{
+    match kind {
+        12 => with_parameter(l, plain(7)),
+        13 => with_parameter(l, cell(4, 7)),
+        14 => with_variable(l, 1, plain(7)),
+        15 => with_variable(l, 1, cell(3, 7)),
+        16 => with_variable(l, 2, cell(5, 7)),
+        17 => with_place(l, 0, plain(16)),
+        18 => with_place(l, 0, cell(5, 5)),
+        19 => with_place(l, 0, plain(6)),
+        20 => with_place(l, 1, plain(7)),
+        _ => with_place(l, 1, cell(3, 7)),
+    }
+}
+
+fn damaged(l: Ledger, kind: u8) -> Ledger
+    ensures { λ r. ⌜ r ≡ damagedLedger kind l ⌝ }
+{
     if kind == 0 {
         l
     } else if kind < 12 {
@@ -85,7 +124,9 @@ fn damaged(l: Ledger, kind: u8) -> Ledger {
 }
 
 // Whether a call and a view of the ledger give these numbers.
-fn answers(l: Ledger, call_number: u8, view_number: u8) -> bool {
+fn answers(l: Ledger, call_number: u8, view_number: u8) -> bool
+    ensures { λ r. ⌜ r ≡ isAnswered l «call_number» «view_number» ⌝ }
+{
     let arguments = [7u32; 1];
     let called = call(l, 0, 3, &arguments[..]);
     let mut out = [0u8; 1024];
@@ -97,7 +138,9 @@ fn answers(l: Ledger, call_number: u8, view_number: u8) -> bool {
     }
 }
 
-fn wrong_answers(l: Ledger) -> usize {
+fn wrong_answers(l: Ledger) -> usize
+    ensures { λ r. ⌜ r ≡ wrongAnswers l ⌝ }
+{
     let mut wrong: usize = 0;
     if !answers(l, 0, 0) {
         wrong += 1;
@@ -113,7 +156,9 @@ fn wrong_answers(l: Ledger) -> usize {
 }
 
 // How many of the answers on the contract's ledger, whole and damaged, are wrong.
-pub fn wrong(file: &[u8]) -> usize {
+pub fn wrong(file: &[u8]) -> usize
+    ensures { λ r. ⌜ WrongOn (now (file .entry)) r ⌝ }
+{
     let addresses = [5u8; 1];
     let deployed = deploy(file, &addresses[..]);
     let arguments = [7u32; 1];

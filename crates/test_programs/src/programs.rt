@@ -11,8 +11,18 @@ use test_shared::Tally;
 use test_shared::part;
 use test_shared::same_bytes;
 use test_shared::view_room;
-ghost use Prim.Native.Nat.{_<_, _≤_};
-ghost use lib.ListN.{length};
+ghost use mathlib.Core.Path.{_≡_};
+ghost use Prim.Native.Nat.{_+_, _<_, _≤_};
+ghost use lib.ListN.{length, take};
+ghost use Rattle.definitions.specs.ContractFile.{byteAt};
+ghost use Rattle.definitions.specs.Numbers.{checkNumber};
+ghost use Rattle.definitions.specs.Report.{reportText};
+ghost use Rattle.definitions.specs.Rewriting.{writtenFile};
+ghost use Rattle.ledger_struct.specs.Ledgers.{ledgerOf};
+ghost use Rattle.call.specs.Calls.{CalledOn};
+ghost use Rattle.rehearse_scripts.specs.Scripts.{callAt, argumentsOf};
+ghost use Rattle.test_programs.specs.ProgramRecords.{answerText, acceptedLine, printedBy, lineOf, scriptLines, rehearsed, printedFor};
+ghost use Rattle.test_programs.specs.ProgramRecords.{isExpected, IsRecord, programAgrees, ProgramsTally, Shown, behindText};
 
 // Where the parts of a record end: each begins behind its length, which stands where the part before it ends.
 struct Record {
@@ -23,7 +33,9 @@ struct Record {
 }
 
 // The place behind a text that stands at a place of some bytes; 0 where it does not stand there.
-fn behind(text: &[u8], bytes: &[u8], at: usize) -> usize {
+fn behind(text: &[u8], bytes: &[u8], at: usize) -> usize
+    ensures { λ r. ⌜ r ≡ behindText (now (text .entry)) (now (bytes .entry)) at ⌝ }
+{
     if bytes.len() < at {
         return 0;
     }
@@ -43,7 +55,8 @@ fn behind(text: &[u8], bytes: &[u8], at: usize) -> usize {
 // The length of what a program prints: of the answer, which stands at the front of the output already, or of the line that takes its place
 // where the number refuses.
 fn answered(number: u8, end: usize, out: &mut [u8]) -> usize
-    requires { ⌜ 29 ≤ length (now out) ⌝ }
+    requires { ⌜ (29 ≤ length (now out)) × (end ≤ length (now out)) ⌝ }
+    ensures { λ r. ⌜ Shown (answerText number (take end (now (out .entry)))) (now (out .exit)) r ⌝ }
 {
     if number == 0 {
         end
@@ -54,6 +67,7 @@ fn answered(number: u8, end: usize, out: &mut [u8]) -> usize
 
 fn verdict(file: &[u8], out: &mut [u8]) -> usize
     requires { ⌜ 29 ≤ length (now out) ⌝ }
+    ensures { λ r. ⌜ Shown (answerText (checkNumber (now (file .entry))) acceptedLine) (now (out .exit)) r ⌝ }
 {
     let number = check_contract::check(file);
     let length = memory_append::append(b"accepted\n", out, 0);
@@ -61,21 +75,25 @@ fn verdict(file: &[u8], out: &mut [u8]) -> usize
 }
 
 fn compile(file: &[u8], out: &mut [u8]) -> usize
-    requires { ⌜ 29 ≤ length (now out) ⌝ }
+    requires { ⌜ 49152 ≤ length (now out) ⌝ }
+    ensures { λ r. ⌜ Shown (answerText (checkNumber (now (file .entry))) (writtenFile (now (file .entry)))) (now (out .exit)) r ⌝ }
 {
     let answer = write_contract::write(file, out);
     answered(answer.number, answer.length, out)
 }
 
 fn report(file: &[u8], out: &mut [u8]) -> usize
-    requires { ⌜ 29 ≤ length (now out) ⌝ }
+    requires { ⌜ 49152 ≤ length (now out) ⌝ }
+    ensures { λ r. ⌜ Shown (answerText (checkNumber (now (file .entry))) (reportText (now (file .entry)))) (now (out .exit)) r ⌝ }
 {
     let answer = report_contract::report(file, out);
     answered(answer.number, answer.length, out)
 }
 
 // Whether the front of the output is all that is expected. Every program prints something, so that nothing is never right.
-fn is_printed(end: usize, out: &[u8], expected: &[u8]) -> bool {
+fn is_printed(end: usize, out: &[u8], expected: &[u8]) -> bool
+    ensures { λ r. ⌜ r ≡ isExpected (take end (now (out .entry))) (now (expected .entry)) ⌝ }
+{
     let length = at_most(end, out.len());
     0 < length && same_bytes(&out[..length], expected)
 }
@@ -83,7 +101,8 @@ fn is_printed(end: usize, out: &[u8], expected: &[u8]) -> bool {
 // What the named program prints for a contract file stands at the front of the output. The answer is its length, 0 where the name is none
 // of these.
 fn printed(name: &[u8], file: &[u8], out: &mut [u8]) -> usize
-    requires { ⌜ 29 ≤ length (now out) ⌝ }
+    requires { ⌜ 49152 ≤ length (now out) ⌝ }
+    ensures { λ r. ⌜ Shown (printedBy (now (name .entry)) (now (file .entry))) (now (out .exit)) r ⌝ }
 {
     if same_bytes(b"verdict", name) {
         return verdict(file, out);
@@ -105,7 +124,10 @@ fn line_end(
     expected: &[u8],
     at: usize,
     out: &mut [u8],
-) -> usize {
+) -> usize
+    requires { ⌜ 49152 ≤ length (now out) ⌝ }
+    ensures { λ r. ⌜ r ≡ behindText (lineOf number party (ledgerOf ledger)) (now (expected .entry)) at ⌝ }
+{
     let mut view = view_room();
     let answer = view::view(ledger, party, &mut view);
     let length = at_most(answer.length, 20565);
@@ -114,7 +136,10 @@ fn line_end(
 }
 
 // What call k of a script answers on a ledger.
-fn call_at(script: &[u8], k: u8, ledger: Ledger) -> Called {
+fn call_at(script: &[u8], k: u8, ledger: Ledger) -> Called
+    ensures { λ r. ⌜ CalledOn ledger (byteAt (now (script .entry)) (callAt (now (script .entry)) k))
+        (byteAt (now (script .entry)) (callAt (now (script .entry)) k + 1)) (argumentsOf (now (script .entry)) k) r ⌝ }
+{
     let parts = rehearse_scripts::read_call(script, k);
     let arguments = rehearse_scripts::arguments(script, k);
     let count = parts.arguments as usize;
@@ -123,7 +148,10 @@ fn call_at(script: &[u8], k: u8, ledger: Ledger) -> Called {
 
 // Whether the lines of a script that deploys are as expected. No line is empty, so that 0 is never a place behind one, and the first line
 // that differs ends the run.
-fn runs(script: &[u8], deployed: Ledger, expected: &[u8], out: &mut [u8]) -> bool {
+fn runs(script: &[u8], deployed: Ledger, expected: &[u8], out: &mut [u8]) -> bool
+    requires { ⌜ 49152 ≤ length (now out) ⌝ }
+    ensures { λ r. ⌜ r ≡ isExpected (scriptLines (now (script .entry)) (ledgerOf deployed)) (now (expected .entry)) ⌝ }
+{
     let parts = rehearse_scripts::read_script(script);
     let mut ledger = deployed;
     let mut at = line_end(0, ledger, parts.party, expected, 0, out);
@@ -143,7 +171,8 @@ fn runs(script: &[u8], deployed: Ledger, expected: &[u8], out: &mut [u8]) -> boo
 
 // Whether `rehearse` prints what is expected.
 fn rehearses(script: &[u8], expected: &[u8], out: &mut [u8]) -> bool
-    requires { ⌜ 29 ≤ length (now out) ⌝ }
+    requires { ⌜ 49152 ≤ length (now out) ⌝ }
+    ensures { λ r. ⌜ r ≡ isExpected (rehearsed (now (script .entry))) (now (expected .entry)) ⌝ }
 {
     if !rehearse_scripts::is_script(script) {
         return same_bytes(b"bad script\n", expected);
@@ -161,7 +190,8 @@ fn rehearses(script: &[u8], expected: &[u8], out: &mut [u8]) -> bool
 }
 
 fn prints(name: &[u8], input: &[u8], expected: &[u8], out: &mut [u8]) -> bool
-    requires { ⌜ 29 ≤ length (now out) ⌝ }
+    requires { ⌜ 49152 ≤ length (now out) ⌝ }
+    ensures { λ r. ⌜ r ≡ isExpected (printedFor (now (name .entry)) (now (input .entry))) (now (expected .entry)) ⌝ }
 {
     if same_bytes(b"rehearse", name) {
         return rehearses(input, expected, out);
@@ -172,6 +202,7 @@ fn prints(name: &[u8], input: &[u8], expected: &[u8], out: &mut [u8]) -> bool
 
 // The record with which some bytes begin. A length that is not there reads as 0, and the record then ends past the bytes.
 fn read_record(bytes: &[u8]) -> Record
+    ensures { λ r. ⌜ IsRecord (now (bytes .entry)) r ⌝ }
     ensures { λ r. ⌜ ((r .«name_end» ≤ r .end) × (r .«options_end» ≤ r .end)) × ((r .«input_end» < r .end) × (r .end ≤ 9000000000)) ⌝ }
 {
     let name_end = 1 + byte_at(bytes, 0);
@@ -189,7 +220,8 @@ fn read_record(bytes: &[u8]) -> Record
 // Whether the program of the record with which some bytes begin prints what is expected. None takes an option, and a record that is cut
 // short says nothing to compare with.
 fn agrees(bytes: &[u8], out: &mut [u8]) -> bool
-    requires { ⌜ 29 ≤ length (now out) ⌝ }
+    requires { ⌜ 49152 ≤ length (now out) ⌝ }
+    ensures { λ r. ⌜ r ≡ programAgrees (now (bytes .entry)) ⌝ }
 {
     let record = read_record(bytes);
     if bytes.len() < record.end {
@@ -204,7 +236,8 @@ fn agrees(bytes: &[u8], out: &mut [u8]) -> bool
 
 // A record that is cut short counts as different; it ends past the input, and so ends the reading.
 pub fn compare(input: &[u8], out: &mut [u8]) -> Tally
-    requires { ⌜ (length (now input) ≤ 700000) × (29 ≤ length (now out)) ⌝ }
+    requires { ⌜ (length (now input) ≤ 700000) × (49152 ≤ length (now out)) ⌝ }
+    ensures { λ r. ⌜ ProgramsTally (now (input .entry)) r ⌝ }
 {
     let mut records: usize = 0;
     let mut different: usize = 0;

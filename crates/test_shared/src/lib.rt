@@ -1,7 +1,6 @@
 // What the test programs share: the file that an argument names, parts of it, rooms, and the lines that are printed.
 use memory_append::append;
 use program_input::Input;
-use program_output::tell;
 use report_text::append_digits;
 ghost use mathlib.Core.Path.{_≡_};
 ghost use Prim.Native.Nat.{_+_, _≤_};
@@ -10,7 +9,9 @@ ghost use lib.ListN.{length};
 ghost use Rattle.definitions.specs.Report.{decimal};
 ghost use Rattle.io.specs.Counts.{Counts};
 ghost use Rattle.memory_append.specs.Append.{Appended};
+ghost use Rattle.program_input.specs.Inputs.{whereReady};
 ghost use Rattle.test_shared.specs.Parts.{partIn};
+ghost use Rattle.test_shared.specs.Bytes.{sameBytes};
 ghost use Rattle.test_shared.specs.Lines.{tallyLine};
 
 // How many records were read, and how many of them differ.
@@ -19,47 +20,12 @@ pub struct Tally {
     pub different: usize,
 }
 
-fn read_open(program: &[u8], descriptor: i32, name: &[u8], room: &mut [u8]) -> Input
-    ensures { λ r. ⌜ Counts (r .length) (now (room .exit)) ⌝ }
-{
-    let reading = program_input::read_all(descriptor, room);
-    if reading.failed {
-        tell(program, b": cannot read ", name);
-        return Input {
-            length: 0,
-            ready: false,
-        };
-    }
-    Input {
-        length: reading.length,
-        ready: true,
-    }
-}
-
 // The file that a program's argument at a place names, at the front of the room. A failure is told, and then there is no input.
 pub fn read_named(program: &[u8], place: usize, room: &mut [u8]) -> Input
     ensures { λ r. ⌜ Counts (r .length) (now (room .exit)) ⌝ }
+    ensures { λ r. ⌜ r .length ≡ whereReady (r .ready) (r .length) ⌝ }
 {
-    let mut name = io::buffer();
-    let long = os::arg(place, &mut name);
-    if os::errno() != 0 {
-        tell(program, b": cannot read ", b"an argument");
-        return Input {
-            length: 0,
-            ready: false,
-        };
-    }
-    let descriptor = os::open_read(&name[..long]);
-    if descriptor < 0 {
-        tell(program, b": cannot read ", &name[..long]);
-        return Input {
-            length: 0,
-            ready: false,
-        };
-    }
-    let input = read_open(program, descriptor, &name[..long], room);
-    libc::close(descriptor);
-    input
+    program_input::read_named(program, place, b"an argument", room)
 }
 
 // The bytes from one place up to another; none where they are not all there.
@@ -75,7 +41,9 @@ pub fn part<'a>(input: &'a [u8], start: usize, end: usize) -> &'a [u8]
     &input[start..end]
 }
 
-pub fn same_bytes(left: &[u8], right: &[u8]) -> bool {
+pub fn same_bytes(left: &[u8], right: &[u8]) -> bool
+    ensures { λ r. ⌜ r ≡ sameBytes (now (left .entry)) (now (right .entry)) ⌝ }
+{
     if left.len() != right.len() {
         return false;
     }

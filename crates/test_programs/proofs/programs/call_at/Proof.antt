@@ -2,6 +2,7 @@
 use native.Mathlib.Omega.{arith}
 use lib.ListN.{length-take}
 use borrow.Author.Needs.{needs}
+use Rattle.test_programs.proofs.Rehearsals.{called-at}
 use Rattle.test_programs.proofs.programs.call_at.Statement.{statement}
 use Rattle.test_programs.proofs.programs.call_at.Tie as tie
 
@@ -10,4 +11,5 @@ call-at-spec =
     tie.close (tie.spec
     (λ c κs. search needs) (λ c κs. search needs) (λ c. search needs) (λ c. search needs)
     (λ c. simp length-take (omega arith))
-    (λ c κs. search needs) (λ c. search needs))
+    (λ c κs. search needs)
+    (λ c. called-at _ _ _ _ _ _ (c .before .before .before .before .read-call .ensures) (c .before .before .before .arguments .ensures) (c .call .ensures)))

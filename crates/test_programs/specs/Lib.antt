@@ -1,0 +1,4 @@
+pub mod Records
+pub mod Outputs
+pub mod FileRecords
+pub mod ProgramRecords

@@ -1,0 +1,12 @@
+-- Whether two lists of bytes are the same.
+use mathlib.Core.Bool.{Bool, true, false, _&&_}
+use mathlib.Core.List.{List, [], _∷_}
+use Prim.Native.Nat.{ℕ}
+use lib.Dec.{eqb}
+
+-- As many bytes on both sides, and each equal to the one at its place.
+unfoldable pub sameBytes : List ℕ → List ℕ → Bool
+sameBytes [] [] = true
+sameBytes [] (n ∷ ns) = false
+sameBytes (m ∷ ms) [] = false
+sameBytes (m ∷ ms) (n ∷ ns) = eqb m n && sameBytes ms ns
