@@ -2,10 +2,10 @@
 use rules_faults::both;
 use rules_faults::either;
 use rules_faults::number_if;
-use rules_links::Classes;
 use rules_links::same_class;
 ghost use mathlib.Core.Path.{_≡_};
 ghost use mathlib.Core.Bool.{true, not, cond};
+ghost use lib.ListN.{length};
 ghost use Rattle.definitions.specs.Owners.{isReader};
 ghost use Rattle.definitions.specs.ContractFile.{ownerOfCode, operatorOf, dataTypeOf, dataTypeCode, isDivision, resultType};
 ghost use Rattle.definitions.specs.Numbers.{targetInTables, fault, mayBePut};
@@ -14,9 +14,9 @@ ghost use Rattle.rules_links.specs.Names.{linkedBy};
 ghost use Rattle.rules_codes.specs.Codes.{fitCodes, placeCode, partsCode};
 
 // "11. .. has an owner neither all nor caller."
-pub fn unread(classes: Classes, owner: u8) -> u8
-    requires { ⌜ targetInTables owner ≡ true ⌝ }
-    ensures { λ r. ⌜ r ≡ leastFault (fault (not (isReader (linkedBy (classes .of)) (ownerOfCode owner))) 11) ⌝ }
+pub fn unread(classes: &[u8], owner: u8) -> u8
+    requires { ⌜ (targetInTables owner ≡ true) × (length (now classes) ≡ 256) ⌝ }
+    ensures { λ r. ⌜ r ≡ leastFault (fault (not (isReader (linkedBy (now (classes .entry))) (ownerOfCode owner))) 11) ⌝ }
 {
     if owner == 0 {
         return 16;
@@ -25,9 +25,10 @@ pub fn unread(classes: Classes, owner: u8) -> u8
 }
 
 // "15. An assigned value's owner is neither all nor linked to the place's owner"
-pub fn misplaced(classes: Classes, value: u8, place: u8) -> u8
-    requires { ⌜ (targetInTables value ≡ true) × (targetInTables place ≡ true) ⌝ }
-    ensures { λ r. ⌜ r ≡ leastFault (fault (not (mayBePut (linkedBy (classes .of)) (ownerOfCode value) (ownerOfCode place))) 15) ⌝ }
+pub fn misplaced(classes: &[u8], value: u8, place: u8) -> u8
+    requires { ⌜ (targetInTables value ≡ true) × (targetInTables place ≡ true) × (length (now classes) ≡ 256) ⌝ }
+    ensures { λ r. ⌜ r ≡ leastFault
+        (fault (not (mayBePut (linkedBy (now (classes .entry))) (ownerOfCode value) (ownerOfCode place))) 15) ⌝ }
 {
     if value == 0 {
         return 16;

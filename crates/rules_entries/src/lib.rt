@@ -7,9 +7,9 @@ use rules_faults::least;
 use rules_faults::number_if;
 use rules_judgements::Declared;
 use rules_judgements::Judged;
-use rules_links::Classes;
 ghost use mathlib.Core.Path.{_≡_};
 ghost use mathlib.Core.Bool.{true};
+ghost use lib.ListN.{length};
 ghost use Rattle.definitions.specs.Numbers.{targetInTables};
 ghost use Rattle.rules_links.specs.Names.{linkedBy};
 ghost use Rattle.rules_codes.specs.Codes.{isFieldCode};
@@ -29,9 +29,9 @@ pub fn entry_fault(d: Declared, key: Judged) -> u8
 }
 
 // An entry as an expression: its owner is its field's, or the name used as key.
-pub fn entry_judged(classes: Classes, d: Declared, key: Judged) -> Judged
-    requires { ⌜ (isFieldCode (d .owner) ≡ true) × (targetInTables (key .name) ≡ true) ⌝ }
-    ensures { λ r. ⌜ r ≡ entryJudged (linkedBy (classes .of)) d key ⌝ }
+pub fn entry_judged(classes: &[u8], d: Declared, key: Judged) -> Judged
+    requires { ⌜ (isFieldCode (d .owner) ≡ true) × (targetInTables (key .name) ≡ true) × (length (now classes) ≡ 256) ⌝ }
+    ensures { λ r. ⌜ r ≡ entryJudged (linkedBy (now (classes .entry))) d key ⌝ }
 {
     let owner = place_owner(d.owner, key.name);
     let fault = least(

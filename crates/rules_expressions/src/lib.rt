@@ -15,7 +15,9 @@ use rules_scopes::Parameters;
 use rules_scopes::field_at;
 use rules_scopes::parameter_at;
 use rules_scopes::target_fits;
+ghost use mathlib.Core.Path.{_≡_};
 ghost use Prim.Native.Nat.{_<_};
+ghost use lib.ListN.{length};
 ghost use Rattle.definitions.specs.ContractFile.{nodeCount};
 ghost use Rattle.definitions.specs.Owners.{linksOfCondition};
 ghost use Rattle.rules_links.specs.Names.{linkedBy};
@@ -25,9 +27,10 @@ ghost use Rattle.rules_scopes.specs.Trees.{nodesOf, expressionOn};
 ghost use Rattle.rules_scopes.specs.Scopes.{Ready, scopeAt};
 
 // "Type and owner of a node by recursion over its children": with them its name, and its least fault.
-pub fn judge(file: &[u8], nodes_at: usize, p: Parameters, classes: Classes, n: usize) -> Judged
-    requires { ⌜ (n < nodeCount (now file)) × (Ready (now file) «nodes_at» p) ⌝ }
-    ensures { λ r. ⌜ JudgedAs (scopeAt (now (file .entry)) p) (linkedBy (classes .of)) (expressionOn (nodesOf (now (file .entry))) n) r ⌝ }
+pub fn judge(file: &[u8], nodes_at: usize, p: Parameters, classes: &[u8], n: usize) -> Judged
+    requires { ⌜ (n < nodeCount (now file)) × (Ready (now file) «nodes_at» p) × (length (now classes) ≡ 256) ⌝ }
+    ensures { λ r. ⌜ JudgedAs (scopeAt (now (file .entry)) p) (linkedBy (now (classes .entry)))
+        (expressionOn (nodesOf (now (file .entry))) n) r ⌝ }
 {
     let node = node_at(file, nodes_at, n);
     let kind = node.kind;
@@ -56,7 +59,8 @@ pub fn judge(file: &[u8], nodes_at: usize, p: Parameters, classes: Classes, n: u
     }
 }
 
-// "A completed require of name == name, or of an "and" tree holding such, links the two names"
+// "A completed require of name == name, or of an "and" tree holding such, links the two names". The classes are copied where names are
+// judged, and nowhere else: a parameter that is itself lent is copied at every entry.
 pub fn learn(file: &[u8], nodes_at: usize, p: Parameters, classes: Classes, n: usize) -> Classes
     requires { ⌜ (n < nodeCount (now file)) × (Ready (now file) «nodes_at» p) ⌝ }
     ensures { λ r. ⌜ Learnt classes r (linksOfCondition (scopeAt (now (file .entry)) p)
@@ -70,8 +74,9 @@ pub fn learn(file: &[u8], nodes_at: usize, p: Parameters, classes: Classes, n: u
     if kind == 6 {
         match arg {
             7 => {
-                let left = judge(file, nodes_at, p, classes, first);
-                let right = judge(file, nodes_at, p, classes, second);
+                let of = classes.of;
+                let left = judge(file, nodes_at, p, &of, first);
+                let right = judge(file, nodes_at, p, &of, second);
                 with_link(classes, left.name, right.name)
             }
             9 => {

@@ -5,9 +5,9 @@ use rules_codes::place_owner;
 use rules_codes::unread;
 use rules_faults::least;
 use rules_faults::number_if;
-use rules_links::Classes;
 ghost use mathlib.Core.Path.{_≡_};
 ghost use mathlib.Core.Bool.{true};
+ghost use lib.ListN.{length};
 ghost use Rattle.rules_links.specs.Names.{linkedBy};
 ghost use Rattle.rules_codes.specs.Codes.{isFieldCode};
 ghost use Rattle.rules_judgements.specs.Judging.{Present, Final, constantJudged, meJudged, finalNameCode, fieldJudged, argumentName};
@@ -66,9 +66,9 @@ fn final_name(f: u8, d: Declared) -> u8
 }
 
 // "8. The field's shape doesn't suit the node (3 takes 0 or 1 ..)"
-pub fn field_judged(classes: Classes, f: u8, d: Declared) -> Judged
-    requires { ⌜ (Final f d) × (isFieldCode (d .owner) ≡ true) ⌝ }
-    ensures { λ r. ⌜ r ≡ fieldJudged (linkedBy (classes .of)) f d ⌝ }
+pub fn field_judged(classes: &[u8], f: u8, d: Declared) -> Judged
+    requires { ⌜ (Final f d) × (isFieldCode (d .owner) ≡ true) × (length (now classes) ≡ 256) ⌝ }
+    ensures { λ r. ⌜ r ≡ fieldJudged (linkedBy (now (classes .entry))) f d ⌝ }
 {
     let owner = place_owner(d.owner, 0);
     let name = final_name(f, d);
@@ -94,9 +94,9 @@ pub fn argument_name(k: u8, p: Given) -> u8
 }
 
 // "8. .. a parameter is missing"
-pub fn parameter_judged(classes: Classes, k: u8, count: u8, p: Given) -> Judged
-    requires { ⌜ Present k p ⌝ }
-    ensures { λ r. ⌜ r ≡ parameterJudged (linkedBy (classes .of)) k count p ⌝ }
+pub fn parameter_judged(classes: &[u8], k: u8, count: u8, p: Given) -> Judged
+    requires { ⌜ (Present k p) × (length (now classes) ≡ 256) ⌝ }
+    ensures { λ r. ⌜ r ≡ parameterJudged (linkedBy (now (classes .entry))) k count p ⌝ }
 {
     let owner = code_if(!(p.owner == 0), 1);
     let name = argument_name(k, p);

@@ -2,7 +2,7 @@
 ghost use mathlib.Core.Path.{_≡_};
 ghost use mathlib.Core.Bool.{true};
 ghost use lib.Dec.{eqb};
-ghost use lib.ListN.{getD};
+ghost use lib.ListN.{length, getD};
 ghost use Rattle.definitions.specs.Owners.{noLinks, withLinkOf};
 ghost use Rattle.definitions.specs.Numbers.{targetInTables};
 ghost use Rattle.rules_links.specs.Names.{linkedBy, nameWith, exchanged, Exchanged};
@@ -38,12 +38,13 @@ pub fn no_links() -> Classes
 }
 
 // Whether two names are linked.
-pub fn same_class(classes: Classes, a: u8, b: u8) -> bool
-    ensures { λ r. ⌜ r ≡ eqb (getD (classes .of) a 0) (getD (classes .of) b 0) ⌝ }
+pub fn same_class(classes: &[u8], a: u8, b: u8) -> bool
+    requires { ⌜ length (now classes) ≡ 256 ⌝ }
+    ensures { λ r. ⌜ r ≡ eqb (getD (now (classes .entry)) a 0) (getD (now (classes .entry)) b 0) ⌝ }
 {
     let i = a as usize;
     let j = b as usize;
-    classes.of[i] == classes.of[j]
+    classes[i] == classes[j]
 }
 
 // Each class number that is `old` becomes `new`.

@@ -9,17 +9,17 @@ use rules_faults::either;
 use rules_faults::least;
 use rules_faults::number_if;
 use rules_judgements::Judged;
-use rules_links::Classes;
 ghost use mathlib.Core.Path.{_≡_};
 ghost use mathlib.Core.Bool.{true};
+ghost use lib.ListN.{length};
 ghost use Rattle.definitions.specs.Numbers.{targetInTables};
 ghost use Rattle.rules_links.specs.Names.{linkedBy};
 ghost use Rattle.rules_operators.specs.Operating.{operatorFault, operatorJudged};
 
 // "9. A data type doesn't fit"; "12. Operator 3 or 4 has a private operand."
-fn operator_fault(classes: Classes, code: u8, left: Judged, right: Judged) -> u8
-    requires { ⌜ (targetInTables (left .owner) ≡ true) × (targetInTables (right .owner) ≡ true) ⌝ }
-    ensures { λ r. ⌜ r ≡ operatorFault (linkedBy (classes .of)) code left right ⌝ }
+fn operator_fault(classes: &[u8], code: u8, left: Judged, right: Judged) -> u8
+    requires { ⌜ (targetInTables (left .owner) ≡ true) × (targetInTables (right .owner) ≡ true) × (length (now classes) ≡ 256) ⌝ }
+    ensures { λ r. ⌜ r ≡ operatorFault (linkedBy (now (classes .entry))) code left right ⌝ }
 {
     let kind = number_if(!operands_fit(code, left.kind, right.kind), 9);
     let private = either(!(left.owner == 0), !(right.owner == 0));
@@ -35,9 +35,9 @@ fn operator_fault(classes: Classes, code: u8, left: Judged, right: Judged) -> u8
 }
 
 // An operator on two judged operands.
-pub fn operator_judged(classes: Classes, code: u8, left: Judged, right: Judged) -> Judged
-    requires { ⌜ (targetInTables (left .owner) ≡ true) × (targetInTables (right .owner) ≡ true) ⌝ }
-    ensures { λ r. ⌜ r ≡ operatorJudged (linkedBy (classes .of)) code left right ⌝ }
+pub fn operator_judged(classes: &[u8], code: u8, left: Judged, right: Judged) -> Judged
+    requires { ⌜ (targetInTables (left .owner) ≡ true) × (targetInTables (right .owner) ≡ true) × (length (now classes) ≡ 256) ⌝ }
+    ensures { λ r. ⌜ r ≡ operatorJudged (linkedBy (now (classes .entry))) code left right ⌝ }
 {
     let fault = operator_fault(classes, code, left, right);
     Judged {

@@ -4,17 +4,17 @@ use rules_codes::unread;
 use rules_faults::least;
 use rules_faults::number_if;
 use rules_judgements::Judged;
-use rules_links::Classes;
 ghost use mathlib.Core.Path.{_≡_};
 ghost use mathlib.Core.Bool.{true};
+ghost use lib.ListN.{length};
 ghost use Rattle.definitions.specs.Numbers.{targetInTables};
 ghost use Rattle.rules_links.specs.Names.{linkedBy};
 ghost use Rattle.rules_operators.specs.Operating.{negationJudged, revealJudged};
 
 // A not on its judged part.
-pub fn negation_judged(classes: Classes, part: Judged) -> Judged
-    requires { ⌜ targetInTables (part .owner) ≡ true ⌝ }
-    ensures { λ r. ⌜ r ≡ negationJudged (linkedBy (classes .of)) part ⌝ }
+pub fn negation_judged(classes: &[u8], part: Judged) -> Judged
+    requires { ⌜ (targetInTables (part .owner) ≡ true) × (length (now classes) ≡ 256) ⌝ }
+    ensures { λ r. ⌜ r ≡ negationJudged (linkedBy (now (classes .entry))) part ⌝ }
 {
     let fault = least(
         least(part.fault, number_if(!(part.kind == 0), 9)),
@@ -29,9 +29,9 @@ pub fn negation_judged(classes: Classes, part: Judged) -> Judged
 }
 
 // "13. A reveal's operand belongs to all."
-pub fn reveal_judged(classes: Classes, target: u8, fits: bool, part: Judged) -> Judged
-    requires { ⌜ targetInTables (part .owner) ≡ true ⌝ }
-    ensures { λ r. ⌜ r ≡ revealJudged (linkedBy (classes .of)) target fits part ⌝ }
+pub fn reveal_judged(classes: &[u8], target: u8, fits: bool, part: Judged) -> Judged
+    requires { ⌜ (targetInTables (part .owner) ≡ true) × (length (now classes) ≡ 256) ⌝ }
+    ensures { λ r. ⌜ r ≡ revealJudged (linkedBy (now (classes .entry))) target fits part ⌝ }
 {
     let read = least(
         least(part.fault, number_if(!fits, 8)),

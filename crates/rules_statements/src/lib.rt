@@ -13,6 +13,7 @@ use rules_scopes::field_at;
 ghost use mathlib.Core.Path.{_≡_};
 ghost use mathlib.Core.Bool.{false};
 ghost use Prim.Native.Nat.{_<_};
+ghost use lib.ListN.{length};
 ghost use Rattle.definitions.specs.ContractFile.{nodeCount, assignField, assignEntry};
 ghost use Rattle.definitions.specs.Numbers.{statementFaults, conditionFaults};
 ghost use Rattle.rules_faults.specs.Faults.{leastFault};
@@ -60,12 +61,12 @@ fn field_takes(
     file: &[u8],
     nodes_at: usize,
     p: Parameters,
-    classes: Classes,
+    classes: &[u8],
     arg: u8,
     first: usize,
 ) -> u8
-    requires { ⌜ (first < nodeCount (now file)) × (Ready (now file) «nodes_at» p) ⌝ }
-    ensures { λ r. ⌜ leastFault (statementFaults (scopeAt (now (file .entry)) p) (linkedBy (classes .of))
+    requires { ⌜ (first < nodeCount (now file)) × (Ready (now file) «nodes_at» p) × (length (now classes) ≡ 256) ⌝ }
+    ensures { λ r. ⌜ leastFault (statementFaults (scopeAt (now (file .entry)) p) (linkedBy (now (classes .entry)))
         (assignField arg (expressionOn (nodesOf (now (file .entry))) first))) ≡ r ⌝ }
 {
     let value = judge(file, nodes_at, p, classes, first);
@@ -77,13 +78,14 @@ fn entry_takes(
     file: &[u8],
     nodes_at: usize,
     p: Parameters,
-    classes: Classes,
+    classes: &[u8],
     arg: u8,
     first: usize,
     second: usize,
 ) -> u8
-    requires { ⌜ (first < nodeCount (now file)) × (second < nodeCount (now file)) × (Ready (now file) «nodes_at» p) ⌝ }
-    ensures { λ r. ⌜ leastFault (statementFaults (scopeAt (now (file .entry)) p) (linkedBy (classes .of))
+    requires { ⌜ (first < nodeCount (now file)) × (second < nodeCount (now file)) × (Ready (now file) «nodes_at» p)
+        × (length (now classes) ≡ 256) ⌝ }
+    ensures { λ r. ⌜ leastFault (statementFaults (scopeAt (now (file .entry)) p) (linkedBy (now (classes .entry)))
         (assignEntry arg
         (expressionOn (nodesOf (now (file .entry))) first)
         (expressionOn (nodesOf (now (file .entry))) second))) ≡ r ⌝ }
@@ -94,15 +96,16 @@ fn entry_takes(
 }
 
 // The condition of node `first`.
-fn condition_is(file: &[u8], nodes_at: usize, p: Parameters, classes: Classes, first: usize) -> u8
-    requires { ⌜ (first < nodeCount (now file)) × (Ready (now file) «nodes_at» p) ⌝ }
-    ensures { λ r. ⌜ leastFault (conditionFaults (scopeAt (now (file .entry)) p) (linkedBy (classes .of))
+fn condition_is(file: &[u8], nodes_at: usize, p: Parameters, classes: &[u8], first: usize) -> u8
+    requires { ⌜ (first < nodeCount (now file)) × (Ready (now file) «nodes_at» p) × (length (now classes) ≡ 256) ⌝ }
+    ensures { λ r. ⌜ leastFault (conditionFaults (scopeAt (now (file .entry)) p) (linkedBy (now (classes .entry)))
         (expressionOn (nodesOf (now (file .entry))) first)) ≡ r ⌝ }
 {
     condition_fault(judge(file, nodes_at, p, classes, first))
 }
 
-// The least fault of statement n, and the links in force behind it.
+// The least fault of statement n, and the links in force behind it. An expression is lent a copy of the classes, made where there is one
+// to judge: a parameter that is itself lent is copied at every entry.
 pub fn judge_statement(
     file: &[u8],
     nodes_at: usize,
@@ -127,19 +130,29 @@ pub fn judge_statement(
             let after = two.classes;
             outcome(least(one.fault, two.fault), after)
         }
-        18 => outcome(field_takes(file, nodes_at, p, classes, arg, first), classes),
-        19 => outcome(
-            entry_takes(file, nodes_at, p, classes, arg, first, second),
-            classes,
-        ),
-        20 => outcome(
-            condition_is(file, nodes_at, p, classes, first),
-            learn(file, nodes_at, p, classes, first),
-        ),
+        18 => {
+            let of = classes.of;
+            outcome(field_takes(file, nodes_at, p, &of, arg, first), classes)
+        }
+        19 => {
+            let of = classes.of;
+            outcome(
+                entry_takes(file, nodes_at, p, &of, arg, first, second),
+                classes,
+            )
+        }
+        20 => {
+            let of = classes.of;
+            outcome(
+                condition_is(file, nodes_at, p, &of, first),
+                learn(file, nodes_at, p, classes, first),
+            )
+        }
         21 => {
             let given = handed_on(classes);
             let learnt = learn(file, nodes_at, p, given, first);
-            let condition = condition_is(file, nodes_at, p, classes, first);
+            let so_far = classes.of;
+            let condition = condition_is(file, nodes_at, p, &so_far, first);
             let yes = judge_statement(file, nodes_at, p, learnt, second);
             let no = judge_statement(file, nodes_at, p, given, third);
             after_if(condition, classes, yes, no)

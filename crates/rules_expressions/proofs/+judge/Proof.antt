@@ -32,14 +32,14 @@ use Rattle.rules_scopes.proofs.target_fits.Reads as target-fits-reads
 use Rattle.rules_expressions.proofs.+judge.{statement}
 use Rattle.rules_expressions.proofs.+judge.Tie.{close}
 
-abbrev μ-judge : Measures 1 judge-kinds.ps ℕ
+abbrev μ-judge : Measures 2 judge-kinds.ps ℕ
 μ-judge κs a = a .1 .1 .1 .1 .0
 
-abbrev judge-at : ℕ → In 1 judge-kinds.ps
-judge-at t = and 1 judge-kinds.ps (is 1 judge-kinds.ps μ-judge t) judge.Pre
+abbrev judge-at : ℕ → In 2 judge-kinds.ps
+judge-at t = and 2 judge-kinds.ps (is 2 judge-kinds.ps μ-judge t) judge.Pre
 
-abbrev judge-below : ℕ → In 1 judge-kinds.ps
-judge-below t = and 1 judge-kinds.ps (falls 1 judge-kinds.ps _<_ μ-judge t) judge.Pre
+abbrev judge-below : ℕ → In 2 judge-kinds.ps
+judge-below t = and 2 judge-kinds.ps (falls 2 judge-kinds.ps _<_ μ-judge t) judge.Pre
 
 abbrev judge-claims : ℕ → judge-lts.Claims
 judge-claims t = (
@@ -72,81 +72,81 @@ judge-claims t = (
 )
 
 here : (t : ℕ) (c : judge-lts.After-node-at (judge-claims t) (judge-at t) judge.Post)
-    → nodeAt (nodesOf (c .before .before .args .file .now)) (c .before .before .args .n) ≡ nodeOf (recordOf (c .node-at .result))
-here t c = let s = c .before .before in named _ _ _ _ _ (s .pre .1 .1) (s .pre .1 .0) (c .node-at .ensures)
+    → nodeAt (nodesOf (c .before .before .before .args .file .now)) (c .before .before .before .args .n) ≡ nodeOf (recordOf (c .node-at .result))
+here t c = let s = c .before .before .before in named _ _ _ _ _ (s .pre .1 .1) (s .pre .1 .0) (c .node-at .ensures)
 
 target : (t : ℕ) (c : judge-lts.After-node-at (judge-claims t) (judge-at t) judge.Post) → c .node-at .result .kind ≡ 8
     → targetInTables (c .node-at .result .arg) ≡ true
-target t c e = let s = c .before .before in target-listed _ _ _ _ _ (s .pre .1 .1) (s .pre .1 .0) (c .node-at .ensures) e
+target t c e = let s = c .before .before .before in target-listed _ _ _ _ _ (s .pre .1 .1) (s .pre .1 .0) (c .node-at .ensures) e
 
 pub +judge-spec : {M : Type 1} → statement M
 +judge-spec = close μ-judge λ t. judge-lts.spec (judge-claims t)
     (judge-at t) judge.Post
     (λ c κs. search needs) (λ c. search needs) (λ c κs. search needs) (λ c κs. search needs)
-    (λ c κs. (c .field-at .ensures .final, c .field-at .ensures .same .listed))
-    (λ c κs. let s = c .before .before .before .before in
+    (λ c κs. (c .field-at .ensures .final, c .field-at .ensures .same .listed, c .before .before .before .before .before .before .pre .1 .2))
+    (λ c κs. let s = c .before .before .before .before .before in
     let inside = s .pre .1 .0 in
     let h = key-below _ (s .pre .1 .1 .settled) _ _ (here t (c .before .before)) (c .match .keys3) in
-    (omega arith, (omega arith, s .pre .1 .1)))
+    (omega arith, (omega arith, s .pre .1 .1, s .pre .1 .2)))
     (λ c κs. search needs)
-    (λ c κs. (c .field-at2 .ensures .same .listed, c .before .judge .ensures .nameListed))
-    (λ c κs. search needs) (λ c κs. c .parameter-at .ensures .present)
-    (λ c κs. let s = c .before .before .before .before in
+    (λ c κs. (c .field-at2 .ensures .same .listed, c .before .judge .ensures .nameListed, c .before .before .before .before .before .before .before .pre .1 .2))
+    (λ c κs. search needs) (λ c κs. (c .parameter-at .ensures .present, c .before .before .before .before .before .before .pre .1 .2))
+    (λ c κs. let s = c .before .before .before .before .before in
     let inside = s .pre .1 .0 in
     let h = left-below _ (s .pre .1 .1 .settled) _ _ (here t (c .before .before)) (c .match .keys5) in
-    (omega arith, (omega arith, s .pre .1 .1)))
-    (λ c κs. let s = c .before .before .before .before .before in
+    (omega arith, (omega arith, s .pre .1 .1, s .pre .1 .2)))
+    (λ c κs. let s = c .before .before .before .before .before .before in
     let inside = s .pre .1 .0 in
     let h = right-below _ (s .pre .1 .1 .settled) _ _ (here t (c .before .before .before)) (c .before .match .keys5) in
-    (omega arith, (omega arith, s .pre .1 .1)))
-    (λ c κs. (c .before .judge2 .ensures .ownerListed, c .judge3 .ensures .ownerListed))
-    (λ c κs. let s = c .before .before .before .before in
+    (omega arith, (omega arith, s .pre .1 .1, s .pre .1 .2)))
+    (λ c κs. (c .before .judge2 .ensures .ownerListed, c .judge3 .ensures .ownerListed, c .before .before .before .before .before .before .before .pre .1 .2))
+    (λ c κs. let s = c .before .before .before .before .before in
     let inside = s .pre .1 .0 in
     let h = negated-below _ (s .pre .1 .1 .settled) _ _ (here t (c .before .before)) (c .match .keys6) in
-    (omega arith, (omega arith, s .pre .1 .1)))
-    (λ c κs. c .judge4 .ensures .ownerListed)
-    (λ c κs. let s = c .before .before .before .before in
+    (omega arith, (omega arith, s .pre .1 .1, s .pre .1 .2)))
+    (λ c κs. (c .judge4 .ensures .ownerListed, c .before .before .before .before .before .before .pre .1 .2))
+    (λ c κs. let s = c .before .before .before .before .before in
     let inside = s .pre .1 .0 in
     let h = revealed-below _ (s .pre .1 .1 .settled) _ _ (here t (c .before .before)) (c .match .keys7) in
-    (omega arith, (omega arith, s .pre .1 .1)))
-    (λ c κs. let s = c .before .before .before .before .before in
+    (omega arith, (omega arith, s .pre .1 .1, s .pre .1 .2)))
+    (λ c κs. let s = c .before .before .before .before .before .before in
     (s .pre .1 .1 .settled, s .pre .1 .1 .fewParameters, s .pre .1 .1 .nearParameters, target t (c .before .before .before) (c .before .match .keys7)))
-    (λ c κs. c .before .judge5 .ensures .ownerListed)
+    (λ c κs. (c .before .judge5 .ensures .ownerListed, c .before .before .before .before .before .before .before .pre .1 .2))
     (λ c κs. search needs)
     (λ c. let node-at-result = c .before .before .before .node-at .result in
-    let s = c .before .before .before .before .before in
+    let s = c .before .before .before .before .before .before in
     judged-same _ _ _ _ _ _ (constant-tree _ (s .pre .1 .1 .settled) _ _ (here t (c .before .before .before)) (c .before .match .keys1)) (c .constant-judged .ensures)
     (constant-is _ _ (node-at-result .arg) (constantValue (recordOf node-at-result))))
     (λ c. let field-at = c .before .field-at .ensures in
-    let s = c .before .before .before .before .before .before in
+    let s = c .before .before .before .before .before .before .before in
     judged-same _ _ _ _ _ _ (field-tree _ (s .pre .1 .1 .settled) _ _ (here t (c .before .before .before .before)) (c .before .before .match .keys2))
     (c .field-judged .ensures)
     (field-is _ _ _ _ (field-at .final) (field-at .same)))
-    (λ c. let s = c .before .before .before .before .before .before .before in
+    (λ c. let s = c .before .before .before .before .before .before .before .before in
     judged-same _ _ _ _ _ _ (entry-tree _ (s .pre .1 .1 .settled) _ _ (here t (c .before .before .before .before .before))
     (c .before .before .before .match .keys3)) (c .entry-judged .ensures)
     (entry-is _ _ _ _ _ _ (c .before .field-at2 .ensures .same) (c .before .before .judge .ensures)))
     (λ c. let parameter-at = c .before .parameter-at .ensures in
-    let s = c .before .before .before .before .before .before in
+    let s = c .before .before .before .before .before .before .before in
     judged-same _ _ _ _ _ _ (parameter-tree _ (s .pre .1 .1 .settled) _ _ (here t (c .before .before .before .before))
     (c .before .before .match .keys4)) (c .parameter-judged .ensures)
     (parameter-is _ _ _ _ _ (count-parameters (s .args .file .now) (s .args .p)) (parameter-at .same) (parameter-at .present)))
     (λ c. let node-at-result-arg = c .before .before .before .before .before .node-at .result .arg in
-    let s = c .before .before .before .before .before .before .before in
+    let s = c .before .before .before .before .before .before .before .before in
     judged-same _ _ _ _ _ _ (operator-tree _ (s .pre .1 .1 .settled) _ _ (here t (c .before .before .before .before .before))
     (c .before .before .before .match .keys5)) (c .operator-judged .ensures)
     (operator-is _ _ node-at-result-arg _ _ _ _ (c .before .before .judge2 .ensures) (c .before .judge3 .ensures)))
-    (λ c. let s = c .before .before .before .before .before .before in
+    (λ c. let s = c .before .before .before .before .before .before .before in
     judged-same _ _ _ _ _ _ (negation-tree _ (s .pre .1 .1 .settled) _ _ (here t (c .before .before .before .before))
     (c .before .before .match .keys6)) (c .negation-judged .ensures)
     (negation-is _ _ _ _ (c .before .judge4 .ensures)))
     (λ c. let match-keys7 = c .before .before .before .match .keys7 in
-    let s = c .before .before .before .before .before .before .before in
+    let s = c .before .before .before .before .before .before .before .before in
     judged-same _ _ _ _ _ _ (reveal-tree _ (s .pre .1 .1 .settled) _ _ (here t (c .before .before .before .before .before))
     match-keys7) (c .reveal-judged .ensures)
     (reveal-is _ _ _ _ _ _ (target t (c .before .before .before .before .before) match-keys7)
     (c .before .target-fits .ensures) (c .before .before .judge5 .ensures)))
-    (λ c. let s = c .before .before .before .before .before in
+    (λ c. let s = c .before .before .before .before .before .before in
     let other = c .before .match .rest in
     judged-same _ _ _ _ _ _ (me-tree _ (s .pre .1 .1 .settled) _ _ (here t (c .before .before .before)) (other .0 .0 .0 .0 .0 .0 .1)
     (other .0 .0 .0 .0 .0 .1) (other .0 .0 .0 .0 .1) (other .0 .0 .0 .1) (other .0 .0 .1) (other .0 .1) (other .1)) (c .me-judged .ensures)

@@ -40,14 +40,16 @@ pub +learn-spec : {M : Type 1} → statement M
 +learn-spec = close μ-learn λ t. learn-lts.spec (learn-claims t)
     (learn-at t) learn.Post
     (λ c κs. search needs)
-    (λ c κs. let s = c .before .before .before .before in
+    (λ c. search needs)
+    (λ c κs. let s = c .before .before .before .before .before .before in
     let inside = s .pre .1 .0 in
-    let h = left-below _ (s .pre .1 .1 .settled) _ _ (here t (c .before .before)) (c .before .if1 .taken) in
-    (omega arith, s .pre .1 .1))
-    (λ c κs. let s = c .before .before .before .before .before in
+    let h = left-below _ (s .pre .1 .1 .settled) _ _ (here t (c .before .before .before .before)) (c .before .before .before .if1 .taken) in
+    (omega arith, s .pre .1 .1, search needs))
+    (λ c. search needs)
+    (λ c κs. let s = c .before .before .before .before .before .before .before .before in
     let inside = s .pre .1 .0 in
-    let h = right-below _ (s .pre .1 .1 .settled) _ _ (here t (c .before .before .before)) (c .before .before .if1 .taken) in
-    (omega arith, s .pre .1 .1))
+    let h = right-below _ (s .pre .1 .1 .settled) _ _ (here t (c .before .before .before .before .before .before)) (c .before .before .before .before .before .if1 .taken) in
+    (omega arith, s .pre .1 .1, search needs))
     (λ c κs. search needs)
     (λ c κs. let s = c .before .before .before .before in
     let inside = s .pre .1 .0 in
@@ -57,11 +59,11 @@ pub +learn-spec : {M : Type 1} → statement M
     let inside = s .pre .1 .0 in
     let h = right-below _ (s .pre .1 .1 .settled) _ _ (here t (c .before .before .before)) (c .before .before .if1 .taken) in
     (omega arith, (omega arith, s .pre .1 .1)))
-    (λ c. let node-at-result-arg = c .before .before .before .before .before .node-at .result .arg in
-    let s = c .before .before .before .before .before .before .before in
-    let tree = operator-tree _ (s .pre .1 .1 .settled) _ _ (here t (c .before .before .before .before .before)) (c .before .before .before .before .if1 .taken) in
-    learnt-as (c .with-link .ensures) (equality-learnt _ _ _ _ _ node-at-result-arg tree _ _
-    (c .before .before .before .match .keys1) (c .before .before .judge .ensures) (c .before .judge2 .ensures)))
+    (λ c. let matched = c .before .before .before .before .before .before in
+    let read = matched .before .before in
+    let tree = operator-tree _ (read .before .before .pre .1 .1 .settled) _ _ (here t read) (matched .before .if1 .taken) in
+    learnt-as (c .with-link .ensures) (equality-learnt _ _ _ _ _ (read .node-at .result .arg) tree _ _
+    (matched .match .keys1) (c .before .before .before .judge .ensures) (c .before .judge2 .ensures)))
     (λ c. let s = c .before .before .before .before .before .before in
     let tree = operator-tree _ (s .pre .1 .1 .settled) _ _ (here t (c .before .before .before .before)) (c .before .before .before .if1 .taken) in
     learnt-both (c .before .learn .ensures)

@@ -9,7 +9,7 @@ pub field-judged-spec : {M : Type 1} → statement M
 field-judged-spec =
     tie.close (tie.spec
     (λ c κs. search needs) (λ c κs. search needs) (λ c κs. search needs)
-    (λ c κs. let s = c .before .before .before .before in
-    ap targetInTables (c .before .before .before .place-owner .ensures) ∙ place-listed (s .args .d .owner) 0 (s .pre .1) refl)
+    (λ c κs. let s = c .before .before .before .before .before in
+    (ap targetInTables (c .before .before .before .place-owner .ensures) ∙ place-listed (s .args .d .owner) 0 (s .pre .1) refl, s .pre .2))
     (λ c κs. search needs)
     (λ c. cc))

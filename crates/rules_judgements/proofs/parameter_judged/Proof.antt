@@ -11,6 +11,7 @@ pub parameter-judged-spec : {M : Type 1} → statement M
 parameter-judged-spec =
     tie.close (tie.spec
     (λ c κs. search needs) (λ c κs. search needs) (λ c κs. search needs)
-    (λ c κs. ap targetInTables (c .before .before .code-if .ensures) ∙ caller-listed (not (eqb (c .before .before .before .before .args .p .owner) 0)))
+    (λ c κs. let s = c .before .before .before .before .before in
+    (ap targetInTables (c .before .before .code-if .ensures) ∙ caller-listed (not (eqb (s .args .p .owner) 0)), s .pre .1))
     (λ c κs. search needs)
     (λ c. cc))

@@ -76,24 +76,27 @@ pub +judge-statement-spec : {M : Type 1} → statement M
     let h = two-below _ (s .pre .1 .1 .settled) _ _ (here t (c .before .before .before .before)) (c .before .before .match .keys1) in
     (omega arith, (omega arith, s .pre .1 .1)))
     (λ c κs. search needs) (λ c κs. search needs)
-    (λ c κs. let s = c .before .before .before .before in
+    (λ c. search needs)
+    (λ c κs. let s = c .before .before .before .before .before .before in
     let inside = s .pre .1 .0 in
-    let h = put-below _ (s .pre .1 .1 .settled) _ _ (here t (c .before .before)) (c .match .keys2) in
-    (omega arith, s .pre .1 .1))
+    let h = put-below _ (s .pre .1 .1 .settled) _ _ (here t (c .before .before .before .before)) (c .before .before .match .keys2) in
+    (omega arith, s .pre .1 .1, search needs))
     (λ c κs. search needs)
-    (λ c κs. let s = c .before .before .before .before in
+    (λ c. search needs)
+    (λ c κs. let s = c .before .before .before .before .before .before in
     let inside = s .pre .1 .0 in
-    let h = key-below _ (s .pre .1 .1 .settled) _ _ (here t (c .before .before)) (c .match .keys3) in
-    let k = value-below _ (s .pre .1 .1 .settled) _ _ (here t (c .before .before)) (c .match .keys3) in
-    (omega arith, omega arith, s .pre .1 .1))
+    let h = key-below _ (s .pre .1 .1 .settled) _ _ (here t (c .before .before .before .before)) (c .before .before .match .keys3) in
+    let k = value-below _ (s .pre .1 .1 .settled) _ _ (here t (c .before .before .before .before)) (c .before .before .match .keys3) in
+    (omega arith, omega arith, s .pre .1 .1, search needs))
     (λ c κs. search needs)
-    (λ c κs. let s = c .before .before .before .before in
+    (λ c. search needs)
+    (λ c κs. let s = c .before .before .before .before .before .before in
     let inside = s .pre .1 .0 in
-    let h = required-below _ (s .pre .1 .1 .settled) _ _ (here t (c .before .before)) (c .match .keys4) in
-    (omega arith, s .pre .1 .1))
-    (λ c κs. let s = c .before .before .before .before .before in
+    let h = required-below _ (s .pre .1 .1 .settled) _ _ (here t (c .before .before .before .before)) (c .before .before .match .keys4) in
+    (omega arith, s .pre .1 .1, search needs))
+    (λ c κs. let s = c .before .before .before .before .before .before .before in
     let inside = s .pre .1 .0 in
-    let h = required-below _ (s .pre .1 .1 .settled) _ _ (here t (c .before .before .before)) (c .before .match .keys4) in
+    let h = required-below _ (s .pre .1 .1 .settled) _ _ (here t (c .before .before .before .before .before)) (c .before .before .before .match .keys4) in
     (omega arith, s .pre .1 .1))
     (λ c κs. search needs)
     (λ c κs. search needs)
@@ -101,17 +104,18 @@ pub +judge-statement-spec : {M : Type 1} → statement M
     let inside = s .pre .1 .0 in
     let h = condition-below _ (s .pre .1 .1 .settled) _ _ (here t (c .before .before .before)) (c .before .match .keys5) in
     (omega arith, s .pre .1 .1))
-    (λ c κs. let s = c .before .before .before .before .before .before in
-    let inside = s .pre .1 .0 in
-    let h = condition-below _ (s .pre .1 .1 .settled) _ _ (here t (c .before .before .before .before)) (c .before .before .match .keys5) in
-    (omega arith, s .pre .1 .1))
-    (λ c κs. let s = c .before .before .before .before .before .before .before in
-    let inside = s .pre .1 .0 in
-    let h = then-below _ (s .pre .1 .1 .settled) _ _ (here t (c .before .before .before .before .before)) (c .before .before .before .match .keys5) in
-    (omega arith, (omega arith, s .pre .1 .1)))
+    (λ c. search needs)
     (λ c κs. let s = c .before .before .before .before .before .before .before .before in
     let inside = s .pre .1 .0 in
-    let h = else-below _ (s .pre .1 .1 .settled) _ _ (here t (c .before .before .before .before .before .before)) (c .before .before .before .before .match .keys5) in
+    let h = condition-below _ (s .pre .1 .1 .settled) _ _ (here t (c .before .before .before .before .before .before)) (c .before .before .before .before .match .keys5) in
+    (omega arith, s .pre .1 .1, search needs))
+    (λ c κs. let s = c .before .before .before .before .before .before .before .before .before in
+    let inside = s .pre .1 .0 in
+    let h = then-below _ (s .pre .1 .1 .settled) _ _ (here t (c .before .before .before .before .before .before .before)) (c .before .before .before .before .before .match .keys5) in
+    (omega arith, (omega arith, s .pre .1 .1)))
+    (λ c κs. let s = c .before .before .before .before .before .before .before .before .before .before in
+    let inside = s .pre .1 .0 in
+    let h = else-below _ (s .pre .1 .1 .settled) _ _ (here t (c .before .before .before .before .before .before .before .before)) (c .before .before .before .before .before .before .match .keys5) in
     (omega arith, (omega arith, s .pre .1 .1)))
     (λ c κs. search needs)
     (λ c κs. search needs)
@@ -122,24 +126,24 @@ pub +judge-statement-spec : {M : Type 1} → statement M
     (here t (c .before .before .before .before .before .before .before .before))
     match-keys1) (c .outcome .ensures)
     judge-statement-2 (c .before .before .before .judge-statement2 .ensures) (c .before .least .ensures))
-    (λ c. let s = c .before .before .before .before .before .before in
-    assign-field-is _ _ _ _ _ _ _ (assign-field-tree _ (s .pre .1 .1 .settled) _ _ (here t (c .before .before .before .before))
-    (c .before .before .match .keys2)) (c .outcome2 .ensures)
+    (λ c. let s = c .before .before .before .before .before .before .before .before in
+    assign-field-is _ _ _ _ _ _ _ (assign-field-tree _ (s .pre .1 .1 .settled) _ _ (here t (c .before .before .before .before .before .before))
+    (c .before .before .before .before .match .keys2)) (c .outcome2 .ensures)
     (c .before .field-takes .ensures))
-    (λ c. let s = c .before .before .before .before .before .before in
-    assign-entry-is _ _ _ _ _ _ _ _ (assign-entry-tree _ (s .pre .1 .1 .settled) _ _ (here t (c .before .before .before .before))
-    (c .before .before .match .keys3)) (c .outcome3 .ensures)
+    (λ c. let s = c .before .before .before .before .before .before .before .before in
+    assign-entry-is _ _ _ _ _ _ _ _ (assign-entry-tree _ (s .pre .1 .1 .settled) _ _ (here t (c .before .before .before .before .before .before))
+    (c .before .before .before .before .match .keys3)) (c .outcome3 .ensures)
     (c .before .entry-takes .ensures))
-    (λ c. let s = c .before .before .before .before .before .before .before in
-    require-is _ _ _ _ _ _ _ (require-tree _ (s .pre .1 .1 .settled) _ _ (here t (c .before .before .before .before .before))
-    (c .before .before .before .match .keys4)) (c .outcome4 .ensures)
+    (λ c. let s = c .before .before .before .before .before .before .before .before .before in
+    require-is _ _ _ _ _ _ _ (require-tree _ (s .pre .1 .1 .settled) _ _ (here t (c .before .before .before .before .before .before .before))
+    (c .before .before .before .before .before .match .keys4)) (c .outcome4 .ensures)
     (c .before .before .condition-is .ensures) (c .before .learn .ensures))
-    (λ c. let s = c .before .before .before .before .before .before .before .before .before .before in
-    let match-keys5 = c .before .before .before .before .before .before .match .keys5 in
-    let marked = c .before .before .before .before .before .handed-on .ensures in
-    let learns = c .before .before .before .before .learn2 .ensures in
+    (λ c. let s = c .before .before .before .before .before .before .before .before .before .before .before .before in
+    let match-keys5 = c .before .before .before .before .before .before .before .before .match .keys5 in
+    let marked = c .before .before .before .before .before .before .before .handed-on .ensures in
+    let learns = c .before .before .before .before .before .before .learn2 .ensures in
     let condition = c .before .before .before .condition-is2 .ensures in
-    let tree = conditional-tree _ (s .pre .1 .1 .settled) _ _ (here t (c .before .before .before .before .before .before .before .before)) match-keys5 in
+    let tree = conditional-tree _ (s .pre .1 .1 .settled) _ _ (here t (c .before .before .before .before .before .before .before .before .before .before)) match-keys5 in
     conditional-is _ _ _ _ _ _ _ _ _ marked learns (c .before .before .judge-statement3 .ensures) (c .before .judge-statement4 .ensures) _ _ _ tree
     (c .after-if .ensures) condition)
     (λ c. let s = c .before .before .before .before .before in
