@@ -1,10 +1,10 @@
 -- Numbers 8 to 15 come after 1 to 7; of a file of number 0 none of the seven holds; 3 to 7 come after 1 and 2.
 use mathlib.Core.Path.{_≡_, refl}
-use mathlib.Core.Bool.{Bool, true, false}
+use mathlib.Core.Bool.{Bool, true, false, cond}
 use mathlib.Core.List.{List, [], _∷_}
 use Prim.Native.Nat.{ℕ}
 use Rattle.definitions.specs.Basics.{firstThatHolds}
-use Rattle.definitions.specs.ContractFile.{sectionsOf, contractOf}
+use Rattle.definitions.specs.ContractFile.{Sections, sectionsOf, contractOf}
 use Rattle.definitions.specs.Numbers.{endsWrongly, countOffLimits, outsideTables, namesNothing, usedOtherThanOnce, tooDeep, wrongSort, contractSentences, checkNumber, orElse}
 use Rattle.theory_accepted.specs.Settled.{Settled}
 use Rattle.theory_accepted.proofs.Sentences.{none-holds}
@@ -42,3 +42,9 @@ settled file h =
 pub shape-after-counts : (file : List ℕ) → endsWrongly file ≡ false → countOffLimits file ≡ false → shapeNumber file ≡ sectionsNumber (sectionsOf file)
 unfolding shapeNumber sectionsNumber firstThatHolds
 shape-after-counts file ends counts = rw (ends, counts)
+
+-- Number 7 is asked where none of 3 to 6 holds.
+pub sorts-after : (s : Sections) (wrong : Bool) → outsideTables s ≡ false → namesNothing s ≡ false → usedOtherThanOnce s ≡ false → tooDeep s ≡ false → wrongSort s ≡ wrong
+    → cond {A = ℕ} wrong 7 0 ≡ sectionsNumber s
+unfolding sectionsNumber firstThatHolds
+sorts-after s wrong tables names uses depth sorts = rw (tables, names, uses, depth, sorts)
