@@ -6,6 +6,7 @@ use Rattle.definitions.specs.ContractFile.{Name, meName, Field, DataType
 use Rattle.definitions.specs.ContractFile.{scopeOf, isFinal, isOfType, typeOf, contractIn}
 use Rattle.definitions.specs.Original.{position, Reader, anyone, only, readerOf, operate, operates, negate, perPlace, addressIn}
 use Rattle.definitions.specs.Original.{placeReaders, deployedNumbers, value, placesAfter}
+use Rattle.definitions.specs.Owners.{ownerOf}
 use Rattle.definitions.specs.Rewriting.{BodyExpression, Circuit, Command, Claim, equals, opensForCaller, Guard, always, under}
 use Rattle.definitions.specs.Rewriting.{Constraint, Variable, supplied, readFrom, guard, variableOwner, inBody, inBranch}
 use Rattle.definitions.specs.Rewriting.{rewriteStatement, openings, privateParameters, rewriteFunction}
@@ -354,7 +355,7 @@ module _ (scope : Scope) (address : Name → ℕ) (call : ℕ) (arguments : List
   honestVariables (Statement.require condition) places g i =
       honestContents places i ((rewriteStatement scope (Statement.require condition) g i) .variables)
   honestVariables (Statement.conditional condition then else) places g i =
-      let c = inBody scope condition i in
+      let c = inBody (ownerOf scope) condition i in
       let j = i + length (c .variables) in
       let a = inBranch (rewriteStatement scope then) j in
       let k = j + length (a .variables) in

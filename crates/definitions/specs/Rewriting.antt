@@ -5,7 +5,7 @@ use Rattle.definitions.specs.Basics.{any, flatMap, twoBytes, firstThatHo
 use Rattle.definitions.specs.ContractFile.{DataType, Owner, everyone, isEveryone, Operator, Expression, Parameter, Field, boolean}
 use Rattle.definitions.specs.ContractFile.{meName, ownedBy, Statement, Function, Contract, Scope, fieldAt, isDivision, dataTypeCode}
 use Rattle.definitions.specs.ContractFile.{shapeCode, operatorCode, NodeRecord, node, ownerCode, fieldOwnerCode, contractIn}
-use Rattle.definitions.specs.Owners.{nameOf, ownerOf, placeOwner, isPublic}
+use Rattle.definitions.specs.Owners.{nameOf, ownerOf, placeOwner}
 use Rattle.definitions.specs.Numbers.{checkNumber, orElse}
 
 -- An expression of a written body: "Nodes follow as in input, with 9 variable first".
@@ -136,7 +136,8 @@ reading o e value i =
     (v .steps ++ (record { variable = j; value = v .form } ∷ []))
     (v .claims)
 
-module _ (scope : Scope) where
+-- An expression is rewritten given whose every expression is.
+module _ (owner : Expression → Owner) where
   -- "The circuit keeps .. operators ..; replaces .. a public / or %, by a read variable"
   abbrev pub operatorInCircuit : Operator → Expression → Expression
       → Generator BodyExpression → Generator BodyExpression
@@ -144,7 +145,7 @@ module _ (scope : Scope) where
       → Generator Circuit
   operatorInCircuit o left right leftBody rightBody leftCircuit rightCircuit =
       let e = Expression.operator o left right in
-      cond (isPublic scope e && isDivision o)
+      cond (isEveryone (owner e) && isDivision o)
       (reading everyone e (twoParts (BodyExpression.operator o) leftBody rightBody))
       (twoParts (Circuit.operator o) leftCircuit rightCircuit)
 
@@ -159,11 +160,11 @@ module _ (scope : Scope) where
     inBody (Expression.parameter k) = kept (BodyExpression.parameter k)
     inBody (Expression.operator o left right) =
         let e = Expression.operator o left right in
-        cond (isPublic scope e)
+        cond (isEveryone (owner e))
         (twoParts (BodyExpression.operator o) (inBody left) (inBody right))
         (supplying (ownedBy meName) e (operatorInCircuit o left right (inBody left) (inBody right) (inCircuit left) (inCircuit right)))
     inBody (Expression.negation part) =
-        cond (isPublic scope (Expression.negation part))
+        cond (isEveryone (owner (Expression.negation part)))
         (onePart BodyExpression.negation (inBody part))
         (supplying (ownedBy meName) (Expression.negation part) (onePart Circuit.negation (inCircuit part)))
     inBody (Expression.reveal part o) = supplying o (Expression.reveal part o) (inCircuit part)
@@ -174,15 +175,15 @@ module _ (scope : Scope) where
     inCircuit (Expression.constant t v) = kept (Circuit.constant t v)
     inCircuit Expression.me = kept Circuit.me
     inCircuit (Expression.field f) =
-        reading (ownerOf scope (Expression.field f))
+        reading (owner (Expression.field f))
         (Expression.field f)
         (kept (BodyExpression.field f))
     inCircuit (Expression.entry f key) =
-        reading (ownerOf scope (Expression.entry f key))
+        reading (owner (Expression.entry f key))
         (Expression.entry f key)
         (onePart (BodyExpression.entry f) (inBody key))
     inCircuit (Expression.parameter k) =
-        reading (ownerOf scope (Expression.parameter k))
+        reading (owner (Expression.parameter k))
         (Expression.parameter k)
         (kept (BodyExpression.parameter k))
     inCircuit (Expression.operator o left right) =
@@ -193,7 +194,7 @@ module _ (scope : Scope) where
   -- "A public value put into a private place is supplied as a cell of that place's owner code."
   abbrev pub inPlace : Owner → Expression → Generator BodyExpression
   inPlace everyone e = inBody e
-  inPlace (ownedBy n) e = cond (isPublic scope e) (supplying (ownedBy n) e (inCircuit e)) (inBody e)
+  inPlace (ownedBy n) e = cond (isEveryone (owner e)) (supplying (ownedBy n) e (inCircuit e)) (inBody e)
 
 -- "Steps nest rightwards: (step, rest)"
 unfoldable pub stepsBefore : List Step → Command → Command
@@ -256,14 +257,14 @@ rewriteStatement scope Statement.skip = single (kept Command.skip)
 rewriteStatement scope (Statement.sequence first second) =
     inSequence (rewriteStatement scope first) (rewriteStatement scope second)
 rewriteStatement scope (Statement.assignField f value) =
-    single (onePart (Command.assignField f) (inPlace scope (placeOwner ((fieldAt (scope .fields) f) .owner) none) value))
+    single (onePart (Command.assignField f) (inPlace (ownerOf scope) (placeOwner ((fieldAt (scope .fields) f) .owner) none) value))
 rewriteStatement scope (Statement.assignEntry f key value) =
     single (twoParts (Command.assignEntry f)
-    (inBody scope key)
-    (inPlace scope (placeOwner ((fieldAt (scope .fields) f) .owner) (nameOf scope key)) value))
-rewriteStatement scope (Statement.require condition) = single (onePart Command.require (inBody scope condition))
+    (inBody (ownerOf scope) key)
+    (inPlace (ownerOf scope) (placeOwner ((fieldAt (scope .fields) f) .owner) (nameOf scope key)) value))
+rewriteStatement scope (Statement.require condition) = single (onePart Command.require (inBody (ownerOf scope) condition))
 rewriteStatement scope (Statement.conditional condition then else) =
-    inBranches (inBody scope condition)
+    inBranches (inBody (ownerOf scope) condition)
     (rewriteStatement scope then)
     (rewriteStatement scope else)
 

@@ -7,6 +7,7 @@ use native.Mathlib.Omega.{arith}
 use lib.ListN.{length, replicate, length-append, length-map}
 use Rattle.definitions.specs.Basics.{isTrue}
 use Rattle.definitions.specs.ContractFile.{Name, meName, Expression, Statement}
+use Rattle.definitions.specs.Owners.{ownerOf}
 use Rattle.definitions.specs.Rewriting.{Variable, supplied, readFrom, guard, Guard, always, under, inBody, single, kept, inSequence, inBranch, inBranches, rewriteStatement, openings}
 use Rattle.definitions.specs.Original.{readerOf}
 use Rattle.definitions.specs.Ledger.{Content, plain, contentFor, honestContents, honestVariables}
@@ -128,7 +129,7 @@ module _ (file : List ℕ) (functionStart : ℕ) (arguments : List ℕ) (caller 
   honest-count (Statement.conditional condition then else) live p g i =
       let scope = scopeIn file functionStart in
       let taken = isTaken file functionStart arguments caller p condition in
-      let c = (inBody scope condition i) .variables in
+      let c = (inBody (ownerOf scope) condition i) .variables in
       let j = i + length c in
       let a = (rewriteStatement scope then (under j) (suc j)) .variables in
       let k = j + suc (length a) in
@@ -213,7 +214,7 @@ module _ (file : List ℕ) (functionStart : ℕ) (arguments : List ℕ) (caller 
   honest-is (Statement.conditional condition then else) p g i =
       let scope = scopeIn file functionStart in
       let T = isTaken file functionStart arguments caller p condition in
-      let c = (inBody scope condition i) .variables in
+      let c = (inBody (ownerOf scope) condition i) .variables in
       let j = i + length c in
       let a = (rewriteStatement scope then (under j) (suc j)) .variables in
       let k = j + suc (length a) in

@@ -4,6 +4,7 @@ use mathlib.Core.List.{List, [], _∷_, _++_}
 use Prim.Native.Nat.{suc, _+_}
 use lib.ListN.{length, length-append}
 use Rattle.definitions.specs.ContractFile.{Scope}
+use Rattle.definitions.specs.Owners.{ownerOf}
 use Rattle.definitions.specs.Rewriting.{Variable, supplied, readFrom, guard, equals, Claim, Guard, Constraint, Step, inBody, inCircuit, heldUnder}
 use Rattle.rewrite_events.specs.Events.{Event, suppliedEvent, claimedEvent, readEvent, guardEvent, variablesOf, stepsOf, constraintsOf, variableCount}
 
@@ -24,7 +25,7 @@ steps-append scope [] second = refl
 steps-append scope (suppliedEvent i o e ∷ first) second = steps-append scope first second
 steps-append scope (claimedEvent g i o e ∷ first) second = steps-append scope first second
 steps-append scope (readEvent s j o e ∷ first) second =
-    ap (λ (l : List Step). record { variable = j; value = (inBody scope e s) .form } ∷ l) (steps-append scope first second)
+    ap (λ (l : List Step). record { variable = j; value = (inBody (ownerOf scope) e s) .form } ∷ l) (steps-append scope first second)
 steps-append scope (guardEvent i ∷ first) second = steps-append scope first second
 
 pub constraints-append : (scope : Scope) (first second : List Event)
@@ -33,7 +34,7 @@ unfolding constraintsOf
 constraints-append scope [] second = refl
 constraints-append scope (suppliedEvent i o e ∷ first) second = constraints-append scope first second
 constraints-append scope (claimedEvent g i o e ∷ first) second =
-    ap (λ (l : List Constraint). record { guard = g; claim = equals i o ((inCircuit scope e (suc i)) .form) } ∷ l) (constraints-append scope first second)
+    ap (λ (l : List Constraint). record { guard = g; claim = equals i o ((inCircuit (ownerOf scope) e (suc i)) .form) } ∷ l) (constraints-append scope first second)
 constraints-append scope (readEvent s j o e ∷ first) second = constraints-append scope first second
 constraints-append scope (guardEvent i ∷ first) second = constraints-append scope first second
 

@@ -5,7 +5,7 @@ use mathlib.Core.Option.{none}
 use Prim.Native.Nat.{ℕ, suc, _+_}
 use lib.ListN.{length}
 use Rattle.definitions.specs.ContractFile.{Statement, Scope, fieldAt}
-use Rattle.definitions.specs.Owners.{nameOf, placeOwner}
+use Rattle.definitions.specs.Owners.{nameOf, placeOwner, ownerOf}
 use Rattle.definitions.specs.Rewriting.{Variable, BodyExpression, Command, Guard, under, guard, Generator, kept, inBody, inPlace, StatementGenerator, single, inSequence, inBranch, inBranches, rewriteStatement}
 use Rattle.rewrite_events.specs.Events.{Event, variablesOf, constraintsOf, Events, inTurn, branchEvents, statementEvents}
 use Rattle.rewrite_events.specs.Making.{MakesPiece, MakesPassage}
@@ -58,9 +58,9 @@ module _ (scope : Scope) where
   statement-made (Statement.sequence first second) g i =
       sequence-made (rewriteStatement scope first) (rewriteStatement scope second) g _ _ (statement-made first g) (statement-made second g) i
   statement-made (Statement.assignField f value) g i =
-      single-made _ g i _ (one-made scope g _ (inPlace scope (placeOwner ((fieldAt (scope .fields) f) .owner) none) value) _ i (place-made scope g (placeOwner ((fieldAt (scope .fields) f) .owner) none) value i))
+      single-made _ g i _ (one-made scope g _ (inPlace (ownerOf scope) (placeOwner ((fieldAt (scope .fields) f) .owner) none) value) _ i (place-made scope g (placeOwner ((fieldAt (scope .fields) f) .owner) none) value i))
   statement-made (Statement.assignEntry f key value) g i =
-      single-made _ g i _ (two-made scope g (Command.assignEntry f) (inBody scope key) _ _ _ (body-made scope g key) (place-made scope g (placeOwner ((fieldAt (scope .fields) f) .owner) (nameOf scope key)) value) i)
-  statement-made (Statement.require condition) g i = single-made _ g i _ (one-made scope g _ (inBody scope condition) _ i (body-made scope g condition i))
+      single-made _ g i _ (two-made scope g (Command.assignEntry f) (inBody (ownerOf scope) key) _ _ _ (body-made scope g key) (place-made scope g (placeOwner ((fieldAt (scope .fields) f) .owner) (nameOf scope key)) value) i)
+  statement-made (Statement.require condition) g i = single-made _ g i _ (one-made scope g _ (inBody (ownerOf scope) condition) _ i (body-made scope g condition i))
   statement-made (Statement.conditional condition then else) g i =
-      branches-made (inBody scope condition) (rewriteStatement scope then) (rewriteStatement scope else) g _ _ _ (body-made scope g condition) (statement-made then) (statement-made else) i
+      branches-made (inBody (ownerOf scope) condition) (rewriteStatement scope then) (rewriteStatement scope else) g _ _ _ (body-made scope g condition) (statement-made then) (statement-made else) i

@@ -30,14 +30,14 @@ unfoldable pub stepsOf : Scope → List Event → List Step
 stepsOf scope [] = []
 stepsOf scope (suppliedEvent i o e ∷ events) = stepsOf scope events
 stepsOf scope (claimedEvent g i o e ∷ events) = stepsOf scope events
-stepsOf scope (readEvent s j o e ∷ events) = record { variable = j; value = (inBody scope e s) .form } ∷ stepsOf scope events
+stepsOf scope (readEvent s j o e ∷ events) = record { variable = j; value = (inBody (ownerOf scope) e s) .form } ∷ stepsOf scope events
 stepsOf scope (guardEvent i ∷ events) = stepsOf scope events
 
 unfoldable pub constraintsOf : Scope → List Event → List Constraint
 constraintsOf scope [] = []
 constraintsOf scope (suppliedEvent i o e ∷ events) = constraintsOf scope events
 constraintsOf scope (claimedEvent g i o e ∷ events) =
-    record { guard = g; claim = equals i o ((inCircuit scope e (suc i)) .form) } ∷ constraintsOf scope events
+    record { guard = g; claim = equals i o ((inCircuit (ownerOf scope) e (suc i)) .form) } ∷ constraintsOf scope events
 constraintsOf scope (readEvent s j o e ∷ events) = constraintsOf scope events
 constraintsOf scope (guardEvent i ∷ events) = constraintsOf scope events
 

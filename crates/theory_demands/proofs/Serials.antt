@@ -6,6 +6,7 @@ use Prim.Native.Nat.{ℕ, zero, suc, _+_}
 use lib.ListN.{length, set, replicate}
 use Rattle.definitions.specs.Basics.{isTrue}
 use Rattle.definitions.specs.ContractFile.{Name, Statement, Field, Parameter, Scope}
+use Rattle.definitions.specs.Owners.{ownerOf}
 use Rattle.definitions.specs.Rewriting.{BodyExpression, Command, Variable, supplied, readFrom, guard, Guard, under, Passage, inBody, inBranch, rewriteStatement}
 use Rattle.definitions.specs.Original.{value, placesAfter, Reader, anyone, only, readerOf, position}
 use Rattle.definitions.specs.Ledger.{Content, plain, State, contentAt, contentFor, contentOf, stateAfter, plainNumber, honestContent, honestContents, honestVariables, honestParameters, publicOf}
@@ -120,7 +121,7 @@ module _ (scope : Scope) (address : Name → ℕ) (n : ℕ) (arguments : List �
   made-variables (Statement.assignEntry f key e) places g i = made-contents places i _
   made-variables (Statement.require condition) places g i = made-contents places i _
   made-variables (Statement.conditional condition then else) places g i =
-      let c = inBody scope condition i in
+      let c = inBody (ownerOf scope) condition i in
       let j = i + length (c .variables) in
       let a = inBranch (rewriteStatement scope then) j in
       let k = j + length (a .variables) in

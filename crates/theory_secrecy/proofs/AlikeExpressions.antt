@@ -18,10 +18,10 @@ module _ (scope : Scope) (addressOf : Name → ℕ) (party : ℕ) (arguments arg
 
   pub record AlikeExpression (e : Expression) : Type 0 where
     pub same : SameFor (ownerOf scope e) e
-    pub body : Supplies SameFor (inBody scope e)
-    pub circuit : Supplies SameFor (inCircuit scope e)
+    pub body : Supplies SameFor (inBody (ownerOf scope) e)
+    pub circuit : Supplies SameFor (inCircuit (ownerOf scope) e)
 
-  pub alike-inPlace : (o : Owner) (e : Expression) → SameFor o e → AlikeExpression e → Supplies SameFor (inPlace scope o e)
+  pub alike-inPlace : (o : Owner) (e : Expression) → SameFor o e → AlikeExpression e → Supplies SameFor (inPlace (ownerOf scope) o e)
   alike-inPlace everyone e same h = h .body
   alike-inPlace (ownedBy n) e same h = supplies-cond (isPublic scope e) (supplies-supplying (ownedBy n) e same (h .circuit)) (h .body)
 

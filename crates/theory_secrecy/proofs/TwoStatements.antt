@@ -74,7 +74,7 @@ module _ (scope : Scope) (addressOf : Name → ℕ) (party : ℕ) (arguments arg
       → Agree party addressOf (scope .fields) places places′ → q ≡ q′ → getD (readersOf addressOf (scope .fields)) q anyone ≡ readerOf addressOf place
       → mayBePut linked (ownerOf scope e) place ≡ true → AlikeExpression scope addressOf party arguments arguments′ places places′ e
       → Agree party addressOf (scope .fields) (set places q (value (scope .fields) addressOf arguments places e)) (set places′ q′ (value (scope .fields) addressOf arguments′ places′ e))
-      × Supplies (SameFor scope addressOf party arguments arguments′ places places′) (inPlace scope place e)
+      × Supplies (SameFor scope addressOf party arguments arguments′ places places′) (inPlace (ownerOf scope) place e)
   alike-put linked place q q′ e places places′ sound n agree z reader put p =
       let same : SameFor scope addressOf party arguments arguments′ places places′ place e =
       λ may. p .same (reads-put addressOf party linked sound (ownerOf scope e) place put may) in
@@ -101,7 +101,7 @@ module _ (scope : Scope) (addressOf : Name → ℕ) (party : ℕ) (arguments arg
         sound = sound-in-second addressOf (linksAfter scope then (linksOfCondition scope condition linked)) (linksAfter scope else linked) (q .sound);
         agree = rw (z, z′) (q .agree);
         variables = λ call g i.
-            let j = i + length ((inBody scope condition i) .variables) in
+            let j = i + length ((inBody (ownerOf scope) condition i) .variables) in
             let passed = length ((inBranch (rewriteStatement scope then) j) .variables) in
             rw (z, z′) (alike-append (alike-honest scope addressOf party arguments arguments′ places places′ call i (p .body .at i))
             (alike-append {l = replicate passed (plain 0)} (alike-itself party _) (alike-cons {c = plain 0} refl (q .variables call (under (j + passed)) (suc (j + passed))))));

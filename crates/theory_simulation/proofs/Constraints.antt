@@ -8,6 +8,7 @@ use lib.ListN.{length, replicate, length-append, length-replicate, List·getD-ap
 use lib.Seq.{getD-append-add}
 use Rattle.definitions.specs.Basics.{all}
 use Rattle.definitions.specs.ContractFile.{Scope, Statement, skip, sequence, assignField, assignEntry, require, conditional}
+use Rattle.definitions.specs.Owners.{ownerOf}
 use Rattle.definitions.specs.Rewriting.{BodyExpression, Command, Claim, Guard, under, Constraint, Generator, kept, inBody, heldUnder, StatementGenerator, single, inSequence, inBranch, inBranches, rewriteStatement}
 use Rattle.definitions.specs.Ledger.{Content, plain, contentAt, isSet, claimHolds, constraintHolds}
 use Rattle.theory_laws.proofs.TruthValues.{and-left, and-right}
@@ -110,5 +111,5 @@ module _ (c : Call) where
   untaken-holds scope (assignField f e) = single-untaken _
   untaken-holds scope (assignEntry f key e) = single-untaken _
   untaken-holds scope (require condition) = single-untaken _
-  untaken-holds scope (conditional condition then else) = branches-untaken (inBody scope condition) (untaken-holds scope then)
+  untaken-holds scope (conditional condition then else) = branches-untaken (inBody (ownerOf scope) condition) (untaken-holds scope then)
       (untaken-holds scope else)

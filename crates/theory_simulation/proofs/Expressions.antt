@@ -150,9 +150,9 @@ module _ (c : Call) (places : List Content) (numbers : List ℕ) where
         (stand .parameters .each k ((parameter-read-fits scope linked k h) .there)) (λ variables. refl) (λ variables. refl)
 
     entry-faithful : (f : ℕ) (key : Expression) {s : Bool} (i : ℕ) → expressionFaults scope linked (entry f key) ≡ [] → constantsFit key ≡ true
-        → InBody (ownerOf scope key) (valueOf key) (inBody scope key) s i
+        → InBody (ownerOf scope key) (valueOf key) (inBody (ownerOf scope) key) s i
         → InBody (ownerOf scope (entry f key)) (getD numbers (position fields f (valueOf key)) 0)
-        (onePart (BodyExpression.entry f) (inBody scope key)) s i
+        (onePart (BodyExpression.entry f) (inBody (ownerOf scope) key)) s i
     unfolding constantsFit
     entry-faithful f key i h k u =
         let fits = entry-read-fits scope linked f key h in
@@ -163,12 +163,12 @@ module _ (c : Call) (places : List Content) (numbers : List ℕ) where
     -- An operator's circuit form, by the body and circuit forms of its operands.
     operator-in-circuit : (o : Operator) (left right : Expression) {s t : Bool} (i : ℕ) → OperatorFits scope linked o left right
         → isOfType (typeOf scope (operator o left right)) (valueOf (operator o left right)) ≡ true
-        → ((j : ℕ) → InBody (ownerOf scope left) (valueOf left) (inBody scope left) s j)
-        → ((j : ℕ) → InBody (ownerOf scope right) (valueOf right) (inBody scope right) t j)
-        → ((j : ℕ) → InCircuit (valueOf left) (inCircuit scope left) s j)
-        → ((j : ℕ) → InCircuit (valueOf right) (inCircuit scope right) t j)
+        → ((j : ℕ) → InBody (ownerOf scope left) (valueOf left) (inBody (ownerOf scope) left) s j)
+        → ((j : ℕ) → InBody (ownerOf scope right) (valueOf right) (inBody (ownerOf scope) right) t j)
+        → ((j : ℕ) → InCircuit (valueOf left) (inCircuit (ownerOf scope) left) s j)
+        → ((j : ℕ) → InCircuit (valueOf right) (inCircuit (ownerOf scope) right) t j)
         → InCircuit (valueOf (operator o left right))
-        (operatorInCircuit scope o left right (inBody scope left) (inBody scope right) (inCircuit scope left) (inCircuit scope right))
+        (operatorInCircuit (ownerOf scope) o left right (inBody (ownerOf scope) left) (inBody (ownerOf scope) right) (inCircuit (ownerOf scope) left) (inCircuit (ownerOf scope) right))
         (s && t && operates o (valueOf right)) i
     unfolding value ownerOf
     operator-in-circuit o left right i fits k leftBody rightBody leftCircuit rightCircuit =
@@ -182,7 +182,7 @@ module _ (c : Call) (places : List Content) (numbers : List ℕ) where
       unfolding value isWorkedOut ownerOf inBody contentOf isWalked circuitValue constantsFit
 
       pub body-faithful : (e : Expression) → expressionFaults scope linked e ≡ [] → constantsFit e ≡ true → (i : ℕ)
-          → InBody (ownerOf scope e) (valueOf e) (inBody scope e) (isWorkedOut fields addressOf (c .arguments) numbers e) i
+          → InBody (ownerOf scope e) (valueOf e) (inBody (ownerOf scope) e) (isWorkedOut fields addressOf (c .arguments) numbers e) i
       body-faithful (constant t v) h k i = kept-faithful c places numbers (BodyExpression.constant t v) (plain v) i (plain-stands refl)
           (λ variables. refl) (λ variables. refl)
       body-faithful me h k i = kept-faithful c places numbers BodyExpression.me (plain (addressOf meName)) i (plain-stands refl) (λ variables. refl)
@@ -214,7 +214,7 @@ module _ (c : Call) (places : List Content) (numbers : List ℕ) where
           (circuit-faithful part ((reveal-fits scope linked part o h) .partFaults) k (suc i))
 
       pub circuit-faithful : (e : Expression) → expressionFaults scope linked e ≡ [] → constantsFit e ≡ true → (i : ℕ)
-          → InCircuit (valueOf e) (inCircuit scope e) (isWorkedOut fields addressOf (c .arguments) numbers e) i
+          → InCircuit (valueOf e) (inCircuit (ownerOf scope) e) (isWorkedOut fields addressOf (c .arguments) numbers e) i
       circuit-faithful (constant t v) h k i = kept-faithful c places numbers (Circuit.constant t v) v i refl (λ variables. refl) (λ variables. refl)
       circuit-faithful me h k i = kept-faithful c places numbers Circuit.me (addressOf meName) i refl (λ variables. refl) (λ variables. refl)
       circuit-faithful (field f) h k i = reading-faithful c places numbers (ownerOf scope (field f)) (field f) i (typed (field f) h k)

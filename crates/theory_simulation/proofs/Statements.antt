@@ -64,7 +64,7 @@ module _ (c : Call) where
   module _ (places : List Content) (numbers : List ℕ) where
     public-faithful : (linked : Links) (e : Expression) → CallStands c places numbers → expressionFaults (c .scope) linked e ≡ []
         → constantsFit e ≡ true → isPublic (c .scope) e ≡ true → (i : ℕ)
-        → BodyFaithful c places numbers everyone (originalValue c numbers e) (inBody (c .scope) e) (workedOut numbers e) i
+        → BodyFaithful c places numbers everyone (originalValue c numbers e) (inBody (ownerOf (c .scope)) e) (workedOut numbers e) i
     public-faithful linked e stand h k public i = rw (everyone-is (ownerOf (c .scope) e) public) at
         (body-faithful c places numbers linked stand e h k i)
 
@@ -72,14 +72,14 @@ module _ (c : Call) where
     value-faithful : (linked : Links) (place : Owner) (e : Expression) → CallStands c places numbers → LinksSound (c .addressOf) linked
         → expressionFaults (c .scope) linked e ≡ []
         → constantsFit e ≡ true → mayBePut linked (ownerOf (c .scope) e) place ≡ true → (i : ℕ)
-        → BodyFaithful c places numbers place (originalValue c numbers e) (inPlace (c .scope) place e) (workedOut numbers e) i
+        → BodyFaithful c places numbers place (originalValue c numbers e) (inPlace (ownerOf (c .scope)) place e) (workedOut numbers e) i
     value-faithful linked everyone e stand sound h k put i =
         rw (may-be-put-for-everyone linked (ownerOf (c .scope) e) put) at (body-faithful c places numbers linked stand e h k i)
     value-faithful linked (ownedBy n) e stand sound h k put i = go (isPublic (c .scope) e) refl
       where
         go : (public : Bool) → isPublic (c .scope) e ≡ public
             → BodyFaithful c places numbers (ownedBy n) (originalValue c numbers e)
-            (cond public (supplying (ownedBy n) e (inCircuit (c .scope) e)) (inBody (c .scope) e)) (workedOut numbers e) i
+            (cond public (supplying (ownedBy n) e (inCircuit (ownerOf (c .scope)) e)) (inBody (ownerOf (c .scope)) e)) (workedOut numbers e) i
         go true d =
             supplying-faithful c places numbers (ownedBy n) e i (value-typed (c .scope) (c .addressOf) (c .arguments) numbers
             (stand .environment) linked e h k)
@@ -100,7 +100,7 @@ module _ (c : Call) where
     assign-field-runs : (linked : Links) (f : ℕ) (e : Expression) (g : Guard) (i : ℕ) → CallStands c places numbers → LinksSound (c .addressOf) linked
         → statementFaults (c .scope) linked (assignField f e) ≡ []
         → (u : BodyFaithful c places numbers (placeOwner ((fieldAt (c .scope .fields) f) .owner) none) (originalValue c numbers e)
-        (inPlace (c .scope) (placeOwner ((fieldAt (c .scope .fields) f) .owner) none) e) (workedOut numbers e) i)
+        (inPlace (ownerOf (c .scope)) (placeOwner ((fieldAt (c .scope .fields) f) .owner) none) e) (workedOut numbers e) i)
         → StatementRuns linked (assignField f e) g i places numbers
     unfolding rewriteStatement honestVariables completes placesAfter linksAfter stateAfter walkCompletes onePart single
     assign-field-runs linked f e g i stand sound h u =
@@ -120,10 +120,10 @@ module _ (c : Call) where
     assign-entry-runs : (linked : Links) (f : ℕ) (key e : Expression) (g : Guard) (i : ℕ) → CallStands c places numbers
         → LinksSound (c .addressOf) linked
         → statementFaults (c .scope) linked (assignEntry f key e) ≡ [] → constantsFitIn (assignEntry f key e) ≡ true
-        → (w : BodyFaithful c places numbers everyone (originalValue c numbers key) (inBody (c .scope) key) (workedOut numbers key) i)
+        → (w : BodyFaithful c places numbers everyone (originalValue c numbers key) (inBody (ownerOf (c .scope)) key) (workedOut numbers key) i)
         → (u : BodyFaithful c places numbers (placeOwner ((fieldAt (c .scope .fields) f) .owner) (nameOf (c .scope) key)) (originalValue c numbers e)
-        (inPlace (c .scope) (placeOwner ((fieldAt (c .scope .fields) f) .owner) (nameOf (c .scope) key)) e) (workedOut numbers e)
-        (i + length ((inBody (c .scope) key i) .variables)))
+        (inPlace (ownerOf (c .scope)) (placeOwner ((fieldAt (c .scope .fields) f) .owner) (nameOf (c .scope) key)) e) (workedOut numbers e)
+        (i + length ((inBody (ownerOf (c .scope)) key i) .variables)))
         → StatementRuns linked (assignEntry f key e) g i places numbers
     unfolding rewriteStatement honestVariables completes placesAfter linksAfter stateAfter walkCompletes twoParts single
     assign-entry-runs linked f key e g i stand sound h k w u =
@@ -144,7 +144,7 @@ module _ (c : Call) where
         (λ d then z. z)
 
     require-runs : (linked : Links) (condition : Expression) (g : Guard) (i : ℕ) → CallStands c places numbers → LinksSound (c .addressOf) linked
-        → (u : BodyFaithful c places numbers everyone (originalValue c numbers condition) (inBody (c .scope) condition)
+        → (u : BodyFaithful c places numbers everyone (originalValue c numbers condition) (inBody (ownerOf (c .scope)) condition)
         (workedOut numbers condition) i)
         → StatementRuns linked (require condition) g i places numbers
     unfolding rewriteStatement honestVariables completes placesAfter linksAfter stateAfter walkCompletes onePart single
@@ -176,7 +176,7 @@ module _ (c : Call) where
 
     conditional-runs : (linked : Links) (condition : Expression) (then else : Statement) (g : Guard) (i : ℕ) (d : Bool)
         → isTrue (originalValue c numbers condition) ≡ d
-        → BodyFaithful c places numbers everyone (originalValue c numbers condition) (inBody (c .scope) condition)
+        → BodyFaithful c places numbers everyone (originalValue c numbers condition) (inBody (ownerOf (c .scope)) condition)
         (workedOut numbers condition) i
         → (d ≡ true → (j : ℕ) → StatementRuns (linksOfCondition (c .scope) condition linked) then (under j) (suc j) places numbers)
         → ((j : ℕ) → StatementRuns linked else (under j) (suc j) places numbers)
@@ -184,13 +184,13 @@ module _ (c : Call) where
     unfolding rewriteStatement honestVariables completes placesAfter linksAfter
     conditional-runs linked condition then else g i true d u x y =
         rw d
-        (then-runs c (inBody (c .scope) condition) (rewriteStatement (c .scope) then) (rewriteStatement (c .scope) else) g i places numbers
+        (then-runs c (inBody (ownerOf (c .scope)) condition) (rewriteStatement (c .scope) then) (rewriteStatement (c .scope) else) g i places numbers
         (originalValue c numbers condition) (workedOut numbers condition) u
         (untaken-holds c (c .scope) else) d (branch-runs c (rewriteStatement (c .scope) then) _
         (runs-for c (λ after z. record { stand = rw d (z .stand); sound = sound-in-first (c .addressOf) (inThen linked condition then) (linksAfter (c .scope) else linked) (z .sound) }) (x refl _))))
     conditional-runs linked condition then else g i false d u x y =
         rw d
-        (else-runs c (inBody (c .scope) condition) (rewriteStatement (c .scope) then) (rewriteStatement (c .scope) else) g i places numbers
+        (else-runs c (inBody (ownerOf (c .scope)) condition) (rewriteStatement (c .scope) then) (rewriteStatement (c .scope) else) g i places numbers
         (originalValue c numbers condition) (workedOut numbers condition) u
         (untaken-holds c (c .scope) then) d (branch-runs c (rewriteStatement (c .scope) else) _
         (runs-for c (λ after z. record { stand = rw d (z .stand); sound = sound-in-second (c .addressOf) (inThen linked condition then) (linksAfter (c .scope) else linked) (z .sound) }) (y _))))

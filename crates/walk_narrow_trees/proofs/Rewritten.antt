@@ -6,7 +6,7 @@ use Prim.Native.Nat.{ℕ, suc, _+_, _<_, _≤_}
 use native.Mathlib.Omega.{arith}
 use lib.ListN.{length, length-append}
 use Rattle.definitions.specs.ContractFile.{DataType, boolean, meName, Owner, everyone, ownedBy, Operator, operatorCode, Expression, Statement, Scope, fieldAt, isDivision}
-use Rattle.definitions.specs.Owners.{nameOf, placeOwner, isPublic}
+use Rattle.definitions.specs.Owners.{nameOf, placeOwner, isPublic, ownerOf}
 use Rattle.definitions.specs.Rewriting.{BodyExpression, Circuit, Command, Claim, Guard, under, Constraint, Step, Generator, kept, onePart, twoParts, operatorInCircuit, inBody, inCircuit, inPlace, stepsBefore, heldUnder, Passage, StatementGenerator, single, inSequence, inBranch, inBranches, rewriteStatement, bodyTree, circuitTree, commandTree}
 use Rattle.write_trees.proofs.Narrowness.{narrowLeaf, narrowOne, narrowTwo, narrowThree, narrowSetting}
 use Rattle.walk_constraints.specs.Numbers.{HasCode}
@@ -60,41 +60,41 @@ unfolding circuitTree
 negation-circuit part h = narrowOne 7 0 (circuitTree part) (omega arith) (omega arith) h
 
 module _ (scope : Scope) where
-  module _ (o : Operator) (left right : Expression) (leftBody : Narrows NarrowBody (inBody scope left)) (rightBody : Narrows NarrowBody (inBody scope right))
-      (leftCircuit : Narrows NarrowCircuit (inCircuit scope left)) (rightCircuit : Narrows NarrowCircuit (inCircuit scope right)) where
-    both-bodies : Narrows NarrowBody (twoParts (BodyExpression.operator o) (inBody scope left) (inBody scope right))
-    both-bodies = two-narrow NarrowBody NarrowBody NarrowBody (BodyExpression.operator o) (inBody scope left) (inBody scope right) (operator-body o) leftBody rightBody
+  module _ (o : Operator) (left right : Expression) (leftBody : Narrows NarrowBody (inBody (ownerOf scope) left)) (rightBody : Narrows NarrowBody (inBody (ownerOf scope) right))
+      (leftCircuit : Narrows NarrowCircuit (inCircuit (ownerOf scope) left)) (rightCircuit : Narrows NarrowCircuit (inCircuit (ownerOf scope) right)) where
+    both-bodies : Narrows NarrowBody (twoParts (BodyExpression.operator o) (inBody (ownerOf scope) left) (inBody (ownerOf scope) right))
+    both-bodies = two-narrow NarrowBody NarrowBody NarrowBody (BodyExpression.operator o) (inBody (ownerOf scope) left) (inBody (ownerOf scope) right) (operator-body o) leftBody rightBody
 
-    operator-in-circuit : Narrows NarrowCircuit (operatorInCircuit scope o left right (inBody scope left) (inBody scope right) (inCircuit scope left) (inCircuit scope right))
+    operator-in-circuit : Narrows NarrowCircuit (operatorInCircuit (ownerOf scope) o left right (inBody (ownerOf scope) left) (inBody (ownerOf scope) right) (inCircuit (ownerOf scope) left) (inCircuit (ownerOf scope) right))
     operator-in-circuit =
         either-narrow NarrowCircuit (isPublic scope (Expression.operator o left right) && isDivision o) _ _
-        (reading-narrow everyone (Expression.operator o left right) (twoParts (BodyExpression.operator o) (inBody scope left) (inBody scope right)) both-bodies)
-        (two-narrow NarrowCircuit NarrowCircuit NarrowCircuit (Circuit.operator o) (inCircuit scope left) (inCircuit scope right) (operator-circuit o) leftCircuit rightCircuit)
+        (reading-narrow everyone (Expression.operator o left right) (twoParts (BodyExpression.operator o) (inBody (ownerOf scope) left) (inBody (ownerOf scope) right)) both-bodies)
+        (two-narrow NarrowCircuit NarrowCircuit NarrowCircuit (Circuit.operator o) (inCircuit (ownerOf scope) left) (inCircuit (ownerOf scope) right) (operator-circuit o) leftCircuit rightCircuit)
 
-    operator-in-body : Narrows NarrowBody (inBody scope (Expression.operator o left right))
+    operator-in-body : Narrows NarrowBody (inBody (ownerOf scope) (Expression.operator o left right))
     unfolding inBody
     operator-in-body =
         either-narrow NarrowBody (isPublic scope (Expression.operator o left right)) _ _ both-bodies
         (supply-narrow (ownedBy meName) (Expression.operator o left right) _ tt operator-in-circuit)
 
-  negation-in-circuit : (part : Expression) → Narrows NarrowCircuit (inCircuit scope part) → Narrows NarrowCircuit (onePart Circuit.negation (inCircuit scope part))
-  negation-in-circuit part h = one-narrow NarrowCircuit NarrowCircuit Circuit.negation (inCircuit scope part) negation-circuit h
+  negation-in-circuit : (part : Expression) → Narrows NarrowCircuit (inCircuit (ownerOf scope) part) → Narrows NarrowCircuit (onePart Circuit.negation (inCircuit (ownerOf scope) part))
+  negation-in-circuit part h = one-narrow NarrowCircuit NarrowCircuit Circuit.negation (inCircuit (ownerOf scope) part) negation-circuit h
 
-  negation-in-body : (part : Expression) → Narrows NarrowBody (inBody scope part) → Narrows NarrowCircuit (inCircuit scope part)
-      → Narrows NarrowBody (inBody scope (Expression.negation part))
+  negation-in-body : (part : Expression) → Narrows NarrowBody (inBody (ownerOf scope) part) → Narrows NarrowCircuit (inCircuit (ownerOf scope) part)
+      → Narrows NarrowBody (inBody (ownerOf scope) (Expression.negation part))
   unfolding inBody
   negation-in-body part h k =
       either-narrow NarrowBody (isPublic scope (Expression.negation part)) _ _
-      (one-narrow NarrowBody NarrowBody BodyExpression.negation (inBody scope part) negation-body h)
+      (one-narrow NarrowBody NarrowBody BodyExpression.negation (inBody (ownerOf scope) part) negation-body h)
       (supply-narrow (ownedBy meName) (Expression.negation part) _ tt (negation-in-circuit part k))
 
-  entry-in-body : (f : ℕ) (key : Expression) → f < 256 → Narrows NarrowBody (inBody scope key) → Narrows NarrowBody (onePart (BodyExpression.entry f) (inBody scope key))
-  entry-in-body f key h k = one-narrow NarrowBody NarrowBody (BodyExpression.entry f) (inBody scope key) (entry-body f h) k
+  entry-in-body : (f : ℕ) (key : Expression) → f < 256 → Narrows NarrowBody (inBody (ownerOf scope) key) → Narrows NarrowBody (onePart (BodyExpression.entry f) (inBody (ownerOf scope) key))
+  entry-in-body f key h k = one-narrow NarrowBody NarrowBody (BodyExpression.entry f) (inBody (ownerOf scope) key) (entry-body f h) k
 
   mutual
     unfolding inBody inCircuit NarrowExpression
 
-    pub body-narrow : (e : Expression) → NarrowExpression e → Narrows NarrowBody (inBody scope e)
+    pub body-narrow : (e : Expression) → NarrowExpression e → Narrows NarrowBody (inBody (ownerOf scope) e)
     body-narrow (Expression.constant t v) h = kept-narrow NarrowBody (BodyExpression.constant t v) (constant-body t v h)
     body-narrow Expression.me h = kept-narrow NarrowBody BodyExpression.me me-body
     body-narrow (Expression.field f) h = kept-narrow NarrowBody (BodyExpression.field f) (field-body f h)
@@ -103,9 +103,9 @@ module _ (scope : Scope) where
     body-narrow (Expression.operator o left right) h =
         operator-in-body o left right (body-narrow left (h .0)) (body-narrow right (h .1)) (circuit-narrow left (h .0)) (circuit-narrow right (h .1))
     body-narrow (Expression.negation part) h = negation-in-body part (body-narrow part h) (circuit-narrow part h)
-    body-narrow (Expression.reveal part o) h = supply-narrow o (Expression.reveal part o) (inCircuit scope part) (h .1) (circuit-narrow part (h .0))
+    body-narrow (Expression.reveal part o) h = supply-narrow o (Expression.reveal part o) (inCircuit (ownerOf scope) part) (h .1) (circuit-narrow part (h .0))
 
-    pub circuit-narrow : (e : Expression) → NarrowExpression e → Narrows NarrowCircuit (inCircuit scope e)
+    pub circuit-narrow : (e : Expression) → NarrowExpression e → Narrows NarrowCircuit (inCircuit (ownerOf scope) e)
     circuit-narrow (Expression.constant t v) h = kept-narrow NarrowCircuit (Circuit.constant t v) (constant-circuit t v h)
     circuit-narrow Expression.me h = kept-narrow NarrowCircuit Circuit.me me-circuit
     circuit-narrow (Expression.field f) h = reading-narrow _ (Expression.field f) _ (kept-narrow NarrowBody (BodyExpression.field f) (field-body f h))
@@ -116,10 +116,10 @@ module _ (scope : Scope) where
     circuit-narrow (Expression.negation part) h = negation-in-circuit part (circuit-narrow part h)
     circuit-narrow (Expression.reveal part o) h = circuit-narrow part (h .0)
 
-  place-narrow : (o : Owner) (e : Expression) → HasCode o → NarrowExpression e → Narrows NarrowBody (inPlace scope o e)
+  place-narrow : (o : Owner) (e : Expression) → HasCode o → NarrowExpression e → Narrows NarrowBody (inPlace (ownerOf scope) o e)
   place-narrow everyone e code h = body-narrow e h
   place-narrow (ownedBy n) e code h =
-      either-narrow NarrowBody (isPublic scope e) _ _ (supply-narrow (ownedBy n) e (inCircuit scope e) code (circuit-narrow e h)) (body-narrow e h)
+      either-narrow NarrowBody (isPublic scope e) _ _ (supply-narrow (ownedBy n) e (inCircuit (ownerOf scope) e) code (circuit-narrow e h)) (body-narrow e h)
 
 -- Commands.
 skip-command : NarrowCommand Command.skip
@@ -244,10 +244,10 @@ module _ (scope : Scope) (coded : CodedScope scope) where
       (one-narrow NarrowBody NarrowCommand (Command.assignField f) _ (field-command f (h .0)) (place-narrow scope (placeOwner ((fieldAt (scope .fields) f) .owner) none) value (coded .field f) (h .1)))
   statement-narrow (Statement.assignEntry f key value) h =
       single-narrow _
-      (two-narrow NarrowBody NarrowBody NarrowCommand (Command.assignEntry f) (inBody scope key) _ (entry-command f (h .0)) (body-narrow scope key (h .1 .0))
+      (two-narrow NarrowBody NarrowBody NarrowCommand (Command.assignEntry f) (inBody (ownerOf scope) key) _ (entry-command f (h .0)) (body-narrow scope key (h .1 .0))
       (place-narrow scope (placeOwner ((fieldAt (scope .fields) f) .owner) (nameOf scope key)) value (coded .entry f key) (h .1 .1)))
   statement-narrow (Statement.require condition) h =
-      single-narrow _ (one-narrow NarrowBody NarrowCommand Command.require (inBody scope condition) require-command (body-narrow scope condition h))
+      single-narrow _ (one-narrow NarrowBody NarrowCommand Command.require (inBody (ownerOf scope) condition) require-command (body-narrow scope condition h))
   statement-narrow (Statement.conditional condition then else) h =
       branches-narrow _ _ _ (body-narrow scope condition (h .0)) (statement-narrow then (h .1 .0)) (statement-narrow else (h .1 .1))
 

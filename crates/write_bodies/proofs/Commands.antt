@@ -4,6 +4,7 @@ use Prim.Native.Nat.{ℕ, suc, _+_}
 use native.Mathlib.Numerals.{add-one}
 use lib.ListN.{length, length-append}
 use Rattle.definitions.specs.ContractFile.{boolean, Expression, Statement, Scope}
+use Rattle.definitions.specs.Owners.{ownerOf}
 use Rattle.definitions.specs.Rewriting.{BodyExpression, Command, Guard, always, under, stepsBefore, inBody, single, inSequence, inBranch, inBranches, rewriteStatement}
 use Rattle.rewrite_events.proofs.Appended.{variable-count-append}
 use Rattle.rewrite_events.specs.Events.{variablesOf, variableCount, stepsOf, inTurn, bodyEvents, branchEvents, statementEvents}
@@ -77,7 +78,7 @@ module _ (scope : Scope) where
 
     pub branching-command : commandOf scope (Statement.conditional condition then else) i
         ≡ stepsBefore (stepsOf scope (bodyEvents scope always condition i))
-        (Command.conditional ((inBody scope condition i) .form) (branchCommand scope then first) (branchCommand scope else second))
+        (Command.conditional ((inBody (ownerOf scope) condition i) .form) (branchCommand scope then first) (branchCommand scope else second))
     unfolding rewriteStatement
     branching-command =
         conditional-command scope always i condition (rewriteStatement scope then) (rewriteStatement scope else)
@@ -88,7 +89,7 @@ module _ (scope : Scope) where
         ∙ ap (shaped (branchCommand scope then first)) (branch-command else second)
       where
         shaped : Command → Command → Command
-        shaped a b = stepsBefore (stepsOf scope (bodyEvents scope always condition i)) (Command.conditional ((inBody scope condition i) .form) a b)
+        shaped a b = stepsBefore (stepsOf scope (bodyEvents scope always condition i)) (Command.conditional ((inBody (ownerOf scope) condition i) .form) a b)
 
     pub branching-events : length (eventsOf scope (Statement.conditional condition then else) i)
         ≡ length (bodyEvents scope always condition i) + (branchEventCount scope then first + branchEventCount scope else second)

@@ -6,6 +6,7 @@ use native.Mathlib.Omega.{arith}
 use lib.ListN.{length, take}
 use Rattle.definitions.specs.Basics.{flatMap}
 use Rattle.definitions.specs.ContractFile.{Statement, NodeRecord}
+use Rattle.definitions.specs.Owners.{ownerOf}
 use Rattle.definitions.specs.Rewriting.{Command, Step, inBody, stepsBefore, nodeBytes, commandTree}
 use Rattle.theory_laws.proofs.Records.{kind-as}
 use Rattle.theory_trees.specs.Trees.{expressionIn, statementIn}
@@ -43,7 +44,7 @@ module _ (file : List ℕ) (functionStart nodesStart n i : ℕ) (scratch roots o
 
   abbrev rest : Command
   rest =
-      Command.conditional ((inBody (scopeIn file functionStart) (expressionIn (nodesIn file) (r .first)) i) .form)
+      Command.conditional ((inBody (ownerOf (scopeIn file functionStart)) (expressionIn (nodesIn file) (r .first)) i) .form)
       (branchCommand (scopeIn file functionStart) (statementIn (nodesIn file) (r .second)) guard)
       (branchCommand (scopeIn file functionStart) (statementIn (nodesIn file) (r .third)) (elseGuard file functionStart r guard))
 

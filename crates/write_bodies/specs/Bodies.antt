@@ -6,6 +6,7 @@ use Prim.Native.Nat.{ℕ, _+_, _*_, _<_, _≤_}
 use lib.Dec.{ltb}
 use lib.ListN.{length}
 use Rattle.definitions.specs.ContractFile.{NodeRecord, nodeCount}
+use Rattle.definitions.specs.Owners.{ownerOf}
 use Rattle.definitions.specs.Rewriting.{Command, inBody, stepsBefore, Tree, threeChildren, commandTree}
 use Rattle.theory_trees.specs.Trees.{expressionIn}
 use Rattle.file_accepted.specs.Context.{Context, nodesIn, scopeIn}
@@ -56,7 +57,7 @@ pub record ConditionReady (file : List ℕ) (functionStart nodesStart n i : ℕ)
   pub then : Command
   pub else : Command
   pub room : Room out at base (commandTree (stepsBefore (conditionSteps file functionStart n i)
-      (Command.conditional ((inBody (scopeIn file functionStart) (expressionIn (nodesIn file) n) i) .form) then else)))
+      (Command.conditional ((inBody (ownerOf (scopeIn file functionStart)) (expressionIn (nodesIn file) n) i) .form) then else)))
 
 pub record ConditionWritten (file : List ℕ) (functionStart n i : ℕ) (roots rootsAfter out after : List ℕ) (at base : ℕ)
     (r : Condition) : Type 0 where

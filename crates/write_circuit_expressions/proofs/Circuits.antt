@@ -45,8 +45,8 @@ module _ (scope : Scope) (e : Expression) (i : ℕ) where
     unfolding inCircuit twoParts reading circuitTree
     circuit-of-division p =
         let q : isPublic scope (Expression.operator o left right) && isDivision o ≡ true = rw h at p in
-        let a = (inBody scope left i) .variables in
-        let b = (inBody scope right (i + length a)) .variables in
+        let a = (inBody (ownerOf scope) left i) .variables in
+        let b = (inBody (ownerOf scope) right (i + length a)) .variables in
         let first : length a ≡ bodyCount scope left = (body-makes scope left) .length i in
         let second : length b ≡ bodyCount scope right = (body-makes scope right) .length (i + length a) in
         let total : i + length (a ++ b) ≡ i + bodyCount scope left + bodyCount scope right = omega (arith, length-append a b) in

@@ -6,6 +6,7 @@ use Prim.Native.Nat.{ℕ, suc, _+_}
 use lib.Dec.{eqb}
 use lib.ListN.{length, getD}
 use Rattle.definitions.specs.ContractFile.{Scope, Node}
+use Rattle.definitions.specs.Owners.{ownerOf}
 use Rattle.definitions.specs.Rewriting.{Step, inBody}
 use Rattle.theory_trees.specs.Trees.{expressionIn}
 use Rattle.rewrite_events.specs.Events.{Event, stepsOf}
@@ -21,7 +22,7 @@ module _ (scope : Scope) (nodes : List Node) (log : List ℕ) where
 
   taken : (from left variable n s : ℕ) → getD log from 0 ≡ 2 → getD log (from + 1) 0 ≡ variable → getD log (from + 3) 0 ≡ n → getD log (from + 4) 0 ≡ s
       → loggedSteps scope nodes log from (suc left)
-      ≡ record { variable = variable; value = (inBody scope (expressionIn nodes n) s) .form } ∷ loggedSteps scope nodes log (from + 5) left
+      ≡ record { variable = variable; value = (inBody (ownerOf scope) (expressionIn nodes n) s) .form } ∷ loggedSteps scope nodes log (from + 5) left
   unfolding loggedSteps
   taken from left variable n s e v m l = rw (e, v, m, l)
 
@@ -38,7 +39,7 @@ module _ (scope : Scope) (nodes : List Node) (log : List ℕ) where
   steps-logged _ _ (entryThen {events} {numbers} (readEntry s j o n h) rest) from holds =
       taken from (length events) j n s (holds-tag log numbers from _ _ _ _ _ holds) (holds-variable log numbers from _ _ _ _ _ holds)
       (holds-node log numbers from _ _ _ _ _ holds) (holds-last log numbers from _ _ _ _ _ holds)
-      ∙ ap (λ (steps : List Step). record { variable = j; value = (inBody scope (expressionIn nodes n) s) .form } ∷ steps)
+      ∙ ap (λ (steps : List Step). record { variable = j; value = (inBody (ownerOf scope) (expressionIn nodes n) s) .form } ∷ steps)
       (steps-logged events numbers rest (from + 5) (holds-rest log numbers from _ _ _ _ _ holds))
   steps-logged _ _ (entryThen {events} {numbers} (guardEntry i) rest) from holds =
       skipped from (length events) 3 (holds-tag log numbers from _ _ _ _ _ holds) refl

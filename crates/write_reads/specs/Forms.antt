@@ -3,13 +3,14 @@ use mathlib.Core.Bool.{Bool, cond}
 use mathlib.Core.List.{List}
 use Prim.Native.Nat.{ℕ, _+_, _*_}
 use Rattle.definitions.specs.ContractFile.{Expression, Scope, nodeRecord}
+use Rattle.definitions.specs.Owners.{ownerOf}
 use Rattle.definitions.specs.Rewriting.{inBody, inCircuit, Tree, bodyTree, circuitTree}
 
 abbrev pub bodyForm : Scope → Expression → ℕ → Tree
-bodyForm scope e i = bodyTree ((inBody scope e i) .form)
+bodyForm scope e i = bodyTree ((inBody (ownerOf scope) e i) .form)
 
 abbrev pub circuitForm : Scope → Expression → ℕ → Tree
-circuitForm scope e i = circuitTree ((inCircuit scope e i) .form)
+circuitForm scope e i = circuitTree ((inCircuit (ownerOf scope) e i) .form)
 
 -- "9 variable first, 10 variable first opened"
 abbrev pub readKind : Bool → ℕ

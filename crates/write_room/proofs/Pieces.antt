@@ -7,7 +7,7 @@ use Prim.Native.Nat.{ℕ, suc, _+_, _*_, _≤_}
 use native.Mathlib.Omega.{arith}
 use lib.ListN.{length, length-append}
 use Rattle.definitions.specs.ContractFile.{meName, Owner, everyone, ownedBy, Expression, Statement, Scope, fieldAt, isDivision}
-use Rattle.definitions.specs.Owners.{nameOf, placeOwner, isPublic}
+use Rattle.definitions.specs.Owners.{nameOf, placeOwner, isPublic, ownerOf}
 use Rattle.definitions.specs.Rewriting.{BodyExpression, Circuit, Command, readFrom, Claim, equals, Guard, under, Constraint, Step, Generator, StatementGenerator, kept, onePart, twoParts, supplying, readForm, reading, inBody, inCircuit, inPlace, stepsBefore, heldUnder, single, inSequence, inBranch, inBranches, rewriteStatement, size, bodyTree, circuitTree, commandTree}
 use Rattle.theory_trees.specs.Sizes.{expressionSize, statementSize}
 use Rattle.write_room.specs.Sizes.{bodySize, circuitSize, commandSize, stepsSize, claimWeight, claimsWeight, constraintsWeight, pieceWeight, passageWeight}
@@ -97,8 +97,8 @@ reading-light o e value n l =
 
 -- Both forms of an expression.
 pub record LightExpression (scope : Scope) (e : Expression) : Type 0 where
-  pub body : Light bodySize (inBody scope e) (64 * expressionSize e)
-  pub circuit : Light circuitSize (inCircuit scope e) (64 * expressionSize e)
+  pub body : Light bodySize (inBody (ownerOf scope) e) (64 * expressionSize e)
+  pub circuit : Light circuitSize (inCircuit (ownerOf scope) e) (64 * expressionSize e)
 
 module _ (scope : Scope) where
   pub expression-light : (e : Expression) → LightExpression scope e
@@ -121,7 +121,7 @@ module _ (scope : Scope) where
       }
   expression-light (Expression.entry f key) =
       let h = expression-light key in
-      let place = onePart-light bodySize bodySize (BodyExpression.entry f) (inBody scope key) (64 * expressionSize key) (λ a. refl) (h .body) in
+      let place = onePart-light bodySize bodySize (BodyExpression.entry f) (inBody (ownerOf scope) key) (64 * expressionSize key) (λ a. refl) (h .body) in
       record {
         body = heavier bodySize _ _ _ place (omega arith);
         circuit = heavier circuitSize _ _ _ (reading-light _ _ _ (64 * expressionSize key + 8) place) (omega arith);
@@ -137,8 +137,8 @@ module _ (scope : Scope) where
       let r = expression-light right in
       let m = 64 * expressionSize left in
       let n = 64 * expressionSize right in
-      let body = twoParts-light bodySize bodySize bodySize (BodyExpression.operator o) (inBody scope left) (inBody scope right) m n (λ a b. refl) (l .body) (r .body) in
-      let circuit = twoParts-light circuitSize circuitSize circuitSize (Circuit.operator o) (inCircuit scope left) (inCircuit scope right) m n (λ a b. refl) (l .circuit) (r .circuit) in
+      let body = twoParts-light bodySize bodySize bodySize (BodyExpression.operator o) (inBody (ownerOf scope) left) (inBody (ownerOf scope) right) m n (λ a b. refl) (l .body) (r .body) in
+      let circuit = twoParts-light circuitSize circuitSize circuitSize (Circuit.operator o) (inCircuit (ownerOf scope) left) (inCircuit (ownerOf scope) right) m n (λ a b. refl) (l .circuit) (r .circuit) in
       let e = Expression.operator o left right in
       let inside = either circuitSize (isPublic scope e && isDivision o) _ _ (m + n + 35) (heavier circuitSize _ _ _ (reading-light everyone e _ (m + n + 8) body) (omega arith)) (heavier circuitSize _ _ _ circuit (omega arith)) in
       record {
@@ -149,8 +149,8 @@ module _ (scope : Scope) where
       let h = expression-light part in
       let n = 64 * expressionSize part in
       let e = Expression.negation part in
-      let body = onePart-light bodySize bodySize BodyExpression.negation (inBody scope part) n (λ a. refl) (h .body) in
-      let circuit = onePart-light circuitSize circuitSize Circuit.negation (inCircuit scope part) n (λ a. refl) (h .circuit) in
+      let body = onePart-light bodySize bodySize BodyExpression.negation (inBody (ownerOf scope) part) n (λ a. refl) (h .body) in
+      let circuit = onePart-light circuitSize circuitSize Circuit.negation (inCircuit (ownerOf scope) part) n (λ a. refl) (h .circuit) in
       record {
         body = either bodySize (isPublic scope e) _ _ _ (heavier bodySize _ _ _ body (omega arith)) (heavier bodySize _ _ _ (supplying-light (ownedBy meName) e _ (n + 8) circuit) (omega arith));
         circuit = heavier circuitSize _ _ _ circuit (omega arith);
@@ -163,7 +163,7 @@ module _ (scope : Scope) where
         circuit = heavier circuitSize _ _ _ (h .circuit) (omega arith);
       }
 
-  place-light : (o : Owner) (e : Expression) → Light bodySize (inPlace scope o e) (64 * expressionSize e + 17)
+  place-light : (o : Owner) (e : Expression) → Light bodySize (inPlace (ownerOf scope) o e) (64 * expressionSize e + 17)
   place-light everyone e = heavier bodySize _ _ _ (expression-light e .body) (omega arith)
   place-light (ownedBy n) e =
       let h = expression-light e in
@@ -245,17 +245,17 @@ statement-light scope (Statement.sequence first second) =
 statement-light scope (Statement.assignField f value) =
     let owner = placeOwner ((fieldAt (scope .fields) f) .owner) none in
     let n = 64 * expressionSize value + 17 in
-    lighter _ _ _ (single-light _ (n + 8) (onePart-light bodySize commandSize (Command.assignField f) (inPlace scope owner value) n (λ a. refl) (place-light scope owner value))) (omega arith)
+    lighter _ _ _ (single-light _ (n + 8) (onePart-light bodySize commandSize (Command.assignField f) (inPlace (ownerOf scope) owner value) n (λ a. refl) (place-light scope owner value))) (omega arith)
 statement-light scope (Statement.assignEntry f key value) =
     let owner = placeOwner ((fieldAt (scope .fields) f) .owner) (nameOf scope key) in
     let m = 64 * expressionSize key in
     let n = 64 * expressionSize value + 17 in
-    let parts = twoParts-light bodySize bodySize commandSize (Command.assignEntry f) (inBody scope key) (inPlace scope owner value) m n (λ a b. refl)
+    let parts = twoParts-light bodySize bodySize commandSize (Command.assignEntry f) (inBody (ownerOf scope) key) (inPlace (ownerOf scope) owner value) m n (λ a b. refl)
     (expression-light scope key .body) (place-light scope owner value) in
     lighter _ _ _ (single-light _ (m + n + 8) parts) (omega arith)
 statement-light scope (Statement.require condition) =
     let n = 64 * expressionSize condition in
-    lighter _ _ _ (single-light _ (n + 8) (onePart-light bodySize commandSize Command.require (inBody scope condition) n (λ a. refl) (expression-light scope condition .body))) (omega arith)
+    lighter _ _ _ (single-light _ (n + 8) (onePart-light bodySize commandSize Command.require (inBody (ownerOf scope) condition) n (λ a. refl) (expression-light scope condition .body))) (omega arith)
 statement-light scope (Statement.conditional condition then else) =
     lighter _ _ _
     (inBranches-light _ _ _ (64 * expressionSize condition) (64 * statementSize then) (64 * statementSize else) (expression-light scope condition .body)

@@ -10,7 +10,7 @@ use native.Mathlib.Omega.{arith}
 use lib.Dec.{eqb}
 use lib.ListN.{length}
 use Rattle.definitions.specs.ContractFile.{Name, Owner, everyone, ownedBy, FieldOwner, toEveryone, toKey, toFinal, Expression, Scope, fieldAt, isEveryone, fieldOwnerCode}
-use Rattle.definitions.specs.Owners.{isPublic, placeOwner}
+use Rattle.definitions.specs.Owners.{isPublic, placeOwner, ownerOf}
 use Rattle.definitions.specs.Rewriting.{supplying, inBody, inCircuit, inPlace, leaf, bodyTree}
 use Rattle.file_accepted.specs.Context.{fieldsIn}
 use Rattle.write_variable_counts.specs.Counts.{bodyCount, circuitCount}
@@ -20,22 +20,22 @@ use Rattle.write_simple_statements.specs.Places.{placedForm, placedCount
 
 module _ (scope : Scope) (e : Expression) where
   supplied-tree : (n : Name) (public : Bool) (i : ℕ)
-      → bodyTree ((cond public (supplying (ownedBy n) e (inCircuit scope e)) (inBody scope e) i) .form) ≡ cond public (leaf 9 0 i 0) (bodyForm scope e i)
+      → bodyTree ((cond public (supplying (ownedBy n) e (inCircuit (ownerOf scope) e)) (inBody (ownerOf scope) e) i) .form) ≡ cond public (leaf 9 0 i 0) (bodyForm scope e i)
   unfolding supplying bodyTree
   supplied-tree n true i = refl
   supplied-tree n false i = refl
 
-  pub placed-tree : (o : Owner) (i : ℕ) → bodyTree ((inPlace scope o e i) .form) ≡ placedForm scope (not (isEveryone o)) e i
+  pub placed-tree : (o : Owner) (i : ℕ) → bodyTree ((inPlace (ownerOf scope) o e i) .form) ≡ placedForm scope (not (isEveryone o)) e i
   placed-tree everyone i = refl
   placed-tree (ownedBy n) i = supplied-tree n (isPublic scope e) i
 
   supplied-count : (n : Name) (public : Bool) (i : ℕ)
-      → length ((cond public (supplying (ownedBy n) e (inCircuit scope e)) (inBody scope e) i) .variables) ≡ cond public (circuitCount scope e + 1) (bodyCount scope e)
+      → length ((cond public (supplying (ownedBy n) e (inCircuit (ownerOf scope) e)) (inBody (ownerOf scope) e) i) .variables) ≡ cond public (circuitCount scope e + 1) (bodyCount scope e)
   unfolding supplying
   supplied-count n true i = ap suc ((circuit-makes scope e) .length (suc i)) ∙ sym (add-one (circuitCount scope e))
   supplied-count n false i = (body-makes scope e) .length i
 
-  pub placed-makes : (o : Owner) (i : ℕ) → length ((inPlace scope o e i) .variables) ≡ placedCount scope (not (isEveryone o)) e
+  pub placed-makes : (o : Owner) (i : ℕ) → length ((inPlace (ownerOf scope) o e i) .variables) ≡ placedCount scope (not (isEveryone o)) e
   placed-makes everyone i = (body-makes scope e) .length i
   placed-makes (ownedBy n) i = supplied-count n (isPublic scope e) i
 

@@ -5,7 +5,7 @@ use mathlib.Core.Option.{none}
 use Prim.Native.Nat.{ℕ, _+_}
 use lib.ListN.{length, length-append}
 use Rattle.definitions.specs.ContractFile.{Expression, Statement, Scope, fieldAt, isEveryone}
-use Rattle.definitions.specs.Owners.{nameOf, placeOwner}
+use Rattle.definitions.specs.Owners.{nameOf, placeOwner, ownerOf}
 use Rattle.definitions.specs.Rewriting.{kept, onePart, twoParts, inBody, inPlace, leaf, oneChild, twoChildren, bodyTree, commandTree}
 use Rattle.write_variable_counts.specs.Counts.{bodyCount}
 use Rattle.write_variable_counts.proofs.Counts.{body-makes}
@@ -21,7 +21,7 @@ simple-makes scope Statement.skip i = refl
 simple-makes scope (Statement.sequence first second) i = refl
 simple-makes scope (Statement.assignField f value) i = placed-makes scope value (placeOwner ((fieldAt (scope .fields) f) .owner) none) i
 simple-makes scope (Statement.assignEntry f key value) i =
-    length-append ((inBody scope key i) .variables) _ ∙ ap₂ _+_ ((body-makes scope key) .length i) (placed-makes scope value (placeOwner ((fieldAt (scope .fields) f) .owner) (nameOf scope key)) (i + length ((inBody scope key i) .variables)))
+    length-append ((inBody (ownerOf scope) key i) .variables) _ ∙ ap₂ _+_ ((body-makes scope key) .length i) (placed-makes scope value (placeOwner ((fieldAt (scope .fields) f) .owner) (nameOf scope key)) (i + length ((inBody (ownerOf scope) key i) .variables)))
 simple-makes scope (Statement.require condition) i = (body-makes scope condition) .length i
 simple-makes scope (Statement.conditional condition then else) i = refl
 
@@ -59,7 +59,7 @@ module _ (scope : Scope) (s : Statement) where
     form-of-entry i =
         let o = placeOwner ((fieldAt (scope .fields) f) .owner) (nameOf scope key) in
         rw (h, found)
-        (ap (λ (n : ℕ). twoChildren 19 f (bodyForm scope key i) (bodyTree ((inPlace scope o value (i + n)) .form))) ((body-makes scope key) .length i)
+        (ap (λ (n : ℕ). twoChildren 19 f (bodyForm scope key i) (bodyTree ((inPlace (ownerOf scope) o value (i + n)) .form))) ((body-makes scope key) .length i)
         ∙ ap (twoChildren 19 f (bodyForm scope key i)) (placed-tree scope value o (i + bodyCount scope key)))
 
     pub count-of-entry : bodyCount scope key + placedCount scope private value ≡ simpleCount scope s

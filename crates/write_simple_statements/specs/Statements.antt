@@ -3,7 +3,7 @@ use mathlib.Core.Bool.{not}
 use mathlib.Core.Option.{none}
 use Prim.Native.Nat.{ℕ, _+_}
 use Rattle.definitions.specs.ContractFile.{Statement, Scope, fieldAt, isEveryone}
-use Rattle.definitions.specs.Owners.{nameOf, placeOwner}
+use Rattle.definitions.specs.Owners.{nameOf, placeOwner, ownerOf}
 use Rattle.definitions.specs.Rewriting.{Command, Generator, kept, onePart, twoParts, inBody, inPlace, Tree, commandTree}
 use Rattle.write_variable_counts.specs.Counts.{bodyCount}
 use Rattle.write_simple_statements.specs.Places.{placedCount}
@@ -13,11 +13,11 @@ unfoldable pub simple : Scope → Statement → Generator Command
 simple scope Statement.skip = kept Command.skip
 simple scope (Statement.sequence first second) = kept Command.skip
 simple scope (Statement.assignField f value) =
-    onePart (Command.assignField f) (inPlace scope (placeOwner ((fieldAt (scope .fields) f) .owner) none) value)
+    onePart (Command.assignField f) (inPlace (ownerOf scope) (placeOwner ((fieldAt (scope .fields) f) .owner) none) value)
 simple scope (Statement.assignEntry f key value) =
-    twoParts (Command.assignEntry f) (inBody scope key)
-    (inPlace scope (placeOwner ((fieldAt (scope .fields) f) .owner) (nameOf scope key)) value)
-simple scope (Statement.require condition) = onePart Command.require (inBody scope condition)
+    twoParts (Command.assignEntry f) (inBody (ownerOf scope) key)
+    (inPlace (ownerOf scope) (placeOwner ((fieldAt (scope .fields) f) .owner) (nameOf scope key)) value)
+simple scope (Statement.require condition) = onePart Command.require (inBody (ownerOf scope) condition)
 simple scope (Statement.conditional condition then else) = kept Command.skip
 
 abbrev pub simpleForm : Scope → Statement → ℕ → Tree

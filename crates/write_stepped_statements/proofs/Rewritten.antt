@@ -6,7 +6,7 @@ use mathlib.Core.Option.{none}
 use Prim.Native.Nat.{ℕ}
 use lib.ListN.{length}
 use Rattle.definitions.specs.ContractFile.{Statement, Scope, fieldAt}
-use Rattle.definitions.specs.Owners.{nameOf, placeOwner}
+use Rattle.definitions.specs.Owners.{nameOf, placeOwner, ownerOf}
 use Rattle.definitions.specs.Rewriting.{Command, Guard, Step, single, stepsBefore, inBody, inPlace, rewriteStatement, commandTree}
 use Rattle.theory_trees.specs.Trees.{statementIn}
 use Rattle.file_accepted.specs.Context.{nodesIn, scopeIn}
@@ -42,12 +42,12 @@ module _ (scope : Scope) (g : Guard) (i : ℕ) where
   simple-steps (Statement.sequence first second) h = absurd (false≢true h)
   simple-steps (Statement.assignField f value) h =
       let o = placeOwner ((fieldAt (scope .fields) f) .owner) none in
-      (one-made scope g (Command.assignField f) (inPlace scope o value) (placeEvents scope g o value i) i (place-made scope g o value i)) .steps
+      (one-made scope g (Command.assignField f) (inPlace (ownerOf scope) o value) (placeEvents scope g o value i) i (place-made scope g o value i)) .steps
   simple-steps (Statement.assignEntry f key value) h =
       let o = placeOwner ((fieldAt (scope .fields) f) .owner) (nameOf scope key) in
-      (two-made scope g (Command.assignEntry f) (inBody scope key) (inPlace scope o value) (bodyEvents scope g key) (placeEvents scope g o value) (body-made scope g key) (place-made scope g o value) i) .steps
+      (two-made scope g (Command.assignEntry f) (inBody (ownerOf scope) key) (inPlace (ownerOf scope) o value) (bodyEvents scope g key) (placeEvents scope g o value) (body-made scope g key) (place-made scope g o value) i) .steps
   simple-steps (Statement.require condition) h =
-      (one-made scope g Command.require (inBody scope condition) (bodyEvents scope g condition i) i (body-made scope g condition i)) .steps
+      (one-made scope g Command.require (inBody (ownerOf scope) condition) (bodyEvents scope g condition i) i (body-made scope g condition i)) .steps
   simple-steps (Statement.conditional condition then else) h = absurd (false≢true h)
 
 pub single-rewritten : (file : List ℕ) (functionStart : ℕ) (log : List ℕ) (n i : ℕ) (g : Guard) (numbers : List ℕ) (from : ℕ)

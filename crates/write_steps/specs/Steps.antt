@@ -8,6 +8,7 @@ use lib.Dec.{eqb}
 use lib.ListN.{length, getD}
 use Rattle.definitions.specs.Basics.{flatMap}
 use Rattle.definitions.specs.ContractFile.{Scope, NodeRecord, nodeCount, node, Node}
+use Rattle.definitions.specs.Owners.{ownerOf}
 use Rattle.definitions.specs.Rewriting.{Step, inBody, Tree, setting, size, sizes, numberedAll, nodeBytes, bodyTree}
 use Rattle.theory_trees.specs.Trees.{expressionIn}
 use Rattle.memory_buffer.specs.Buffer.{stored}
@@ -37,7 +38,7 @@ isReadAt log from = eqb (getD log from 0) 2
 abbrev pub stepAt : Scope → List Node → List ℕ → ℕ → Step
 stepAt scope nodes log from = record {
   variable = getD log (from + 1) 0;
-  value = (inBody scope (expressionIn nodes (getD log (from + 3) 0)) (getD log (from + 4) 0)) .form;
+  value = (inBody (ownerOf scope) (expressionIn nodes (getD log (from + 3) 0)) (getD log (from + 4) 0)) .form;
 }
 
 -- The steps of the read variables among so many entries of a log.

@@ -5,7 +5,7 @@ use mathlib.Core.List.{[], _∷_}
 use Prim.Native.Nat.{ℕ, suc, _+_}
 use lib.ListN.{length, length-append}
 use Rattle.definitions.specs.ContractFile.{Owner, everyone, Operator, Expression, Scope, isDivision}
-use Rattle.definitions.specs.Owners.{isPublic}
+use Rattle.definitions.specs.Owners.{isPublic, ownerOf}
 use Rattle.definitions.specs.Rewriting.{BodyExpression, Circuit, readFrom, Generator, kept, onePart, twoParts, supplying, reading, operatorInCircuit, inBody, inCircuit}
 use Rattle.write_variable_counts.specs.Counts.{operatorCount, bodyCount, circuitCount}
 
@@ -46,7 +46,7 @@ makes-cond false f g m n h k = k
 module _ (scope : Scope) where
   makes-operator : (o : Operator) (left right : Expression) (bl br cl cr : ℕ) (leftBody rightBody : Generator BodyExpression) (leftCircuit rightCircuit : Generator Circuit)
       → Makes leftBody bl → Makes rightBody br → Makes leftCircuit cl → Makes rightCircuit cr
-      → Makes (operatorInCircuit scope o left right leftBody rightBody leftCircuit rightCircuit) (operatorCount scope (isPublic scope (Expression.operator o left right)) o bl br cl cr)
+      → Makes (operatorInCircuit (ownerOf scope) o left right leftBody rightBody leftCircuit rightCircuit) (operatorCount scope (isPublic scope (Expression.operator o left right)) o bl br cl cr)
   makes-operator o left right bl br cl cr leftBody rightBody leftCircuit rightCircuit a b c d =
       makes-cond (isPublic scope (Expression.operator o left right) && isDivision o) _ _ _ _
       (makes-read everyone (Expression.operator o left right) _ _ (makes-two (BodyExpression.operator o) leftBody rightBody bl br a b))
@@ -55,7 +55,7 @@ module _ (scope : Scope) where
   mutual
     unfolding inBody inCircuit bodyCount circuitCount
 
-    pub body-makes : (e : Expression) → Makes (inBody scope e) (bodyCount scope e)
+    pub body-makes : (e : Expression) → Makes (inBody (ownerOf scope) e) (bodyCount scope e)
     body-makes (Expression.constant t v) = makes-kept _
     body-makes Expression.me = makes-kept _
     body-makes (Expression.field f) = makes-kept _
@@ -69,7 +69,7 @@ module _ (scope : Scope) where
         (makes-supply _ _ _ _ (makes-one _ _ _ (circuit-makes part)))
     body-makes (Expression.reveal part o) = makes-supply _ _ _ _ (circuit-makes part)
 
-    pub circuit-makes : (e : Expression) → Makes (inCircuit scope e) (circuitCount scope e)
+    pub circuit-makes : (e : Expression) → Makes (inCircuit (ownerOf scope) e) (circuitCount scope e)
     circuit-makes (Expression.constant t v) = makes-kept _
     circuit-makes Expression.me = makes-kept _
     circuit-makes (Expression.field f) = makes-read _ _ _ 0 (makes-kept _)
