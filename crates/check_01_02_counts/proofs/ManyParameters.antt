@@ -9,6 +9,7 @@ use lib.ListN.{length}
 use borrow.Author.Tests.{lt-ltb, le-ltb}
 use Rattle.definitions.specs.Basics.{any}
 use Rattle.definitions.specs.ContractFile.{FunctionRecord, byteAt, functionEnd, functionRecord, functionRecords}
+use Rattle.definitions.specs.Reading.{functionsRead}
 use Rattle.definitions.specs.Numbers.{countOffLimits}
 use Rattle.theory_laws.proofs.Records.{force-is, parameters-length}
 use Rattle.file_bytes.specs.declared.Layout.{Layout}
@@ -21,14 +22,14 @@ hasManyParameters f = ltb 8 (length (f .parameters))
 
 functions-step : (file : List ℕ) (at k next : ℕ) → 0 < k → next ≡ functionEnd file at
     → functionRecords k file at ≡ functionRecord file at ∷ functionRecords (k - 1) file next
-unfolding functionRecords
+unfolding functionsRead
 functions-step file at zero next h e = absurd (omega arith)
 functions-step file at (suc k) next h e =
     let less : suc k - 1 ≡ k = omega arith in
     rw (less, e, force-is (functionEnd file at) (functionRecords k file))
 
 functions-end : (file : List ℕ) (at k : ℕ) → k ≤ 0 → functionRecords k file at ≡ []
-unfolding functionRecords
+unfolding functionsRead
 functions-end file at zero h = refl
 functions-end file at (suc k) h = absurd (omega arith)
 

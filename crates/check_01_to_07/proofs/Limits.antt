@@ -9,7 +9,8 @@ use lib.Dec.{eqb, ltb}
 use lib.ListN.{length, take}
 use lib.Seq.{length-take-le}
 use Rattle.definitions.specs.Basics.{any}
-use Rattle.definitions.specs.ContractFile.{byteAt, functionEnd, functionsEnd, functionRecord, functionRecords, nodesAt, fileEnd}
+use Rattle.definitions.specs.ContractFile.{byteAt, functionEnd, functionsEnd, functionRecord, functionRecords, fileEnd}
+use Rattle.definitions.specs.Reading.{functionsPassed, nodesBegin, functionsRead}
 use Rattle.definitions.specs.Numbers.{endsWrongly}
 use Rattle.theory_laws.proofs.Records.{force-is, parameters-length}
 use Rattle.theory_laws.proofs.TruthValues.{or-left, or-right}
@@ -23,7 +24,7 @@ record Ends (count : ℕ) (file : List ℕ) (at : ℕ) : Type 0 where
   most : functionsEnd count file at ≤ at + 19 * count
 
 ends-near : (count : ℕ) (file : List ℕ) (at : ℕ) → any hasManyParameters (functionRecords count file at) ≡ false → Ends count file at
-unfolding any functionRecords functionsEnd
+unfolding any functionsRead functionsPassed
 ends-near zero file at few = record { least = omega arith; most = omega arith }
 ends-near (suc count) file at few =
     let own = ltb-false 8 (length ((functionRecord file at) .parameters)) (or-left (hasManyParameters (functionRecord file at)) _ few) in
@@ -41,7 +42,7 @@ pub record Limits (file : List ℕ) (l : Layout) : Type 0 where
   pub most : l .«nodes_at» ≤ l .«functions_at» + 1 + 19 * l .functions
 
 pub counted-limits : (file : List ℕ) (l : Layout) → Counted file l → Limits file l
-unfolding nodesAt
+unfolding nodesBegin
 counted-limits file l c =
     let is = c .layout in
     let many = any hasManyParameters (functionRecords (l .functions) file (l .«functions_at» + 1)) in

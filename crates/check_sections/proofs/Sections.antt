@@ -9,14 +9,15 @@ use lib.ListN.{length, take, drop, length-drop}
 use lib.Seq.{slice, take-all}
 use borrow.Author.Tests.{eqb-true, ltb-false, not-false, ne-eqb}
 use Rattle.definitions.specs.Basics.{firstThatHolds}
-use Rattle.definitions.specs.ContractFile.{functionEnd, functionsAt, functionCount, functionsEnd, nodesAt, fileEnd, sectionPart}
+use Rattle.definitions.specs.ContractFile.{functionEnd, functionsAt, functionCount, functionsEnd, fileEnd, sectionPart}
+use Rattle.definitions.specs.Reading.{functionsPassed, nodesBegin, partRead}
 use Rattle.definitions.specs.Numbers.{endsWrongly, countOffLimits, orElse, sectionNumber, sectionAnswer}
 use Rattle.theory_laws.proofs.Records.{force-is}
 use Rattle.file_bytes.specs.declared.Layout.{Layout}
 use Rattle.file_bytes.specs.Layout.{IsLayout}
 
 functionsEnd-above : (k : ℕ) (file : List ℕ) (at : ℕ) → at ≤ functionsEnd k file at
-unfolding functionsEnd
+unfolding functionsPassed
 functionsEnd-above zero file at = omega arith
 functionsEnd-above (suc k) file at =
     let e = force-is (functionEnd file at) (functionsEnd k file) in
@@ -26,7 +27,7 @@ functionsEnd-above (suc k) file at =
 -- Where the sections lie in a file that ends right.
 module _ (file : List ℕ) (l : Layout) (is : IsLayout file l) where
   pub functions-before-nodes : l .«functions_at» ≤ l .«nodes_at»
-  unfolding nodesAt
+  unfolding nodesBegin
   functions-before-nodes =
       let h = functionsEnd-above (functionCount file) file (functionsAt file + 1) in
       omega (arith, is .functionsStart, is .nodesStart)
@@ -86,15 +87,15 @@ module _ (file : List ℕ) (n number : ℕ) (e : number ≡ sectionNumber file n
 
     module _ (l : Layout) (is : IsLayout file l) where
       pub fields-part : n ≡ 0 → take (l .«functions_at» - 0) file ≡ sectionAnswer file n
-      unfolding sectionPart
+      unfolding partRead
       fields-part h = accepted-part _ (part-is 0 (l .«functions_at») file ∙ rw (h, is .functionsStart))
 
       pub functions-part : n ≡ 1 → take (l .«nodes_at» - l .«functions_at») (drop (l .«functions_at») file) ≡ sectionAnswer file n
-      unfolding sectionPart
+      unfolding partRead
       functions-part h = accepted-part _ (part-is (l .«functions_at») (l .«nodes_at») file ∙ rw (h, is .functionsStart, is .nodesStart))
 
       pub nodes-part : (n ≡ 0 → ⊥) → (n ≡ 1 → ⊥) → take (length file - l .«nodes_at») (drop (l .«nodes_at») file) ≡ sectionAnswer file n
-      unfolding sectionPart
+      unfolding partRead
       nodes-part a b =
           let low = ltb-false 2 n (accepted .1) in
           let two : n ≡ 2 = omega (arith, a, b) in

@@ -11,9 +11,9 @@ use Rattle.definitions.specs.Basics.{bit, all, any, anyNumbered, countIf
 use Rattle.definitions.specs.Ledger.{Ledger, deployNumber, deployed, allFit, publicOf, isWellFormed, notCallable, argumentsOff}
 use Rattle.definitions.specs.Ledger.{callNumber, callWith, honestContents, honestVariables, honestParameters, ledgerAfterCall}
 use Rattle.definitions.specs.Ledger.{circuitValue, contentOf, isWalked, stateAfter, walkCompletes}
-use Rattle.definitions.specs.ContractFile.{contractIn}
-use Rattle.definitions.specs.ContractFile.{functionsEnd, nodesAt, fieldRecords, parameterRecords, functionRecords, nodeRecords}
-use Rattle.definitions.specs.ContractFile.{sectionsOf, sectionPart, fieldOf, parameterOf, typeOf, kindOf, nodeOfKind}
+use Rattle.definitions.specs.Reading.{functionsPassed, nodesBegin, fieldsRead, parametersRead, functionsRead, nodesRead, sectionsRead}
+use Rattle.definitions.specs.Reading.{partRead}
+use Rattle.definitions.specs.ContractFile.{contractIn, fieldOf, parameterOf, typeOf, kindOf, nodeOfKind}
 use Rattle.definitions.specs.ContractFile.{expressionParts, statementParts, fieldsNamed, chainLength, expressionOf, expressionAt}
 use Rattle.definitions.specs.ContractFile.{statementOf, statementAt, contractOf, Operator, sameName}
 use Rattle.definitions.specs.Numbers.{endsWrongly, countOffLimits, fieldInTables, parameterInTables, kindInTables, outsideTables}
@@ -29,7 +29,7 @@ use Rattle.definitions.specs.Report.{refusedLine}
 use Rattle.definitions.specs.Rewriting.{kept, onePart, twoParts, supplying, reading, stepsBefore, single, inSequence, inBranch}
 use Rattle.definitions.specs.Rewriting.{inBranches, rewriteStatement, privateParameters, openings, rewriteFunction, rewrite, inBody}
 use Rattle.definitions.specs.Rewriting.{inCircuit, size, numbered, bodyTree, circuitTree, commandTree, sizes, numberedAll, eachOnce}
-use Rattle.definitions.specs.Rewriting.{constraintBytes, functionBytes, functionsBytes, contractBytes, writtenFile, writeNumber}
+use Rattle.definitions.specs.Rewriting.{constraintBytes, functionWritten, functionsWritten, contractWritten, writtenFile, writeNumber}
 use Rattle.definitions.specs.Rewriting.{writtenLength, outputAfterWriting}
 use Rattle.definitions.specs.View.{Request, runAtDeployment, isTaken, runAfter, disclosedIn, disclosedOn, disclosedNumber}
 use Rattle.definitions.specs.View.{disclosedLength, outputAfterDisclosing, viewsAfter, disclosures, itemFor, itemsFor, itemBytes}
@@ -196,7 +196,7 @@ holds (isDisclosed file addresses requests party lists) t = same-lists _ lists t
 holds (callDiscloses file places r party values) t = same-numbers _ values t
 
 unfoldable pub allPass : List Case → Bool
-unfolding all any anyNumbered countIf largest flatMap firstThatHolds deployNumber deployed allFit publicOf isWellFormed notCallable argumentsOff callNumber callWith honestContents honestVariables honestParameters ledgerAfterCall functionsEnd nodesAt fieldRecords parameterRecords functionRecords nodeRecords sectionsOf sectionPart fieldOf parameterOf typeOf circuitValue contentOf isWalked stateAfter walkCompletes kindOf nodeOfKind expressionParts statementParts fieldsNamed chainLength expressionOf expressionAt statementOf statementAt contractOf endsWrongly countOffLimits fieldInTables parameterInTables kindInTables outsideTables namesNothing usesOf usedOtherThanOnce tooDeep wrongSort expressionFaults statementFaults contractFaults checkNumber sectionNumber sectionAnswer value isWorkedOut placesAfter completes disclosed disclosedBy originalCompletes originalAfter originalDiscloses withLink nameOf ownerOf linksOfCondition linksAfter numbersFrom perPlace position deployedNumbers originsAt writtenFunctionEnd originsFrom originsIn crossingsIn totalIn crossingsAfterWriting tallies insert sorted digits reportText reportNumber reportLength outputAfterReport kept onePart twoParts supplying reading stepsBefore single inSequence inBranch inBranches rewriteStatement privateParameters openings rewriteFunction rewrite inBody inCircuit runAtDeployment isTaken runAfter disclosedIn disclosedOn disclosedNumber disclosedLength outputAfterDisclosing viewsAfter disclosures sameName itemFor itemsFor itemBytes viewBytes viewNumber viewLength outputAfterView size numbered bodyTree circuitTree commandTree sizes numberedAll eachOnce constraintBytes functionBytes functionsBytes contractBytes writtenFile writeNumber writtenLength outputAfterWriting zipWith sameNumbers sameLists
+unfolding all any anyNumbered countIf largest flatMap firstThatHolds deployNumber deployed allFit publicOf isWellFormed notCallable argumentsOff callNumber callWith honestContents honestVariables honestParameters ledgerAfterCall functionsPassed nodesBegin fieldsRead parametersRead functionsRead nodesRead sectionsRead partRead fieldOf parameterOf typeOf circuitValue contentOf isWalked stateAfter walkCompletes kindOf nodeOfKind expressionParts statementParts fieldsNamed chainLength expressionOf expressionAt statementOf statementAt contractOf endsWrongly countOffLimits fieldInTables parameterInTables kindInTables outsideTables namesNothing usesOf usedOtherThanOnce tooDeep wrongSort expressionFaults statementFaults contractFaults checkNumber sectionNumber sectionAnswer value isWorkedOut placesAfter completes disclosed disclosedBy originalCompletes originalAfter originalDiscloses withLink nameOf ownerOf linksOfCondition linksAfter numbersFrom perPlace position deployedNumbers originsAt writtenFunctionEnd originsFrom originsIn crossingsIn totalIn crossingsAfterWriting tallies insert sorted digits reportText reportNumber reportLength outputAfterReport kept onePart twoParts supplying reading stepsBefore single inSequence inBranch inBranches rewriteStatement privateParameters openings rewriteFunction rewrite inBody inCircuit runAtDeployment isTaken runAfter disclosedIn disclosedOn disclosedNumber disclosedLength outputAfterDisclosing viewsAfter disclosures sameName itemFor itemsFor itemBytes viewBytes viewNumber viewLength outputAfterView size numbered bodyTree circuitTree commandTree sizes numberedAll eachOnce constraintBytes functionWritten functionsWritten contractWritten writtenFile writeNumber writtenLength outputAfterWriting zipWith sameNumbers sameLists
 allPass [] = true
 allPass (c ∷ cs) = passes c && allPass cs
 

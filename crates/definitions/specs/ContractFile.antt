@@ -1,7 +1,12 @@
--- 01, The contract file: what a file says, as trees; its sections as they lie in the bytes; the codes;
+-- 01, The contract file: what a file says, as trees; the sections of a file in document 01's own layout; the codes;
 -- the trees that its nodes make; data types.
 use Rattle.definitions.specs.Basics.{Bool, true, false, _||_, List, [], ℕ, eqb, getD, _&&_, cond, not, _∷_, zero, suc, _+_, _*_, _-_}
-use Rattle.definitions.specs.Basics.{leb, ltb, drop, slice, force, _++_, map, largest}
+use Rattle.definitions.specs.Basics.{leb, ltb, _++_, map, largest}
+pub use Rattle.definitions.specs.Reading.{byteAt, twoBytesAt, FieldRecord, ParameterRecord, FunctionRecord, NodeRecord, Sections}
+pub use Rattle.definitions.specs.Reading.{node}
+use Rattle.definitions.specs.Reading.{narrow, fieldsCounted, functionsBegin, functionsCounted, functionPassed, functionsPassed}
+use Rattle.definitions.specs.Reading.{nodesBegin, nodesCounted, filePassed, fieldsRead, parametersRead, functionRead, functionsRead}
+use Rattle.definitions.specs.Reading.{nodeRead, nodesRead, sectionsRead, partRead}
 
 -- "type (0 bool, 1 uint, 2 address)"
 pub data DataType : Type 0 where
@@ -135,123 +140,54 @@ isOperator o p = eqb (operatorCode o) (operatorCode p)
 abbrev pub isDivision : Operator → Bool
 isDivision o = isOperator o divide || isOperator o remainder
 
--- "Numbers of several bytes are low byte first." A byte that is not there reads as 0.
-abbrev pub byteAt : List ℕ → ℕ → ℕ
-byteAt file at = getD file at 0
-
-abbrev pub twoBytesAt : List ℕ → ℕ → ℕ
-twoBytesAt file at = byteAt file at + 256 * byteAt file (at + 1)
-
--- "Fields: one-byte count, 0 to 64; each is shape .., type .., owner."
-pub record FieldRecord : Type 0 where
-  pub shape : ℕ
-  pub type : ℕ
-  pub owner : ℕ
-
--- "a type and an owner (0 or 1) for each parameter"
-pub record ParameterRecord : Type 0 where
-  pub type : ℕ
-  pub owner : ℕ
-
--- "each is a one-byte parameter count, 0 to 8; a type and an owner .. for each parameter; a two-byte root node"
-pub record FunctionRecord : Type 0 where
-  pub parameters : List ParameterRecord
-  pub root : ℕ
-
--- "each is kind, arg, then first, second and third of two bytes"
-pub record NodeRecord : Type 0 where
-  pub kind : ℕ
-  pub arg : ℕ
-  pub first : ℕ
-  pub second : ℕ
-  pub third : ℕ
-
--- "Sections stand in a fixed order, each after its count."
-pub record Sections : Type 0 where
-  pub fields : List FieldRecord
-  pub functions : List FunctionRecord
-  pub nodes : List NodeRecord
-
+-- Document 01's own layout: "Fields: one-byte count, 0 to 64"; an owner code and an arg are one byte.
 abbrev pub fieldCount : List ℕ → ℕ
-fieldCount file = byteAt file 0
+fieldCount = fieldsCounted narrow
 
 abbrev pub functionsAt : List ℕ → ℕ
-functionsAt file = 1 + 3 * fieldCount file
+functionsAt = functionsBegin narrow
 
 abbrev pub functionCount : List ℕ → ℕ
-functionCount file = byteAt file (functionsAt file)
+functionCount = functionsCounted narrow
 
--- Where the function that begins at a position ends.
 abbrev pub functionEnd : List ℕ → ℕ → ℕ
-functionEnd file at = at + 1 + 2 * byteAt file at + 2
+functionEnd = functionPassed narrow
 
-unfoldable pub functionsEnd : ℕ → List ℕ → ℕ → ℕ
-functionsEnd zero file at = at
-functionsEnd (suc n) file at = force (functionEnd file at) (functionsEnd n file)
+abbrev pub functionsEnd : ℕ → List ℕ → ℕ → ℕ
+functionsEnd = functionsPassed narrow
 
-unfoldable pub nodesAt : List ℕ → ℕ
-nodesAt file = functionsEnd (functionCount file) file (functionsAt file + 1)
+abbrev pub nodesAt : List ℕ → ℕ
+nodesAt = nodesBegin narrow
 
 abbrev pub nodeCount : List ℕ → ℕ
-nodeCount file = twoBytesAt file (nodesAt file)
+nodeCount = nodesCounted narrow
 
--- Where a file with these counts ends. A count past the end reads as 0, and its own place alone then lies past the end.
 abbrev pub fileEnd : List ℕ → ℕ
-fileEnd file = nodesAt file + 2 + 8 * nodeCount file
+fileEnd = filePassed narrow
 
-unfoldable pub fieldRecords : ℕ → List ℕ → ℕ → List FieldRecord
-fieldRecords zero file at = []
-fieldRecords (suc n) file at =
-    record { shape = byteAt file at; type = byteAt file (at + 1); owner = byteAt file (at + 2) }
-    ∷ fieldRecords n file (at + 3)
+abbrev pub fieldRecords : ℕ → List ℕ → ℕ → List FieldRecord
+fieldRecords = fieldsRead narrow
 
-unfoldable pub parameterRecords : ℕ → List ℕ → ℕ → List ParameterRecord
-parameterRecords zero file at = []
-parameterRecords (suc n) file at =
-    record { type = byteAt file at; owner = byteAt file (at + 1) }
-    ∷ parameterRecords n file (at + 2)
+abbrev pub parameterRecords : ℕ → List ℕ → ℕ → List ParameterRecord
+parameterRecords = parametersRead narrow
 
 abbrev pub functionRecord : List ℕ → ℕ → FunctionRecord
-functionRecord file at = record {
-  parameters = parameterRecords (byteAt file at) file (at + 1);
-  root = twoBytesAt file (functionEnd file at - 2);
-}
+functionRecord = functionRead narrow
 
-unfoldable pub functionRecords : ℕ → List ℕ → ℕ → List FunctionRecord
-functionRecords zero file at = []
-functionRecords (suc n) file at =
-    functionRecord file at
-    ∷ force (functionEnd file at) (functionRecords n file)
-
-abbrev pub node : ℕ → ℕ → ℕ → ℕ → ℕ → NodeRecord
-node kind arg first second third =
-    record { kind = kind; arg = arg; first = first; second = second; third = third }
+abbrev pub functionRecords : ℕ → List ℕ → ℕ → List FunctionRecord
+functionRecords = functionsRead narrow
 
 abbrev pub nodeRecord : List ℕ → ℕ → NodeRecord
-nodeRecord file at =
-    node (byteAt file at) (byteAt file (at + 1))
-    (twoBytesAt file (at + 2)) (twoBytesAt file (at + 4)) (twoBytesAt file (at + 6))
+nodeRecord = nodeRead narrow
 
-unfoldable pub nodeRecords : ℕ → List ℕ → ℕ → List NodeRecord
-nodeRecords zero file at = []
-nodeRecords (suc n) file at = nodeRecord file at ∷ nodeRecords n file (at + 8)
+abbrev pub nodeRecords : ℕ → List ℕ → ℕ → List NodeRecord
+nodeRecords = nodesRead narrow
 
-unfoldable pub sectionsOf : List ℕ → Sections
-sectionsOf file =
-    let functions = functionRecords (functionCount file) file (functionsAt file + 1) in
-    record {
-      fields = fieldRecords (fieldCount file) file 1;
-      functions = functions;
-      nodes = force (nodesAt file + 2) (nodeRecords (nodeCount file) file);
-    }
+abbrev pub sectionsOf : List ℕ → Sections
+sectionsOf = sectionsRead narrow
 
--- "Each section, count included, is handed back on request as that part of the caller's file (0 fields, 1 functions, 2 nodes)."
-unfoldable pub sectionPart : List ℕ → ℕ → List ℕ
-sectionPart file n =
-    getD (slice 0 (functionsAt file) file
-    ∷ slice (functionsAt file) (nodesAt file) file
-    ∷ drop (nodesAt file) file
-    ∷ []) n []
+abbrev pub sectionPart : List ℕ → ℕ → List ℕ
+sectionPart = partRead narrow
 
 -- The codes, as what they mean. Which codes are in the tables is number 3's to say; others read as the last of the list.
 abbrev pub dataTypeOf : ℕ → DataType

@@ -1,4 +1,5 @@
 pub mod Basics
+pub mod Reading
 pub mod ContractFile
 pub mod Owners
 pub mod Numbers

@@ -2,6 +2,7 @@
 -- what writing does with the lent output.
 use Rattle.definitions.specs.Basics.{cond, List, [], ℕ, _&&_, _∷_, _++_, map, none, suc, _+_, length, _-_, _/_, _%_, eqb, ltb, drop}
 use Rattle.definitions.specs.Basics.{any, flatMap, twoBytes, firstThatHolds}
+use Rattle.definitions.specs.Reading.{Layout, narrow}
 use Rattle.definitions.specs.ContractFile.{DataType, Owner, everyone, isEveryone, Operator, Expression, Parameter, Field, boolean}
 use Rattle.definitions.specs.ContractFile.{meName, ownedBy, Statement, Function, Contract, Scope, fieldAt, isDivision, dataTypeCode}
 use Rattle.definitions.specs.ContractFile.{shapeCode, operatorCode, NodeRecord, node, ownerCode, fieldOwnerCode, contractIn}
@@ -389,23 +390,33 @@ unfoldable pub numberedAll : ℕ → List Tree → List NodeRecord
 numberedAll n [] = []
 numberedAll n (t ∷ ts) = numbered n t ++ numberedAll (n + size t) ts
 
-abbrev pub nodeBytes : NodeRecord → List ℕ
-nodeBytes r = r .kind ∷ r .arg ∷ twoBytes (r .first) ++ twoBytes (r .second) ++ twoBytes (r .third)
+module _ (layout : Layout) where
+  abbrev pub codeBytes : ℕ → List ℕ
+  codeBytes n = cond (layout .twoByteCodes) (twoBytes n) (n ∷ [])
 
--- "Fields keep their layout; private ones get type 3 (cell), and so do private parameters."
-abbrev pub fieldBytes : Field → List ℕ
-fieldBytes d =
-    shapeCode (d .shape)
-    ∷ cond (eqb (fieldOwnerCode (d .owner)) 0) (dataTypeCode (d .type)) 3
-    ∷ fieldOwnerCode (d .owner)
-    ∷ []
+  abbrev pub ownerCodeBytes : ℕ → List ℕ
+  ownerCodeBytes code = cond (layout .twoByteCodes) (twoBytes (layout .codeWritten code)) (code ∷ [])
 
-abbrev pub parameterBytes : Parameter → List ℕ
-parameterBytes p = cond (p .private) (3 ∷ 1 ∷ []) (dataTypeCode (p .type) ∷ 0 ∷ [])
+  -- No arg of a written file is an owner code.
+  abbrev pub nodeWritten : NodeRecord → List ℕ
+  nodeWritten r = r .kind ∷ codeBytes (r .arg) ++ twoBytes (r .first) ++ twoBytes (r .second) ++ twoBytes (r .third)
 
--- "each origin and owner code (0 unless a cell)"
-abbrev pub variableBytes : Variable → List ℕ
-variableBytes v = origin v ∷ ownerCode (variableOwner v) ∷ []
+  -- "Fields keep their layout; private ones get type 3 (cell), and so do private parameters."
+  abbrev pub fieldWritten : Field → List ℕ
+  fieldWritten d =
+      shapeCode (d .shape)
+      ∷ cond (eqb (fieldOwnerCode (d .owner)) 0) (dataTypeCode (d .type)) 3
+      ∷ ownerCodeBytes (fieldOwnerCode (d .owner))
+
+  abbrev pub parameterWritten : Parameter → List ℕ
+  parameterWritten p = cond (p .private) (3 ∷ ownerCodeBytes 1) (dataTypeCode (p .type) ∷ ownerCodeBytes 0)
+
+  -- "each origin and owner code (0 unless a cell)"
+  abbrev pub variableWritten : Variable → List ℕ
+  variableWritten v = origin v ∷ ownerCodeBytes (ownerCode (variableOwner v))
+
+  abbrev pub keysWritten : List ℕ → List ℕ
+  keysWritten keys = cond (layout .twoByteCodes) (flatMap ownerCodeBytes keys) keys
 
 -- "owner codes needing keys (those of supplied cells), each once by first use"
 abbrev pub keyOf : Variable → List ℕ
@@ -437,31 +448,55 @@ constraintBytes n (c ∷ cs) =
     ++ claimBytes n (c .claim)
     ++ constraintBytes (n + sizes (claimTrees (c .claim))) cs
 
--- "Written per function: parameters; two-byte count of variables ..; two-byte count of owner codes needing keys ..;
--- two-byte count of constraints ..; body root." The function's first node has number n.
-unfoldable pub functionBytes : ℕ → WrittenFunction → List ℕ
-functionBytes n g =
-    let keys = eachOnce [] (flatMap keyOf (g .variables)) in
-    (length (g .parameters) ∷ flatMap parameterBytes (g .parameters))
-    ++ twoBytes (length (g .variables))
-    ++ flatMap variableBytes (g .variables)
-    ++ twoBytes (length keys)
-    ++ keys
-    ++ twoBytes (length (g .constraints))
-    ++ constraintBytes n (g .constraints)
-    ++ twoBytes (n + sizes (functionTrees g) - 1)
+module _ (layout : Layout) where
+  -- "Written per function: parameters; two-byte count of variables ..; two-byte count of owner codes needing keys ..;
+  -- two-byte count of constraints ..; body root." The function's first node has number n.
+  unfoldable pub functionWritten : ℕ → WrittenFunction → List ℕ
+  functionWritten n g =
+      let keys = eachOnce [] (flatMap keyOf (g .variables)) in
+      (length (g .parameters) ∷ flatMap (parameterWritten layout) (g .parameters))
+      ++ twoBytes (length (g .variables))
+      ++ flatMap (variableWritten layout) (g .variables)
+      ++ twoBytes (length keys)
+      ++ keysWritten layout keys
+      ++ twoBytes (length (g .constraints))
+      ++ constraintBytes n (g .constraints)
+      ++ twoBytes (n + sizes (functionTrees g) - 1)
 
-unfoldable pub functionsBytes : ℕ → List WrittenFunction → List ℕ
-functionsBytes n [] = []
-functionsBytes n (g ∷ gs) = functionBytes n g ++ functionsBytes (n + sizes (functionTrees g)) gs
+  unfoldable pub functionsWritten : ℕ → List WrittenFunction → List ℕ
+  functionsWritten n [] = []
+  functionsWritten n (g ∷ gs) = functionWritten n g ++ functionsWritten (n + sizes (functionTrees g)) gs
 
-unfoldable pub contractBytes : WrittenContract → List ℕ
-contractBytes c =
-    let trees = flatMap functionTrees (c .functions) in
-    (length (c .fields) ∷ flatMap fieldBytes (c .fields))
-    ++ (length (c .functions) ∷ functionsBytes 0 (c .functions))
-    ++ twoBytes (sizes trees)
-    ++ flatMap nodeBytes (numberedAll 0 trees)
+  unfoldable pub contractWritten : WrittenContract → List ℕ
+  contractWritten c =
+      let trees = flatMap functionTrees (c .functions) in
+      codeBytes layout (length (c .fields))
+      ++ flatMap (fieldWritten layout) (c .fields)
+      ++ (length (c .functions) ∷ functionsWritten 0 (c .functions))
+      ++ twoBytes (sizes trees)
+      ++ flatMap (nodeWritten layout) (numberedAll 0 trees)
+
+-- In document 01's own layout.
+abbrev pub nodeBytes : NodeRecord → List ℕ
+nodeBytes = nodeWritten narrow
+
+abbrev pub fieldBytes : Field → List ℕ
+fieldBytes = fieldWritten narrow
+
+abbrev pub parameterBytes : Parameter → List ℕ
+parameterBytes = parameterWritten narrow
+
+abbrev pub variableBytes : Variable → List ℕ
+variableBytes = variableWritten narrow
+
+abbrev pub functionBytes : ℕ → WrittenFunction → List ℕ
+functionBytes = functionWritten narrow
+
+abbrev pub functionsBytes : ℕ → List WrittenFunction → List ℕ
+functionsBytes = functionsWritten narrow
+
+abbrev pub contractBytes : WrittenContract → List ℕ
+contractBytes = contractWritten narrow
 
 unfoldable pub writtenFile : List ℕ → List ℕ
 writtenFile file = contractBytes (rewrite (contractIn file))

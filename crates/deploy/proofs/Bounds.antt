@@ -8,7 +8,8 @@ use borrow.Author.Tests.{eqb-true, ltb-false, not-false}
 use lib.Dec.{eqb, ltb}
 use lib.ListN.{length}
 use Rattle.definitions.specs.Basics.{any, isZero}
-use Rattle.definitions.specs.ContractFile.{FunctionRecord, byteAt, fieldCount, functionCount, functionsAt, functionEnd, functionsEnd, nodesAt, nodeCount, fileEnd, parameterRecords, functionRecord, functionRecords, sectionsOf}
+use Rattle.definitions.specs.ContractFile.{FunctionRecord, byteAt, fieldCount, functionCount, functionsAt, functionEnd, functionsEnd, nodeCount, fileEnd, parameterRecords, functionRecord, functionRecords, sectionsOf}
+use Rattle.definitions.specs.Reading.{functionsPassed, nodesBegin, functionsRead}
 use Rattle.definitions.specs.Numbers.{endsWrongly, countOffLimits, checkNumber}
 use Rattle.definitions.specs.Ledger.{deployNumber}
 use Rattle.theory_laws.proofs.Records.{force-is, parameters-length}
@@ -25,7 +26,7 @@ manyParameters r = ltb 8 (length (r .parameters))
 
 -- A function of at most 8 parameters takes at most 19 bytes.
 functions-near : (k : ℕ) (file : List ℕ) (at : ℕ) → any manyParameters (functionRecords k file at) ≡ false → functionsEnd k file at ≤ at + 19 * k
-unfolding functionRecords functionsEnd any
+unfolding functionsRead functionsPassed any
 functions-near zero file at h = omega arith
 functions-near (suc k) file at h =
     let both = either-false (manyParameters (functionRecord file at)) _ h in
@@ -52,7 +53,7 @@ module _ (file : List ℕ) (accepted : checkNumber file ≡ 0) where
 
   -- 1 + 3 * 64 + 1 + 19 * 16 + 2 + 8 * 512
   pub accepted-length : length file ≤ 4596
-  unfolding endsWrongly nodesAt
+  unfolding endsWrongly nodesBegin
   accepted-length =
       let ends : length file ≡ fileEnd file = eqb-true (length file) (fileEnd file) (not-false (eqb (length file) (fileEnd file)) (shaped .ends)) in
       let near = functions-near (functionCount file) file (functionsAt file + 1) no-parameters-off in

@@ -9,6 +9,7 @@ use lib.Dec.{leb, ltb}
 use lib.ListN.{length, getD, length-map, List·getD-eq-default}
 use Rattle.definitions.specs.Basics.{all, any, anyNumbered, isZero}
 use Rattle.definitions.specs.ContractFile.{FieldRecord, FunctionRecord, NodeRecord, byteAt, fieldCount, functionCount, functionsAt, functionEnd, functionsEnd, nodesAt, nodeCount, fieldRecords, parameterRecords, functionRecord, functionRecords, nodeRecord, sectionsOf, fieldOf, Node, unknownNode, nodeOf, nodeAt, children, expressionParts, statementParts, isExpression, isStatement, fieldsNamed}
+use Rattle.definitions.specs.Reading.{functionsPassed, nodesBegin, functionsRead}
 use Rattle.definitions.specs.Numbers.{countOffLimits, fieldInTables, parameterInTables, nodeInTables, outsideTables, fieldOfDeclaredOwner, namesNothing, wrongSort}
 use Rattle.theory_laws.proofs.Records.{field-record, fields-length, force-is, functions-length, parameters-length}
 use Rattle.theory_laws.proofs.TruthValues.{or-left, or-right}
@@ -30,7 +31,7 @@ none-fails test [] h = refl
 none-fails test (x ∷ xs) h = rw (not-false (test x) (or-left (not (test x)) _ h), none-fails test xs (or-right (not (test x)) _ h))
 
 pub function-record : (k : ℕ) (file : List ℕ) (at f : ℕ) (other : FunctionRecord) → f < k → getD (functionRecords k file at) f other ≡ functionRecord file (functionsEnd f file at)
-unfolding functionRecords functionsEnd
+unfolding functionsRead functionsPassed
 function-record zero file at f other h = absurd (omega arith)
 function-record (suc k) file at zero other h = refl
 function-record (suc k) file at (suc f) other h =
@@ -45,7 +46,7 @@ few-bytes file at h = omega (arith, ltb-false 8 (length (parameterRecords (byteA
 
 -- A function takes at most 19 bytes.
 functions-near : (k : ℕ) (file : List ℕ) (at f : ℕ) → any manyParameters (functionRecords k file at) ≡ false → f ≤ k → functionsEnd f file at ≤ at + 19 * f
-unfolding functionRecords functionsEnd any
+unfolding functionsRead functionsPassed any
 functions-near k file at zero h l = omega arith
 functions-near zero file at (suc f) h l = absurd (omega arith)
 functions-near (suc k) file at (suc f) h l =
@@ -96,7 +97,7 @@ module _ (file : List ℕ) (counts : countOffLimits file ≡ false) where
   near f h = omega (arith, functions-near (functionCount file) file (functionsAt file + 1) f no-parameters-off h, few-fields, few-functions)
 
   pub near-nodes : nodesAt file ≤ 200000
-  unfolding nodesAt
+  unfolding nodesBegin
   near-nodes = near (functionCount file) (omega arith)
 
   few-parameters : (f : ℕ) → f < functionCount file → byteAt file (functionsEnd f file (functionsAt file + 1)) ≤ 8

@@ -6,6 +6,7 @@ use Prim.Native.Nat.{ℕ, zero, suc, _+_, _*_, _<_, _≤_}
 use native.Mathlib.Omega.{arith}
 use lib.ListN.{getD, length-map, List·getD-eq-default, length}
 use Rattle.definitions.specs.ContractFile.{Field, Parameter, fieldAt, parameterAt, plainField, boolean, toEveryone, byteAt, fieldCount, fieldRecords, parameterRecords, fieldOf, parameterOf}
+use Rattle.definitions.specs.Reading.{fieldsRead, parametersRead}
 use Rattle.theory_laws.proofs.Records.{fields-length, parameters-length}
 use Rattle.file_bytes.proofs.Sections.{fields-are}
 use Rattle.file_accepted.specs.Context.{fieldsIn, parametersIn, fieldRecordAt, parameterRecordAt}
@@ -13,14 +14,14 @@ use Rattle.file_accepted.specs.Context.{fieldsIn, parametersIn, fieldRec
 fields-at : (k : ℕ) (file : List ℕ) (at f : ℕ) (other : Field) → f < k
     → getD (map fieldOf (fieldRecords k file at)) f other
     ≡ fieldOf (record { shape = byteAt file (at + 3 * f); type = byteAt file (at + 3 * f + 1); owner = byteAt file (at + 3 * f + 2) })
-unfolding fieldRecords
+unfolding fieldsRead
 fields-at zero file at f other h = absurd (omega arith)
 fields-at (suc k) file at zero other h = let e : at + 3 * 0 ≡ at = omega arith in rw e
 fields-at (suc k) file at (suc f) other h = let e : at + 3 * suc f ≡ at + 3 + 3 * f = omega arith in rw e (fields-at k file (at + 3) f other (omega arith))
 
 parameters-at : (c : ℕ) (file : List ℕ) (at k : ℕ) (other : Parameter) → k < c
     → getD (map parameterOf (parameterRecords c file at)) k other ≡ parameterOf (record { type = byteAt file (at + 2 * k); owner = byteAt file (at + 2 * k + 1) })
-unfolding parameterRecords
+unfolding parametersRead
 parameters-at zero file at k other h = absurd (omega arith)
 parameters-at (suc c) file at zero other h = let e : at + 2 * 0 ≡ at = omega arith in rw e
 parameters-at (suc c) file at (suc k) other h = let e : at + 2 * suc k ≡ at + 2 + 2 * k = omega arith in rw e (parameters-at c file (at + 2) k other (omega arith))

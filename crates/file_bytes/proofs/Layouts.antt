@@ -3,6 +3,7 @@ use mathlib.Core.Path.{_≡_, ap, _∙_}
 use mathlib.Core.List.{List}
 use Prim.Native.Nat.{ℕ, _+_, _*_, _≤_}
 use Rattle.definitions.specs.ContractFile.{byteAt, twoBytesAt, functionsAt, functionCount, functionsEnd, nodesAt, nodeCount}
+use Rattle.definitions.specs.Reading.{nodesBegin}
 use Rattle.file_bytes.specs.Layout.{IsLayout}
 
 module _ (file : List ℕ) (fields functions nodesStart nodes : ℕ) (a : fields ≡ byteAt file 0) (b : functions ≡ byteAt file (1 + 3 * fields))
@@ -14,7 +15,7 @@ module _ (file : List ℕ) (fields functions nodesStart nodes : ℕ) (a : fields
   functions-is = b ∙ ap (byteAt file) functionsStart-is
 
   nodesStart-is : nodesStart ≡ nodesAt file
-  unfolding nodesAt
+  unfolding nodesBegin
   nodesStart-is =
       c ∙ ap (λ (n : ℕ). functionsEnd n file (1 + 3 * fields + 1)) functions-is
       ∙ ap (λ (n : ℕ). functionsEnd (functionCount file) file (n + 1)) functionsStart-is

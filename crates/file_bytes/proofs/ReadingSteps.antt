@@ -5,10 +5,11 @@ use Prim.Native.Nat.{ℕ, zero, suc, _+_, _*_, _-_, _<_, _≤_}
 use native.Mathlib.Omega.{arith}
 use lib.ListN.{length, getD, List·getD-eq-default}
 use Rattle.definitions.specs.ContractFile.{NodeRecord, byteAt, functionEnd, functionsEnd, nodeRecord, nodeRecords}
+use Rattle.definitions.specs.Reading.{functionsPassed, nodesRead}
 use Rattle.theory_laws.proofs.Records.{force-is}
 
 functionsEnd-step : (k : ℕ) (file : List ℕ) (at : ℕ) → 0 < k → functionsEnd k file at ≡ functionsEnd (k - 1) file (functionEnd file at)
-unfolding functionsEnd
+unfolding functionsPassed
 functionsEnd-step zero file at h = absurd (omega arith)
 functionsEnd-step (suc k) file at h =
     let e : suc k - 1 ≡ k = omega arith in
@@ -19,14 +20,14 @@ pub functionsEnd-next : (k : ℕ) (file : List ℕ) (at next goal : ℕ) → 0 <
 functionsEnd-next k file at next goal h e inv = rw e (sym (functionsEnd-step k file at h) ∙ inv)
 
 pub functionsEnd-done : (k : ℕ) (file : List ℕ) (at goal : ℕ) → k ≤ 0 → functionsEnd k file at ≡ goal → at ≡ goal
-unfolding functionsEnd
+unfolding functionsPassed
 functionsEnd-done zero file at goal h inv = inv
 functionsEnd-done (suc k) file at goal h inv = absurd (omega arith)
 
 -- Node n of the section stands 8 n bytes after the first.
 pub getD-nodeRecords : (k : ℕ) (file : List ℕ) (at n : ℕ) (other : NodeRecord) → n < k
     → getD (nodeRecords k file at) n other ≡ nodeRecord file (at + 8 * n)
-unfolding nodeRecords
+unfolding nodesRead
 getD-nodeRecords zero file at n other h = absurd (omega arith)
 getD-nodeRecords (suc k) file at zero other h =
     let e : at + 8 * 0 ≡ at = omega arith in

@@ -4,19 +4,20 @@ use mathlib.Core.List.{List}
 use Prim.Native.Nat.{ℕ, _+_, _*_, _<_}
 use lib.ListN.{length, getD}
 use Rattle.definitions.specs.ContractFile.{NodeRecord, fieldRecords, fieldCount, functionRecords, functionCount, functionsAt, nodeRecord, nodeRecords, nodeCount, nodesAt, sectionsOf}
+use Rattle.definitions.specs.Reading.{sectionsRead}
 use Rattle.theory_laws.proofs.Records.{force-is, node-records-length}
 use Rattle.file_bytes.proofs.ReadingSteps.{getD-nodeRecords}
 
 pub fields-are : (file : List ℕ) → (sectionsOf file) .fields ≡ fieldRecords (fieldCount file) file 1
-unfolding sectionsOf
+unfolding sectionsRead
 fields-are file = refl
 
 pub functions-are : (file : List ℕ) → (sectionsOf file) .functions ≡ functionRecords (functionCount file) file (functionsAt file + 1)
-unfolding sectionsOf
+unfolding sectionsRead
 functions-are file = refl
 
 pub nodes-are : (file : List ℕ) → (sectionsOf file) .nodes ≡ nodeRecords (nodeCount file) file (nodesAt file + 2)
-unfolding sectionsOf
+unfolding sectionsRead
 nodes-are file = force-is (nodesAt file + 2) (nodeRecords (nodeCount file) file)
 
 pub count-of-nodes : (file : List ℕ) → length ((sectionsOf file) .nodes) ≡ nodeCount file

@@ -8,12 +8,13 @@ use borrow.Author.Tests.{eqb-true, eqb-false}
 use lib.Dec.{eqb}
 use lib.ListN.{length}
 use Rattle.definitions.specs.ContractFile.{ParameterRecord, FunctionRecord, byteAt, functionEnd, functionsEnd, functionRecord, functionRecords}
+use Rattle.definitions.specs.Reading.{functionsPassed, functionsRead}
 use Rattle.theory_laws.proofs.Records.{force-is}
 use Rattle.file_decoded.specs.Slices.{numberAt, parametersFrom, functionFrom, functionsFrom}
 use Rattle.file_decoder.specs.Decoding.{DecodedFunction, FunctionRoom, FunctionsRoom, DecodedFunctions}
 
 pub end-next : (f : ℕ) (file : List ℕ) (at : ℕ) → functionsEnd (suc f) file at ≡ functionEnd file (functionsEnd f file at)
-unfolding functionsEnd
+unfolding functionsPassed
 end-next zero file at = force-is (functionEnd file at) (functionsEnd 0 file)
 end-next (suc f) file at =
     force-is (functionEnd file at) (functionsEnd (suc f) file) ∙ end-next f file (functionEnd file at)
@@ -33,7 +34,7 @@ pub record FunctionsSo (file : List ℕ) (from f place first : ℕ) (functions p
   pub together : from + 3 * f + first ≡ place
 
 pub no-functions : (file : List ℕ) (from : ℕ) (functions parameters : List ℕ) → FunctionsSo file from 0 from 0 functions parameters
-unfolding functionsEnd
+unfolding functionsPassed
 no-functions file from functions parameters =
     record { each = λ g h. absurd (omega arith); inside = λ g h. absurd (omega arith); here = refl; together = omega arith }
 
@@ -121,7 +122,7 @@ module _ (file : List ℕ) (from f place first : ℕ) (functions parameters : Li
 functions-extend : (count : ℕ) (file : List ℕ) (from : ℕ) (parameters numbers : List ℕ) (at : ℕ)
     → ((g : ℕ) → g < count → functionFrom parameters numbers (at + 3 * g) ≡ functionRecord file (functionsEnd g file from))
     → functionsFrom parameters count numbers at ≡ functionRecords count file from
-unfolding functionsFrom functionRecords functionsEnd
+unfolding functionsFrom functionsRead functionsPassed
 functions-extend zero file from parameters numbers at each = refl
 functions-extend (suc count) file from parameters numbers at each =
     let here : at ≡ at + 3 * 0 = omega arith in

@@ -4,7 +4,8 @@ use mathlib.Core.List.{List}
 use Prim.Native.Nat.{ℕ, _+_, _*_, _/_, _≤_}
 use native.Mathlib.Omega.{arith}
 use lib.ListN.{length}
-use Rattle.definitions.specs.ContractFile.{fieldCount, functionCount, nodeCount, nodesAt, fieldRecords, functionsEnd, functionRecords, nodeRecords, sectionsOf}
+use Rattle.definitions.specs.ContractFile.{fieldCount, functionCount, nodeCount, fieldRecords, functionsEnd, functionRecords, nodeRecords, sectionsOf}
+use Rattle.definitions.specs.Reading.{nodesBegin}
 use Rattle.file_bytes.specs.declared.Layout.{Layout}
 use Rattle.file_bytes.proofs.Sections.{fields-are, functions-are, nodes-are}
 use Rattle.file_decoded.specs.Slices.{fieldsFrom, nodesFrom}
@@ -14,14 +15,14 @@ use Rattle.file_decoder.proofs.Steps.{fields-extend}
 module _ (file : List ℕ) (l : Layout) (fields functions parameters nodes : List ℕ) (d : Decodable file l fields functions parameters nodes) where
   -- The sections stand one behind another, and the file ends behind the last.
   pub fields-there : 1 + length fields ≤ length file
-  unfolding nodesAt
+  unfolding nodesBegin
   fields-there = omega (arith, d .layout .fields, d .layout .functionsStart, d .layout .nodesStart, d .forFields, d .forParameters, d .ends)
 
   count-is : length functions / 3 ≡ functionCount file
   count-is = omega (arith, d .forFunctions, d .layout .functions)
 
   end-is : functionsEnd (length functions / 3) file (l .«functions_at» + 1) ≡ l .«nodes_at»
-  unfolding nodesAt
+  unfolding nodesBegin
   end-is =
       (λ i. functionsEnd (count-is i) file (d .layout .functionsStart i + 1)) ∙ sym (d .layout .nodesStart)
 

@@ -9,6 +9,7 @@ use lib.Dec.{eqb}
 use lib.ListN.{length, set, length-set}
 use lib.Seq.{getD-set-same, getD-set-other}
 use Rattle.definitions.specs.ContractFile.{ParameterRecord, NodeRecord, FieldRecord, byteAt, fieldRecords, parameterRecords, functionRecord, node, nodeRecord, nodeRecords}
+use Rattle.definitions.specs.Reading.{fieldsRead, parametersRead, nodesRead}
 use Rattle.file_decoded.specs.Slices.{numberAt, fieldsFrom, parametersFrom, nodeFrom, nodesFrom}
 use Rattle.file_decoder.specs.Decoding.{SameBefore, Put, Copied, DecodedNode, DecodedFunction}
 
@@ -98,7 +99,7 @@ nodes-more file from n before after so d = record { each = λ m h. go m (eqb m n
 
 nodes-extend : (count : ℕ) (file : List ℕ) (from : ℕ) (numbers : List ℕ) (at : ℕ)
     → ((m : ℕ) → m < count → nodeFrom numbers (at + 5 * m) ≡ nodeRecord file (from + 8 * m)) → nodesFrom count numbers at ≡ nodeRecords count file from
-unfolding nodesFrom nodeRecords
+unfolding nodesFrom nodesRead
 nodes-extend zero file from numbers at each = refl
 nodes-extend (suc count) file from numbers at each =
     let here : at + 5 * 0 ≡ at = omega arith in
@@ -117,7 +118,7 @@ nodes-done file from n count numbers le so =
 -- Fields and parameters lie in the numbers as in the bytes.
 pub fields-extend : (count : ℕ) (file : List ℕ) (from : ℕ) (numbers : List ℕ) (at : ℕ)
     → ((i : ℕ) → i < 3 * count → numberAt numbers (at + i) ≡ byteAt file (from + i)) → fieldsFrom count numbers at ≡ fieldRecords count file from
-unfolding fieldsFrom fieldRecords
+unfolding fieldsFrom fieldsRead
 fields-extend zero file from numbers at each = refl
 fields-extend (suc count) file from numbers at each =
     let shift : (k i : ℕ) → k + i < 3 * suc count → numberAt numbers (at + k + i) ≡ byteAt file (from + k + i) =
@@ -133,7 +134,7 @@ fields-extend (suc count) file from numbers at each =
 
 parameters-extend : (count : ℕ) (file : List ℕ) (from : ℕ) (numbers : List ℕ) (at : ℕ)
     → ((i : ℕ) → i < 2 * count → numberAt numbers (at + i) ≡ byteAt file (from + i)) → parametersFrom count numbers at ≡ parameterRecords count file from
-unfolding parametersFrom parameterRecords
+unfolding parametersFrom parametersRead
 parameters-extend zero file from numbers at each = refl
 parameters-extend (suc count) file from numbers at each =
     let zero-at : at ≡ at + 0 = omega arith in

@@ -9,6 +9,7 @@ use borrow.Author.Tests.{ne-eqb}
 use lib.ListN.{length, drop, length-map, drop-of-length-le}
 use lib.Seq.{drop-cons}
 use Rattle.definitions.specs.ContractFile.{Field, fieldAt, isMapping, byteAt, fieldCount, fieldRecords, fieldOf, shapeOf}
+use Rattle.definitions.specs.Reading.{fieldsRead}
 use Rattle.definitions.specs.Original.{placeCount, position}
 use Rattle.file_bytes.proofs.Sections.{fields-are}
 use Rattle.file_accepted.specs.Context.{fieldsIn}
@@ -58,7 +59,7 @@ module _ (fields : List Field) (f i at goal : ℕ) (inv : position (drop i field
       sym (position-none (drop i fields) at) ∙ (rw e at inv)
 
 records-length : (k : ℕ) (file : List ℕ) (at : ℕ) → length (fieldRecords k file at) ≡ k
-unfolding fieldRecords
+unfolding fieldsRead
 records-length zero file at = refl
 records-length (suc k) file at = ap suc (records-length k file (at + 3))
 

@@ -9,6 +9,7 @@ use lib.Dec.{leb, ltb}
 use lib.ListN.{length}
 use Rattle.definitions.specs.Basics.{any, flatMap, isZero, firstThatHolds}
 use Rattle.definitions.specs.ContractFile.{byteAt, twoBytesAt, sectionsOf, functionEnd, functionRecord, functionRecords, functionCount, fieldCount, nodeCount, nodesAt, fieldOf, functionOf, contractOf}
+use Rattle.definitions.specs.Reading.{functionsRead}
 use Rattle.definitions.specs.Owners.{noLinks}
 use Rattle.definitions.specs.Numbers.{functionFaults, fieldFaults, statementFaults, countOffLimits, namesNothing, contractFaults, contractSentences, fieldOfDeclaredOwner}
 use Rattle.theory_laws.proofs.Records.{force-is}
@@ -26,14 +27,14 @@ use Rattle.rules_contract.specs.Sections.{fieldsOf, allFieldsFault, allF
 use Rattle.rules_contract.proofs.Fields.{flat-cons, flat-none, fault-start}
 
 records-step : (left : ℕ) (file : List ℕ) (at : ℕ) → 0 < left → functionRecords left file at ≡ functionRecord file at ∷ functionRecords (left - 1) file (functionEnd file at)
-unfolding functionRecords
+unfolding functionsRead
 records-step zero file at h = absurd (omega arith)
 records-step (suc left) file at h =
     let e : suc left - 1 ≡ left = omega arith in
     rw (e, force-is (functionEnd file at) (functionRecords left file))
 
 records-none : (left : ℕ) (file : List ℕ) (at : ℕ) → left ≤ 0 → functionRecords left file at ≡ []
-unfolding functionRecords
+unfolding functionsRead
 records-none zero file at h = refl
 records-none (suc left) file at h = absurd (omega arith)
 

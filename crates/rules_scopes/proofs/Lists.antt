@@ -9,6 +9,7 @@ use lib.Dec.{leb}
 use lib.ListN.{length, getD}
 use Rattle.definitions.specs.Basics.{any, anyNumbered}
 use Rattle.definitions.specs.ContractFile.{ParameterRecord, byteAt, parameterRecords}
+use Rattle.definitions.specs.Reading.{parametersRead}
 use Rattle.theory_laws.proofs.TruthValues.{or-left, or-right}
 
 module _ {A : Type 0} where
@@ -44,7 +45,7 @@ rest-below n m rest h = or-right (leb n m) (any (leb n) rest) h
 
 pub getD-parameterRecords : (k : ℕ) (file : List ℕ) (at n : ℕ) (other : ParameterRecord) → n < k
     → getD (parameterRecords k file at) n other ≡ record { type = byteAt file (at + 2 * n); owner = byteAt file (at + 2 * n + 1) }
-unfolding parameterRecords
+unfolding parametersRead
 getD-parameterRecords zero file at n other h = absurd (omega arith)
 getD-parameterRecords (suc k) file at zero other h = let e : at + 2 * 0 ≡ at = omega arith in rw e
 getD-parameterRecords (suc k) file at (suc n) other h =

@@ -7,7 +7,7 @@ use lib.ListN.{length, replicate, length-replicate}
 use Rattle.definitions.specs.Basics.{countIf, flatMap}
 use Rattle.definitions.specs.ContractFile.{Expression, everyone, ownedBy, meName}
 use Rattle.definitions.specs.Rewriting.{Variable, supplied, guard, readFrom, Command, WrittenContract, sizes, size, commandTree}
-use Rattle.definitions.specs.Rewriting.{numberedAll, numbered, eachOnce, constraintBytes, functionBytes, functionsBytes, contractBytes}
+use Rattle.definitions.specs.Rewriting.{numberedAll, numbered, eachOnce, constraintBytes, functionWritten, functionsWritten, contractWritten, contractBytes}
 use Rattle.definitions.specs.Crossings.{originsAt, upToThree, writtenFunctionEnd, originsFrom, originsIn, crossingsIn}
 use Rattle.theory_laws.proofs.Records.{force-is}
 use Rattle.theory_crossings.specs.Crossings.{crossings}
@@ -20,13 +20,13 @@ withVariables variables =
 
 -- A read cell, a guard, a supplied value: two of the three are counted in the bytes.
 guard-not-counted : crossingsIn (contractBytes (withVariables (readFrom (ownedBy meName) Expression.me ∷ guard ∷ supplied everyone Expression.me ∷ []))) ≡ 2 ∷ []
-unfolding countIf contractBytes functionsBytes functionBytes flatMap eachOnce constraintBytes sizes size commandTree numberedAll numbered
+unfolding countIf contractWritten functionsWritten functionWritten flatMap eachOnce constraintBytes sizes size commandTree numberedAll numbered
 guard-not-counted =
     counts-are-read (withVariables (readFrom (ownedBy meName) Expression.me ∷ guard ∷ supplied everyone Expression.me ∷ [])) (omega arith)
 
 -- With 65,536 variables the bytes of their count are 0 and 0, and no origin is read: no law without a bound could hold.
 many-not-read : (n : ℕ) → n % 65536 ≡ 0 → crossingsIn (contractBytes (withVariables (replicate n (supplied everyone Expression.me)))) ≡ 0 ∷ []
-unfolding contractBytes functionsBytes functionBytes flatMap countIf crossingsIn originsIn originsFrom originsAt
+unfolding contractWritten functionsWritten functionWritten flatMap countIf crossingsIn originsIn originsFrom originsAt
 many-not-read n h =
     let vs : List Variable = replicate n (supplied everyone Expression.me) in
     let long : length vs ≡ n = length-replicate n (supplied everyone Expression.me) in

@@ -10,7 +10,7 @@ use Rattle.definitions.specs.Basics.{countIf, flatMap, twoBytes}
 use Rattle.definitions.specs.ContractFile.{Field, Parameter, byteAt, twoBytesAt, functionsAt}
 use Rattle.definitions.specs.Rewriting.{Variable, origin, Claim, equals, opensForCaller, Constraint, WrittenFunction, WrittenContract}
 use Rattle.definitions.specs.Rewriting.{claimTrees, claimBytes, sizes, numberedAll, nodeBytes, functionTrees, fieldBytes, parameterBytes, variableBytes, keyOf}
-use Rattle.definitions.specs.Rewriting.{eachOnce, constraintBytes, functionBytes, functionsBytes, contractBytes}
+use Rattle.definitions.specs.Rewriting.{eachOnce, constraintBytes, functionWritten, functionsWritten, contractWritten, functionBytes, functionsBytes, contractBytes}
 use Rattle.definitions.specs.Crossings.{originsAt, upToThree, variablesAt, behindCounted, writtenFunctionEnd, originsFrom, originsIn, crossingsIn}
 use Rattle.theory_laws.proofs.Records.{force-is}
 use Rattle.theory_crossings.specs.Crossings.{crossings}
@@ -93,11 +93,11 @@ module _ (file : List ℕ) (at n : ℕ) (g : WrittenFunction) (rest : List ℕ) 
   behindParameters = twoBytes variables ++ (flatMap variableBytes (g .variables) ++ behindVariables)
 
   in-parts : HoldsFrom file at (length (g .parameters) ∷ (flatMap parameterBytes (g .parameters) ++ behindParameters))
-  unfolding functionBytes
+  unfolding functionWritten
   in-parts = held ∙ simp append-assoc
 
   long : length (functionBytes n g) ≡ 1 + 2 * length (g .parameters) + 2 + 2 * variables + 2 + length keys + 2 + 6 * length (g .constraints) + 2
-  unfolding functionBytes
+  unfolding functionWritten
   long = simp length-append
       (omega (arith, parameters-long (g .parameters), variables-long (g .variables), constraints-long n (g .constraints)))
 
@@ -141,7 +141,7 @@ module _ (file : List ℕ) (at n : ℕ) (g : WrittenFunction) (rest : List ℕ) 
 
 functions-read : (file : List ℕ) (gs : List WrittenFunction) (at n : ℕ) (rest : List ℕ) → HoldsFrom file at (functionsBytes n gs ++ rest)
     → length (functionsBytes n gs) ≤ 65535 → originsFrom (length gs) file at ≡ map originsOf gs
-unfolding functionsBytes originsFrom
+unfolding functionsWritten originsFrom
 functions-read file [] at n rest held few = refl
 functions-read file (g ∷ gs) at n rest held few =
     let first = functionBytes n g in
@@ -165,7 +165,7 @@ each-counted [] = refl
 each-counted (g ∷ gs) = ap₂ (λ (a : ℕ) (l : List ℕ). a ∷ l) (crossings-are (g .variables)) (each-counted gs)
 
 origins-are-read : (c : WrittenContract) → length (contractBytes c) ≤ 65535 → originsIn (contractBytes c) ≡ map originsOf (c .functions)
-unfolding originsIn contractBytes
+unfolding originsIn contractWritten
 origins-are-read c few =
     let file = contractBytes c in
     let trees = flatMap functionTrees (c .functions) in

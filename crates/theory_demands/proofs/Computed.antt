@@ -5,11 +5,11 @@ use mathlib.Core.List.{List, [], _∷_, zipWith}
 use Prim.Native.Nat.{ℕ, zero, suc}
 use lib.Dec.{eqb, ltb}
 use lib.ListN.{length, getD}
-use Rattle.definitions.specs.ContractFile.{everyone, Contract, parameterAt, functionAt, functionsEnd, nodesAt, fieldRecords}
-use Rattle.definitions.specs.ContractFile.{parameterRecords, functionRecords, nodeRecords, sectionsOf, fieldOf, parameterOf, typeOf, kindOf}
+use Rattle.definitions.specs.ContractFile.{everyone, Contract, parameterAt, functionAt, fieldOf, parameterOf, typeOf, kindOf}
 use Rattle.definitions.specs.ContractFile.{nodeOfKind, expressionParts, statementParts, fieldsNamed, chainLength, expressionOf}
 use Rattle.definitions.specs.ContractFile.{expressionAt, statementOf, statementAt, contractOf, sameName, contractIn}
 use Rattle.definitions.specs.Basics.{all, any, anyNumbered, countIf, largest, flatMap, firstThatHolds}
+use Rattle.definitions.specs.Reading.{functionsPassed, nodesBegin, fieldsRead, parametersRead, functionsRead, nodesRead, sectionsRead}
 use Rattle.definitions.specs.Ledger.{contentAt, opensFor, functionOfLedger, honestParametersOf, deployNumber, deployed, allFit, publicOf}
 use Rattle.definitions.specs.Ledger.{isWellFormed, notCallable, argumentsOff, callNumber, callWith, honestContents, honestVariables}
 use Rattle.definitions.specs.Ledger.{honestParameters, ledgerAfterCall, circuitValue, contentOf, isWalked, stateAfter, walkCompletes}
@@ -59,7 +59,7 @@ pub record Computed : Type 0 where
   pub told : disclosedIn 4 (after 2) (show 3) ≡ 7 ∷ []
 
 pub computed : Computed
-unfolding all any anyNumbered countIf largest flatMap firstThatHolds deployNumber deployed allFit publicOf isWellFormed notCallable argumentsOff callNumber callWith honestContents honestVariables honestParameters ledgerAfterCall functionsEnd nodesAt fieldRecords parameterRecords functionRecords nodeRecords sectionsOf fieldOf parameterOf typeOf circuitValue contentOf isWalked stateAfter walkCompletes kindOf nodeOfKind expressionParts statementParts fieldsNamed chainLength expressionOf expressionAt statementOf statementAt contractOf endsWrongly countOffLimits fieldInTables parameterInTables kindInTables outsideTables namesNothing usesOf usedOtherThanOnce tooDeep wrongSort expressionFaults statementFaults contractFaults checkNumber value isWorkedOut placesAfter completes disclosed disclosedBy originalCompletes originalAfter originalDiscloses withLink nameOf ownerOf linksOfCondition linksAfter numbersFrom perPlace position deployedNumbers kept onePart twoParts supplying reading stepsBefore single inSequence inBranch inBranches rewriteStatement privateParameters openings rewriteFunction rewrite inBody inCircuit runAtDeployment isTaken runAfter disclosedIn viewsAfter disclosures sameName itemFor itemsFor itemBytes viewBytes zipWith runAfterAll callNumbers tagged start calls pay refused show
+unfolding all any anyNumbered countIf largest flatMap firstThatHolds deployNumber deployed allFit publicOf isWellFormed notCallable argumentsOff callNumber callWith honestContents honestVariables honestParameters ledgerAfterCall functionsPassed nodesBegin fieldsRead parametersRead functionsRead nodesRead sectionsRead fieldOf parameterOf typeOf circuitValue contentOf isWalked stateAfter walkCompletes kindOf nodeOfKind expressionParts statementParts fieldsNamed chainLength expressionOf expressionAt statementOf statementAt contractOf endsWrongly countOffLimits fieldInTables parameterInTables kindInTables outsideTables namesNothing usesOf usedOtherThanOnce tooDeep wrongSort expressionFaults statementFaults contractFaults checkNumber value isWorkedOut placesAfter completes disclosed disclosedBy originalCompletes originalAfter originalDiscloses withLink nameOf ownerOf linksOfCondition linksAfter numbersFrom perPlace position deployedNumbers kept onePart twoParts supplying reading stepsBefore single inSequence inBranch inBranches rewriteStatement privateParameters openings rewriteFunction rewrite inBody inCircuit runAtDeployment isTaken runAfter disclosedIn viewsAfter disclosures sameName itemFor itemsFor itemBytes viewBytes zipWith runAfterAll callNumbers tagged start calls pay refused show
 computed =
     record {
       accepted = refl;

@@ -6,35 +6,36 @@ use lib.ListN.{length, getD}
 use native.Mathlib.Omega.{arith}
 use Rattle.definitions.specs.Basics.{force}
 use Rattle.definitions.specs.ContractFile.{FieldRecord, NodeRecord, byteAt, functionEnd, fieldRecords, parameterRecords, functionRecords, nodeRecords}
+use Rattle.definitions.specs.Reading.{fieldsRead, parametersRead, functionsRead, nodesRead}
 
 pub force-is : {A : Type 0} (n : ℕ) (f : ℕ → A) → force n f ≡ f n
 force-is zero f = refl
 force-is (suc n) f = refl
 
 pub fields-length : (k : ℕ) (file : List ℕ) (at : ℕ) → length (fieldRecords k file at) ≡ k
-unfolding fieldRecords
+unfolding fieldsRead
 fields-length zero file at = refl
 fields-length (suc k) file at = ap suc (fields-length k file (at + 3))
 
 pub parameters-length : (k : ℕ) (file : List ℕ) (at : ℕ) → length (parameterRecords k file at) ≡ k
-unfolding parameterRecords
+unfolding parametersRead
 parameters-length zero file at = refl
 parameters-length (suc k) file at = ap suc (parameters-length k file (at + 2))
 
 pub functions-length : (k : ℕ) (file : List ℕ) (at : ℕ) → length (functionRecords k file at) ≡ k
-unfolding functionRecords
+unfolding functionsRead
 functions-length zero file at = refl
 functions-length (suc k) file at =
     ap suc (ap length (force-is (functionEnd file at) (functionRecords k file)) ∙ functions-length k file (functionEnd file at))
 
 pub node-records-length : (k : ℕ) (file : List ℕ) (at : ℕ) → length (nodeRecords k file at) ≡ k
-unfolding nodeRecords
+unfolding nodesRead
 node-records-length zero file at = refl
 node-records-length (suc k) file at = ap suc (node-records-length k file (at + 8))
 
 pub field-record : (k : ℕ) (file : List ℕ) (at f : ℕ) (other : FieldRecord) → f < k
     → getD (fieldRecords k file at) f other ≡ record { shape = byteAt file (at + 3 * f); type = byteAt file (at + 3 * f + 1); owner = byteAt file (at + 3 * f + 2) }
-unfolding fieldRecords
+unfolding fieldsRead
 field-record zero file at f other h = absurd (omega arith)
 field-record (suc k) file at zero other h = let e : at + 3 * 0 ≡ at = omega arith in rw e
 field-record (suc k) file at (suc f) other h = let e : at + 3 * suc f ≡ at + 3 + 3 * f = omega arith in rw e (field-record k file (at + 3) f other (omega arith))

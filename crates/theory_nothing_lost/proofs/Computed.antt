@@ -3,10 +3,10 @@ use mathlib.Core.Path.{_≡_, refl}
 use mathlib.Core.List.{List, [], _∷_}
 use Prim.Native.Nat.{ℕ}
 use Rattle.definitions.specs.Basics.{any, anyNumbered, countIf, largest, flatMap, firstThatHolds}
-use Rattle.definitions.specs.ContractFile.{functionsEnd, nodesAt, fieldRecords, parameterRecords, functionRecords, nodeRecords}
-use Rattle.definitions.specs.ContractFile.{sectionsOf, fieldOf, parameterOf, typeOf, kindOf, nodeOfKind, expressionParts}
+use Rattle.definitions.specs.ContractFile.{fieldOf, parameterOf, typeOf, kindOf, nodeOfKind, expressionParts}
 use Rattle.definitions.specs.ContractFile.{statementParts, fieldsNamed, chainLength, expressionOf, expressionAt, statementOf}
 use Rattle.definitions.specs.ContractFile.{statementAt, contractOf, sameName}
+use Rattle.definitions.specs.Reading.{functionsPassed, nodesBegin, fieldsRead, parametersRead, functionsRead, nodesRead, sectionsRead}
 use Rattle.definitions.specs.Owners.{withLink, nameOf, ownerOf, linksOfCondition, linksAfter}
 use Rattle.definitions.specs.Numbers.{endsWrongly, countOffLimits, fieldInTables, parameterInTables, kindInTables, outsideTables}
 use Rattle.definitions.specs.Numbers.{namesNothing, usesOf, usedOtherThanOnce, tooDeep, wrongSort, expressionFaults}
@@ -39,5 +39,5 @@ pub record Computed : Type 0 where
   pub joinedNow : checkNumber joinedBehind ≡ 0
 
 pub computed : Computed
-unfolding any anyNumbered countIf largest flatMap firstThatHolds functionsEnd nodesAt fieldRecords parameterRecords functionRecords nodeRecords sectionsOf fieldOf parameterOf typeOf kindOf nodeOfKind expressionParts statementParts fieldsNamed chainLength expressionOf expressionAt statementOf statementAt contractOf endsWrongly countOffLimits fieldInTables parameterInTables kindInTables outsideTables namesNothing usesOf usedOtherThanOnce tooDeep wrongSort expressionFaults statementFaults contractFaults checkNumber withLink nameOf ownerOf linksOfCondition linksAfter sameName joined guarded learnt joinedBehind baseLinksAfter baseStatementFaults baseContractFaults baseCheckNumber
+unfolding any anyNumbered countIf largest flatMap firstThatHolds functionsPassed nodesBegin fieldsRead parametersRead functionsRead nodesRead sectionsRead fieldOf parameterOf typeOf kindOf nodeOfKind expressionParts statementParts fieldsNamed chainLength expressionOf expressionAt statementOf statementAt contractOf endsWrongly countOffLimits fieldInTables parameterInTables kindInTables outsideTables namesNothing usesOf usedOtherThanOnce tooDeep wrongSort expressionFaults statementFaults contractFaults checkNumber withLink nameOf ownerOf linksOfCondition linksAfter sameName joined guarded learnt joinedBehind baseLinksAfter baseStatementFaults baseContractFaults baseCheckNumber
 computed = record { guardedBefore = refl; learntBefore = refl; learntNow = refl; joinedBefore = refl; joinedNow = refl }

@@ -9,6 +9,7 @@ use lib.Dec.{eqb, leb}
 use lib.ListN.{length, length-append}
 use Rattle.definitions.specs.Basics.{flatMap, isZero}
 use Rattle.definitions.specs.ContractFile.{shapeCode, byteAt, fieldCount, shapeOf, isFinalCode, fieldOwnerOfCode, fieldOwnerCode, fieldRecords, fieldOf}
+use Rattle.definitions.specs.Reading.{fieldsRead}
 use Rattle.definitions.specs.Numbers.{fieldInTables}
 use Rattle.definitions.specs.Rewriting.{fieldBytes}
 use Rattle.theory_laws.proofs.Codes.{type-code}
@@ -68,7 +69,7 @@ module _ (shape type owner : ℕ) (listed : fieldInTables (fieldRead shape type 
 
 module _ (file : List ℕ) where
   fields-suc : (n at : ℕ) → fieldsFrom (suc n) file at ≡ writtenField (fieldRead (byteAt file at) (byteAt file (at + 1)) (byteAt file (at + 2))) ++ fieldsFrom n file (at + 3)
-  unfolding fieldsFrom writtenField fieldRecords flatMap
+  unfolding fieldsFrom writtenField fieldsRead flatMap
   fields-suc n at = refl
 
   fields-next : (left at : ℕ) → 0 < left
@@ -76,11 +77,11 @@ module _ (file : List ℕ) where
   fields-next left at h = let e : left ≡ suc (left - 1) = omega arith in ap (λ (n : ℕ). fieldsFrom n file at) e ∙ fields-suc (left - 1) at
 
   fields-none : (left at : ℕ) → left ≡ 0 → fieldsFrom left file at ≡ []
-  unfolding fieldsFrom fieldRecords flatMap
+  unfolding fieldsFrom fieldsRead flatMap
   fields-none left at e = ap (λ (n : ℕ). flatMap fieldBytes (map fieldOf (fieldRecords n file at))) e
 
   three-bytes : (n at : ℕ) → length (fieldsFrom n file at) ≡ 3 * n
-  unfolding fieldsFrom fieldRecords flatMap
+  unfolding fieldsFrom fieldsRead flatMap
   three-bytes zero at = refl
   three-bytes (suc n) at = let e = three-bytes n (at + 3) in omega arith
 

@@ -9,6 +9,7 @@ use borrow.Author.Tests.{eq-eqb, ne-eqb}
 use lib.Dec.{eqb}
 use lib.ListN.{length}
 use Rattle.definitions.specs.ContractFile.{byteAt, parameterRecords, parameterOf, node}
+use Rattle.definitions.specs.Reading.{parametersRead}
 use Rattle.definitions.specs.Rewriting.{BodyExpression, Step, privateParameters, openings, leaf, setting, nodeBytes, bodyTree}
 use Rattle.memory_buffer.specs.Buffer.{stored}
 use Rattle.write_nodes.specs.Numbering.{Room, Numbered}
@@ -24,13 +25,13 @@ opening k i = record { variable = i; value = BodyExpression.parameter k }
 
 module _ (file : List ℕ) (place : ℕ) where
   none : (left k i : ℕ) → left ≡ 0 → openingSteps file place left k i ≡ []
-  unfolding parameterRecords privateParameters openings
+  unfolding parametersRead privateParameters openings
   none zero k i h = refl
   none (suc left) k i h = absurd (omega arith)
 
   next : (left k i : ℕ) → openingSteps file place (suc left) k i
       ≡ cond (not (eqb (byteAt file (place + 1)) 0)) (opening k i ∷ openingSteps file (place + 2) left (suc k) (suc i)) (openingSteps file (place + 2) left (suc k) i)
-  unfolding parameterRecords privateParameters openings parameterOf
+  unfolding parametersRead privateParameters openings parameterOf
   next left k i = go (not (eqb (byteAt file (place + 1)) 0))
     where
       go : (b : Bool) → (openings (cond b (k ∷ privateParameters (suc k) (map parameterOf (parameterRecords left file (place + 2)))) (privateParameters (suc k) (map parameterOf (parameterRecords left file (place + 2))))) i) .steps

@@ -7,7 +7,8 @@ use lib.ListN.{length, take, getD, length-append, length-map, List·getD-map}
 use lib.Seq.{take-all, take-suc}
 use Rattle.definitions.specs.Basics.{flatMap, twoBytes}
 use Rattle.definitions.specs.ContractFile.{Field, Function, functionAt, NodeRecord, fieldCount, functionCount, functionsAt, functionEnd, functionsEnd, sectionsOf, fieldOf, contractOf}
-use Rattle.definitions.specs.Rewriting.{WrittenFunction, rewriteFunction, rewrite, Tree, size, numbered, functionTrees, sizes, numberedAll, nodeBytes, fieldBytes, functionBytes, functionsBytes, contractBytes, writtenFile}
+use Rattle.definitions.specs.Reading.{functionsPassed}
+use Rattle.definitions.specs.Rewriting.{WrittenFunction, rewriteFunction, rewrite, Tree, size, numbered, functionTrees, sizes, numberedAll, nodeBytes, fieldBytes, functionBytes, functionsBytes, contractBytes, writtenFile, contractWritten, functionsWritten}
 use Rattle.theory_laws.proofs.Lists.{flat-append, four-lengths}
 use Rattle.theory_laws.proofs.Records.{fields-length, force-is}
 use Rattle.theory_laws.proofs.Written.{all-length, nodes-length, sizes-append}
@@ -30,7 +31,7 @@ numbered-append n (t ∷ a) b =
 
 pub functions-append : (n : ℕ) (a b : List WrittenFunction)
     → functionsBytes n (a ++ b) ≡ functionsBytes n a ++ functionsBytes (n + sizes (flatMap functionTrees a)) b
-unfolding functionsBytes flatMap sizes
+unfolding functionsWritten flatMap sizes
 functions-append n [] b = let e : n + 0 ≡ n = omega arith in rw e
 functions-append n (w ∷ a) b =
     let s = sizes-append (functionTrees w) (flatMap functionTrees a) in
@@ -45,7 +46,7 @@ pub functions-both : (a b : List WrittenFunction) → functionsBytes 0 (a ++ b) 
 functions-both a b = let e : 0 + sizes (flatMap functionTrees a) ≡ sizes (flatMap functionTrees a) = omega arith in rw e at (functions-append 0 a b)
 
 functions-one : (n : ℕ) (w : WrittenFunction) → functionsBytes n (w ∷ []) ≡ functionBytes n w
-unfolding functionsBytes
+unfolding functionsWritten
 functions-one n w = append-nil (functionBytes n w)
 
 field-bytes-length : (ds : List Field) → length (flatMap fieldBytes ds) ≡ 3 * length ds
@@ -54,7 +55,7 @@ field-bytes-length [] = refl
 field-bytes-length (d ∷ ds) = let h = field-bytes-length ds in omega (arith, length-append (fieldBytes d) (flatMap fieldBytes ds))
 
 end-step : (file : List ℕ) (f at : ℕ) → functionsEnd (suc f) file at ≡ functionEnd file (functionsEnd f file at)
-unfolding functionsEnd
+unfolding functionsPassed
 end-step file zero at = force-is (functionEnd file at) (functionsEnd 0 file)
 end-step file (suc f) at =
     force-is (functionEnd file at) (functionsEnd (suc f) file) ∙ end-step file f (functionEnd file at)
@@ -63,7 +64,7 @@ end-step file (suc f) at =
 layout : (fields : List Field) (ws : List WrittenFunction) (m n : ℕ) → length fields ≡ m → length ws ≡ n
     → contractBytes (record { fields = fields; functions = ws })
     ≡ (m ∷ flatMap fieldBytes fields) ++ (n ∷ functionsBytes 0 ws) ++ twoBytes (sizes (flatMap functionTrees ws)) ++ flatMap nodeBytes (numberedAll 0 (flatMap functionTrees ws))
-unfolding contractBytes
+unfolding contractWritten
 layout fields ws m n h k = rw (h, k)
 
 module _ (file : List ℕ) where
@@ -136,7 +137,7 @@ module _ (file : List ℕ) where
   before-first = refl
 
   pub headings-first : headingsBefore file 0 ≡ 1 + 3 * fieldCount file + 1
-  unfolding functionsBytes
+  unfolding functionsWritten
   headings-first = omega arith
 
   pub nodes-before-length : (f : ℕ) → length (flatMap nodeBytes (numberedAll 0 (treesBefore f))) ≡ 8 * nodesBefore file f

@@ -7,7 +7,8 @@ use lib.Dec.{leb}
 use lib.ListN.{length, length-append, length-map}
 use Rattle.definitions.specs.Basics.{countIf, flatMap}
 use Rattle.definitions.specs.ContractFile.{Statement, Field, Parameter, Scope, parameterRecords, parameterOf, Node}
-use Rattle.definitions.specs.Rewriting.{Variable, origin, always, Constraint, WrittenFunction, heldUnder, privateParameters, openings, rewriteStatement, rewriteFunction, sizes, functionTrees, variableBytes, keyOf, eachOnce, constraintBytes, functionBytes}
+use Rattle.definitions.specs.Reading.{parametersRead}
+use Rattle.definitions.specs.Rewriting.{Variable, origin, always, Constraint, WrittenFunction, heldUnder, privateParameters, openings, rewriteStatement, rewriteFunction, sizes, functionTrees, variableBytes, keyOf, eachOnce, constraintBytes, functionBytes, functionWritten}
 use Rattle.theory_crossings.specs.Crossings.{crossings}
 use Rattle.theory_laws.proofs.Lists.{flat-append, count-append}
 use Rattle.theory_laws.proofs.Written.{claim-count, opening-count}
@@ -22,7 +23,7 @@ use Rattle.write_parameters.proofs.Openings.{opening-variables, opening-keys, o
 use Rattle.write_heading_laws.specs.Heading.{headingOf, loggedHeading}
 
 records-length : (n : ℕ) (file : List ℕ) (at : ℕ) → length (parameterRecords n file at) ≡ n
-unfolding parameterRecords
+unfolding parametersRead
 records-length zero file at = refl
 records-length (suc n) file at = ap suc (records-length n file (at + 2))
 
@@ -101,7 +102,7 @@ module _ (fields : List Field) (nodes : List Node) (file : List ℕ) (start coun
     pub heading-told : (n : ℕ)
         → functionBytes n written
         ≡ loggedHeading file start count numbers (variableCount bodyLog) (constraintBytes n (constraintsOf scope bodyLog)) (n + sizes (functionTrees written) - 1)
-    unfolding functionBytes loggedHeading parametersFrom rewriteFunction
+    unfolding functionWritten loggedHeading parametersFrom rewriteFunction
     heading-told n = λ t.
         headingOf (parameters-counted t) (parametersFrom count file start) (variables-counted t) (variable-bytes t) (length (key-bytes t)) (key-bytes t) (constraints-counted t)
         (constraint-bytes n t) (n + sizes (functionTrees written) - 1)

@@ -9,6 +9,7 @@ use lib.Dec.{eqb}
 use lib.ListN.{length}
 use Rattle.definitions.specs.Basics.{flatMap}
 use Rattle.definitions.specs.ContractFile.{Parameter, dataTypeCode, byteAt, dataTypeOf, ParameterRecord, parameterRecords, parameterOf}
+use Rattle.definitions.specs.Reading.{parametersRead}
 use Rattle.definitions.specs.Rewriting.{privateParameters, parameterBytes}
 use Rattle.memory_append.specs.Append.{Appended, Appending}
 use Rattle.memory_append.proofs.Appending.{appended-then, appending-room, appending-next, appending-done}
@@ -57,7 +58,7 @@ module _ (kind owner : ℕ) where
 
 module _ (file : List ℕ) where
   parameters-suc : (n at : ℕ) → parametersFrom (suc n) file at ≡ parameterBytes (parameterOf (parameterRead (byteAt file at) (byteAt file (at + 1)))) ++ parametersFrom n file (at + 2)
-  unfolding parametersFrom parameterRecords flatMap
+  unfolding parametersFrom parametersRead flatMap
   parameters-suc n at = refl
 
   parameters-next : (left at : ℕ) → 0 < left
@@ -65,7 +66,7 @@ module _ (file : List ℕ) where
   parameters-next left at h = let e : left ≡ suc (left - 1) = omega arith in ap (λ (n : ℕ). parametersFrom n file at) e ∙ parameters-suc (left - 1) at
 
   parameters-none : (left at : ℕ) → left ≡ 0 → parametersFrom left file at ≡ []
-  unfolding parametersFrom parameterRecords flatMap
+  unfolding parametersFrom parametersRead flatMap
   parameters-none left at e = ap (λ (n : ℕ). flatMap parameterBytes (map parameterOf (parameterRecords n file at))) e
 
   -- The loop over the parameters.
@@ -104,7 +105,7 @@ module _ (file : List ℕ) where
       go false h = h
 
   private-suc : (n at : ℕ) → privateCount (suc n) file at ≡ oneIfPrivate (byteAt file (at + 1)) + privateCount n file (at + 2)
-  unfolding privateCount parameterRecords privateParameters parameterOf
+  unfolding privateCount parametersRead privateParameters parameterOf
   private-suc n at = go (not (eqb (byteAt file (at + 1)) 0)) (private-shift (map parameterOf (parameterRecords n file (at + 2))) 1 0)
     where
       go : (b : Bool) → length (privateParameters 1 (map parameterOf (parameterRecords n file (at + 2)))) ≡ length (privateParameters 0 (map parameterOf (parameterRecords n file (at + 2))))
@@ -122,6 +123,6 @@ module _ (file : List ℕ) where
       omega arith
 
   pub private-done : (private left place goal : ℕ) → left ≡ 0 → private + privateCount left file place ≡ goal → private ≡ goal
-  unfolding privateCount parameterRecords privateParameters
+  unfolding privateCount parametersRead privateParameters
   private-done private left place goal e h =
       let n : privateCount left file place ≡ 0 = ap (λ (n : ℕ). privateCount n file place) e in omega arith

@@ -7,10 +7,11 @@ use native.Mathlib.Omega.{arith}
 use lib.ListN.{length, set, take, length-append, length-map}
 use lib.Seq.{length-take-le, take-all}
 use Rattle.definitions.specs.Basics.{flatMap, twoBytes}
-use Rattle.definitions.specs.ContractFile.{fieldCount, functionCount, functionsAt, functionEnd, functionsEnd, contractIn}
+use Rattle.definitions.specs.ContractFile.{fieldCount, functionCount, functionsAt, functionEnd, contractIn}
+use Rattle.definitions.specs.Reading.{functionsPassed}
 use Rattle.definitions.specs.Crossings.{sixteen, crossingsIn}
 use Rattle.definitions.specs.Numbers.{checkNumber}
-use Rattle.definitions.specs.Rewriting.{WrittenFunction, rewrite, sizes, functionTrees, numberedAll, nodeBytes, functionBytes, functionsBytes, writtenFile}
+use Rattle.definitions.specs.Rewriting.{WrittenFunction, rewrite, sizes, functionTrees, numberedAll, nodeBytes, functionBytes, writtenFile, functionsWritten}
 use Rattle.theory_crossings.specs.Crossings.{crossings}
 use Rattle.theory_crossings.proofs.Headings.{counts-are-read}
 use Rattle.file_accepted.specs.Functions.{functionStart}
@@ -32,12 +33,12 @@ module _ (file : List ℕ) where
   next-start f at next a e = e ∙ ap (functionEnd file) a ∙ sym (start-step file f) ∙ ap (functionStart file) (sym (add-one f))
 
   pub first-start : (at : ℕ) → at ≡ functionsAt file → at + 1 ≡ functionStart file 0
-  unfolding functionsEnd
+  unfolding functionsPassed
   first-start at e = ap (λ (n : ℕ). n + 1) e
 
   module _ (h₀ n₀ : List ℕ) (from : ℕ) where
     pub none-put : from ≡ 1 + 3 * fieldCount file + 1 → (counts : List ℕ) → counts ≡ sixteen [] → FunctionsPut file 0 from h₀ h₀ n₀ n₀ from 0 counts
-    unfolding functionsBytes flatMap numberedAll
+    unfolding functionsWritten flatMap numberedAll
     none-put e counts none =
         record {
           headings = sym (stored-nothing h₀ from);

@@ -9,6 +9,7 @@ use lib.Dec.{eqb, leb, ltb}
 use lib.ListN.{length, length-map}
 use Rattle.definitions.specs.Basics.{any, anyNumbered, countIf, flatMap, isZero}
 use Rattle.definitions.specs.ContractFile.{FunctionRecord, NodeRecord, Sections, fieldCount, functionCount, nodeCount, nodesAt, nodeRecords, sectionsOf, fieldOf, parameterOf, Node, nodeOf, children, fieldsNamed, functionOf}
+use Rattle.definitions.specs.Reading.{sectionsRead}
 use Rattle.definitions.specs.Numbers.{countOffLimits, namesNothing, fieldOfDeclaredOwner, usesOf, usedOtherThanOnce, checkNumber}
 use Rattle.theory_laws.proofs.Lists.{count-append, none-numbered}
 use Rattle.theory_laws.proofs.Records.{fields-length, force-is, functions-length, node-records-length}
@@ -54,15 +55,15 @@ module _ (file : List ℕ) (accepted : checkNumber file ≡ 0) where
   settled = accepted-settled file accepted
 
   pub fields-counted : length (sections .fields) ≡ fieldCount file
-  unfolding sectionsOf
+  unfolding sectionsRead
   fields-counted = fields-length (fieldCount file) file 1
 
   pub functions-counted : length (sections .functions) ≡ functionCount file
-  unfolding sectionsOf
+  unfolding sectionsRead
   functions-counted = functions-length (functionCount file) file _
 
   pub nodes-counted : length (sections .nodes) ≡ nodeCount file
-  unfolding sectionsOf
+  unfolding sectionsRead
   nodes-counted = ap length (force-is (nodesAt file + 2) (nodeRecords (nodeCount file) file)) ∙ node-records-length (nodeCount file) file (nodesAt file + 2)
 
   abbrev manyParameters : Bool

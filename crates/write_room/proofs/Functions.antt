@@ -8,7 +8,7 @@ use lib.Dec.{eqb}
 use lib.ListN.{length, length-append}
 use Rattle.definitions.specs.Basics.{any, flatMap, twoBytes}
 use Rattle.definitions.specs.ContractFile.{everyone, ownedBy, Field, Parameter, Function, Contract, Scope, dataTypeCode}
-use Rattle.definitions.specs.Rewriting.{Command, Variable, supplied, readFrom, guard, Claim, equals, opensForCaller, always, Constraint, WrittenFunction, privateParameters, openings, heldUnder, withVerify, rewriteStatement, rewriteFunction, rewrite, size, bodyTree, commandTree, claimTrees, functionTrees, sizes, numberedAll, nodeBytes, fieldBytes, parameterBytes, variableBytes, keyOf, eachOnce, guardNumber, claimBytes, constraintBytes, functionBytes, functionsBytes, contractBytes}
+use Rattle.definitions.specs.Rewriting.{Command, Variable, supplied, readFrom, guard, Claim, equals, opensForCaller, always, Constraint, WrittenFunction, privateParameters, openings, heldUnder, withVerify, rewriteStatement, rewriteFunction, rewrite, size, bodyTree, commandTree, claimTrees, functionTrees, sizes, numberedAll, nodeBytes, fieldBytes, parameterBytes, variableBytes, keyOf, eachOnce, guardNumber, claimBytes, constraintBytes, functionBytes, functionsBytes, contractBytes, contractWritten, functionWritten, functionsWritten}
 use Rattle.theory_laws.proofs.Lists.{four-lengths}
 use Rattle.theory_laws.proofs.Written.{all-length, sizes-append}
 use Rattle.theory_trees.specs.Sizes.{statementSize}
@@ -93,7 +93,7 @@ eight-lengths a b c d e f g h = simp length-append
 -- The whole of a written function: heading and nodes.
 pub function-weight : (n : ℕ) (g : WrittenFunction)
     → length (functionBytes n g) + 8 * sizes (functionTrees g) ≤ 9 + 2 * length (g .parameters) + 3 * length (g .variables) + constraintsWeight (g .constraints) + 8 * commandSize (g .body)
-unfolding functionBytes sizes
+unfolding functionWritten sizes
 function-weight n g =
     let p = flat-two parameterBytes parameter-length (g .parameters) in
     let v = flat-two variableBytes (λ x. refl) (g .variables) in
@@ -154,7 +154,7 @@ module _ (fields : List Field) where
 
   pub functions-weight : (n : ℕ) (gs : List Function) → fewParameters gs
       → length (functionsBytes n (map (rewriteFunction fields) gs)) + 8 * sizes (flatMap functionTrees (map (rewriteFunction fields) gs)) ≤ 305 * length gs + 64 * bodiesSize gs
-  unfolding functionsBytes flatMap bodiesSize sizes fewParameters
+  unfolding functionsWritten flatMap bodiesSize sizes fewParameters
   functions-weight n [] few = omega arith
   functions-weight n (g ∷ gs) few =
       let w = rewriteFunction fields g in
@@ -168,7 +168,7 @@ module _ (fields : List Field) where
 
 pub contract-length : (c : Contract) → fewParameters (c .functions)
     → length (contractBytes (rewrite c)) ≤ 4 + 3 * length (c .fields) + 305 * length (c .functions) + 64 * bodiesSize (c .functions)
-unfolding contractBytes rewrite
+unfolding contractWritten rewrite
 contract-length c few =
     let gs = map (rewriteFunction (c .fields)) (c .functions) in
     let trees = flatMap functionTrees gs in

@@ -8,6 +8,7 @@ use lib.ListN.{length, List·getD-eq-default, length-append}
 use Rattle.definitions.specs.Basics.{flatMap}
 use lib.Seq.{getD-append-add}
 use Rattle.definitions.specs.ContractFile.{NodeRecord, byteAt, twoBytesAt, nodeRecord, nodeRecords, node}
+use Rattle.definitions.specs.Reading.{nodesRead}
 use Rattle.definitions.specs.Rewriting.{nodeBytes}
 use Rattle.theory_laws.proofs.Records.{node-records-length}
 use Rattle.theory_laws.proofs.Written.{nodes-length}
@@ -71,7 +72,7 @@ bytes-more before r after = sym (append-assoc before (nodeBytes r) after)
 
 records-back : (nodes : List NodeRecord) → AllNarrow nodes → (before after : List ℕ) (at : ℕ) → at ≡ length before
     → nodeRecords (length nodes) (before ++ (flatMap nodeBytes nodes ++ after)) at ≡ nodes
-unfolding nodeRecords flatMap
+unfolding nodesRead flatMap
 records-back [] none before after at e = refl
 records-back (r ∷ rs) (more _ _ h hs) before after at e =
     let whole : before ++ ((nodeBytes r ++ flatMap nodeBytes rs) ++ after) ≡ before ++ (nodeBytes r ++ (flatMap nodeBytes rs ++ after)) =
