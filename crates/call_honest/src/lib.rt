@@ -5,6 +5,7 @@ use call_with::call_with;
 use file_bytes::byte_at;
 use file_bytes::read_layout;
 use file_functions::function_start;
+use file_kinds::PARAMETER_CODES_END;
 use honest_parameters::put_parameters;
 use honest_variables::honest_slots;
 use honest_variables::put_variables;
@@ -174,7 +175,7 @@ fn call_opened(
         (honestParametersOf (ledgerOf l) function caller (now (arguments .entry)))
         (honestVariablesOf (ledgerOf l) function caller (now (arguments .entry))) ⌝ }
 {
-    let mut addresses = [0u32; 136];
+    let mut addresses = [0u32; PARAMETER_CODES_END];
     put_addresses(
         file,
         function_at,

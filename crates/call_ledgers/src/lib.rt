@@ -1,4 +1,6 @@
 // 01, Runs and views: the ledger after a call that is done, and after one that failed.
+use ledger_struct::DONE;
+use ledger_struct::FAILED;
 use ledger_struct::Ledger;
 use ledger_struct::with_call;
 use ledger_struct::with_parameters;
@@ -28,7 +30,7 @@ pub fn done_ledger(
     let shown = with_parameters(l, parameters);
     let set = with_variables(shown, variables);
     let moved = with_places(set, places);
-    with_call(moved, next, function, caller, 0)
+    with_call(moved, next, function, caller, DONE)
 }
 
 // "A failed call restores every place"; it shows public parameters and no variables.
@@ -39,5 +41,5 @@ pub fn failed_ledger(l: Ledger, function: u8, caller: u8, public: &[u32]) -> Led
     let next = l.call + 1;
     let shown = with_parameters(l, public);
     let cleared = with_variables(shown, &public[0..0]);
-    with_call(cleared, next, function, caller, 1)
+    with_call(cleared, next, function, caller, FAILED)
 }

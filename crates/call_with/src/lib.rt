@@ -3,6 +3,7 @@ use call_ledgers::done_ledger;
 use call_ledgers::failed_ledger;
 use file_bytes::read_layout;
 use file_functions::function_start;
+use file_kinds::PARAMETER_CODES_END;
 use honest_parameters::put_public;
 use ledger_addresses::put_addresses;
 use ledger_numbers::plain_numbers;
@@ -129,7 +130,7 @@ fn call_on(
     let layout = read_layout(file);
     let nodes_at = layout.nodes_at;
     flat_places(l, places);
-    let mut addresses = [0u32; 136];
+    let mut addresses = [0u32; PARAMETER_CODES_END];
     call_addresses(
         file,
         function_at,

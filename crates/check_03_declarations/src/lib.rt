@@ -1,5 +1,10 @@
 // Number 3 for fields and parameters: their shapes, types and owner codes.
 use file_decoded::number_from;
+use file_kinds::ADDRESS;
+use file_kinds::FINAL;
+use file_kinds::FINAL_CODES;
+use file_kinds::FINAL_CODES_END;
+use file_kinds::MAPPING;
 ghost use mathlib.Core.Path.{_≡_};
 ghost use mathlib.Core.Bool.{_&&_, _||_};
 ghost use Prim.Native.Nat.{_+_, _*_, _/_, _≤_};
@@ -15,7 +20,7 @@ ghost use Rattle.check_03_declarations.specs.Outside.{fieldOutside, para
 pub fn is_final_code(code: usize) -> bool
     ensures { λ r. ⌜ r ≡ isFinalCode code ⌝ }
 {
-    16 <= code && code < 80
+    FINAL_CODES <= code && code < FINAL_CODES_END
 }
 
 // "A field's owner is 0, 16+f, or 2 for a mapping only."
@@ -28,25 +33,25 @@ fn field_owner_in_tables(shape: usize, owner: usize) -> bool
     if is_final_code(owner) {
         return true;
     }
-    owner == 2 && shape == 2
+    owner == 2 && shape == MAPPING
 }
 
 fn field_in_tables(shape: usize, data_type: usize, owner: usize) -> bool
     ensures { λ r. ⌜ r ≡ fieldInTables (record { shape = shape; type = «data_type»; owner = owner }) ⌝ }
 {
-    if 2 < shape {
+    if MAPPING < shape {
         return false;
     }
-    if 2 < data_type {
+    if ADDRESS < data_type {
         return false;
     }
     if !field_owner_in_tables(shape, owner) {
         return false;
     }
-    if shape != 1 {
+    if shape != FINAL {
         return true;
     }
-    data_type == 2 && owner == 0
+    data_type == ADDRESS && owner == 0
 }
 
 // Whether some of the fields is outside the tables.
@@ -71,7 +76,7 @@ pub fn fields_outside(fields: &[u16]) -> bool
 fn parameter_in_tables(data_type: usize, owner: usize) -> bool
     ensures { λ r. ⌜ r ≡ parameterInTables (record { type = «data_type»; owner = owner }) ⌝ }
 {
-    data_type <= 2 && owner <= 1
+    data_type <= ADDRESS && owner <= 1
 }
 
 // Whether some of a function's parameters is outside the tables.

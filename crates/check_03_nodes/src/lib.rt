@@ -4,6 +4,26 @@ use check_03_declarations::functions_outside;
 use check_03_declarations::is_final_code;
 use file_bytes::Node;
 use file_decoded::node_from;
+use file_kinds::ADDRESS;
+use file_kinds::BOOL;
+use file_kinds::CONSTANT;
+use file_kinds::ENTRY;
+use file_kinds::ENTRY_TAKES;
+use file_kinds::FIELD;
+use file_kinds::FIELD_TAKES;
+use file_kinds::IF;
+use file_kinds::ME;
+use file_kinds::NOT;
+use file_kinds::OPERATOR;
+use file_kinds::OR;
+use file_kinds::PARAMETER;
+use file_kinds::PARAMETER_CODES;
+use file_kinds::PARAMETER_CODES_END;
+use file_kinds::REQUIRE;
+use file_kinds::REVEAL;
+use file_kinds::SEQUENCE;
+use file_kinds::SKIP;
+use file_kinds::UINT;
 ghost use mathlib.Core.Path.{_≡_};
 ghost use mathlib.Core.Bool.{_&&_};
 ghost use Prim.Native.Nat.{_+_, _*_, _/_, _≤_};
@@ -19,7 +39,7 @@ ghost use Rattle.check_03_nodes.specs.Outside.{nodeOutside};
 fn is_parameter_code(code: usize) -> bool
     ensures { λ r. ⌜ r ≡ isParameterCode code ⌝ }
 {
-    128 <= code && code < 136
+    PARAMETER_CODES <= code && code < PARAMETER_CODES_END
 }
 
 // "reveal first to owner code arg (0, 1, 16+f, 128+k)"
@@ -39,9 +59,9 @@ fn target_in_tables(code: usize) -> bool
 fn is_of_type(data_type: usize, value: usize) -> bool
     ensures { λ r. ⌜ r ≡ isOfType (dataTypeOf «data_type») value ⌝ }
 {
-    if data_type == 0 {
+    if data_type == BOOL {
         value < 2
-    } else if data_type == 1 {
+    } else if data_type == UINT {
         value < 4294967296
     } else {
         value < 16
@@ -53,7 +73,7 @@ fn constant_in_tables(arg: usize, first: usize, second: usize, third: usize) -> 
     requires { ⌜ (first ≤ 65535) × (second ≤ 65535) ⌝ }
     ensures { λ r. ⌜ r ≡ (leb arg 2 && isOfType (dataTypeOf arg) (first + 65536 * second) && isZero third) ⌝ }
 {
-    if 2 < arg {
+    if ADDRESS < arg {
         return false;
     }
     if !is_of_type(arg, first + 65536 * second) {
@@ -88,16 +108,16 @@ fn node_in_tables(node: Node) -> bool
     let second = node.second;
     let third = node.third;
     match kind {
-        1 => constant_in_tables(arg, first, second, third),
-        2 | 16 => zeros(arg, first, second, third),
-        3 | 5 => zeros(0, first, second, third),
-        4 | 18 => zeros(0, 0, second, third),
-        6 => arg <= 10 && third == 0,
-        7 | 20 => zeros(0, arg, second, third),
-        8 => target_in_tables(arg) && zeros(0, 0, second, third),
-        17 => zeros(0, 0, arg, third),
-        19 => third == 0,
-        21 => arg == 0,
+        CONSTANT => constant_in_tables(arg, first, second, third),
+        ME | SKIP => zeros(arg, first, second, third),
+        FIELD | PARAMETER => zeros(0, first, second, third),
+        ENTRY | FIELD_TAKES => zeros(0, 0, second, third),
+        OPERATOR => arg <= OR && third == 0,
+        NOT | REQUIRE => zeros(0, arg, second, third),
+        REVEAL => target_in_tables(arg) && zeros(0, 0, second, third),
+        SEQUENCE => zeros(0, 0, arg, third),
+        ENTRY_TAKES => third == 0,
+        IF => arg == 0,
         _ => false,
     }
 }

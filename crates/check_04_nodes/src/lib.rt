@@ -2,6 +2,7 @@
 use check_03_declarations::is_final_code;
 use file_bytes::Node;
 use file_children::child_count;
+use file_kinds::FINAL_CODES;
 ghost use mathlib.Core.Path.{_≡_};
 ghost use Prim.Native.Nat.{_-_};
 ghost use lib.Dec.{leb};
@@ -12,16 +13,14 @@ ghost use Rattle.check_04_nodes.specs.Naming.{naming};
 
 pub const NAMING: [usize; 22] = [
     0,
-    0,
-    0,
-    1,
-    1,
-    0,
-    0,
-    0,
-    2,
-    0,
-    0,
+    0, // constant
+    0, // me
+    1, // field
+    1, // entry
+    0, // parameter
+    0, // operator
+    0, // not
+    2, // reveal
     0,
     0,
     0,
@@ -29,10 +28,12 @@ pub const NAMING: [usize; 22] = [
     0,
     0,
     0,
-    1,
-    1,
-    0,
-    0,
+    0, // skip
+    0, // sequence
+    1, // field takes
+    1, // entry takes
+    0, // require
+    0, // if
 ];
 
 // How a kind's arg names a field: 1 by its number, 2 by an owner code, 0 not at all.
@@ -46,7 +47,11 @@ pub fn naming_of(kind: usize) -> usize
 pub fn final_number(code: usize) -> usize
     ensures { λ r. ⌜ r ≡ code - 16 ⌝ }
 {
-    if 16 <= code { code - 16 } else { 0 }
+    if FINAL_CODES <= code {
+        code - FINAL_CODES
+    } else {
+        0
+    }
 }
 
 // Whether a node's arg names no field.

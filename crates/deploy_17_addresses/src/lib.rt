@@ -1,4 +1,5 @@
 // "17. Deployment gives other than one address, 0 to 15, for each final."
+use file_kinds::FINAL;
 ghost use mathlib.Core.Path.{_≡_};
 ghost use mathlib.Core.Bool.{cond};
 ghost use Prim.Native.Nat.{_<_, _≤_};
@@ -14,7 +15,7 @@ pub fn final_bit(file: &[u8], f: usize) -> usize
     ensures { λ r. ⌜ r ≡ cond (isFinal ((fieldAt (fieldsIn (now (file .entry))) f) .shape)) 1 0 ⌝ }
     ensures { λ r. ⌜ r ≤ 1 ⌝ }
 {
-    if file_bytes::byte_at(file, 1 + 3 * f) == 1 {
+    if file_bytes::byte_at(file, 1 + 3 * f) == FINAL {
         1
     } else {
         0

@@ -1,4 +1,5 @@
 // The deployed ledger of a file: finals are given, all else is 0, private places being cells of serial 0, 0.
+use file_kinds::FINAL;
 use ledger_contents::Content;
 use ledger_contents::Place;
 use ledger_struct::Ledger;
@@ -49,7 +50,7 @@ fn put_numbers(file: &[u8], addresses: &[u8], numbers: &mut [u32]) -> usize
     let mut p: usize = 0;
     let mut a: usize = 0;
     while f < count {
-        if file_bytes::byte_at(file, 1 + 3 * f) == 1 {
+        if file_bytes::byte_at(file, 1 + 3 * f) == FINAL {
             numbers[p] = address_at(addresses, a);
             p += 1;
             a += 1;

@@ -9,6 +9,7 @@ use disclose_output::refusal;
 use disclose_statements::disclose_statement;
 use file_bytes::read_layout;
 use file_functions::function_start;
+use file_kinds::PARAMETER_CODES_END;
 use honest_variables::root_at;
 use ledger_addresses::put_addresses;
 use ledger_struct::Ledger;
@@ -43,7 +44,7 @@ fn disclose_body(
         (bodyDiscloses (now (file .entry)) «function_at» (question .caller) (now (arguments .entry)) (now (numbers .entry))
         (question .party)) r ⌝ }
 {
-    let mut addresses = [0u32; 136];
+    let mut addresses = [0u32; PARAMETER_CODES_END];
     put_addresses(
         file,
         function_at,

@@ -2,6 +2,10 @@
 // party, up to a failure." The expressions of the original, on numbers in all places.
 use disclose_readers::may_read;
 use file_bytes::node_at;
+use file_kinds::ENTRY;
+use file_kinds::NOT;
+use file_kinds::OPERATOR;
+use file_kinds::REVEAL;
 use honest_values::value;
 use walk_expressions::divides;
 ghost use mathlib.Core.Path.{_≡_};
@@ -73,7 +77,7 @@ pub fn disclose_expression(
     let node = node_at(file, asked.nodes_at, n);
     let kind = node.kind;
     match kind {
-        4 => disclose_expression(
+        ENTRY => disclose_expression(
             file,
             asked,
             numbers,
@@ -83,8 +87,8 @@ pub fn disclose_expression(
             out,
             at,
         ),
-        6 => disclose_operator(file, asked, numbers, arguments, addresses, n, out, at),
-        7 => disclose_expression(
+        OPERATOR => disclose_operator(file, asked, numbers, arguments, addresses, n, out, at),
+        NOT => disclose_expression(
             file,
             asked,
             numbers,
@@ -94,7 +98,7 @@ pub fn disclose_expression(
             out,
             at,
         ),
-        8 => disclose_reveal(file, asked, numbers, arguments, addresses, n, out, at),
+        REVEAL => disclose_reveal(file, asked, numbers, arguments, addresses, n, out, at),
         _ => Told {
             at: at,
             finished: true,

@@ -7,6 +7,11 @@ use disclose_expressions::Told;
 use disclose_expressions::disclose_expression;
 use disclose_expressions::value_asked;
 use file_bytes::node_at;
+use file_kinds::ENTRY_TAKES;
+use file_kinds::FIELD_TAKES;
+use file_kinds::IF;
+use file_kinds::REQUIRE;
+use file_kinds::SEQUENCE;
 use ledger_places::position;
 use ledger_places::put_number;
 ghost use mathlib.Core.Path.{_≡_};
@@ -147,11 +152,11 @@ pub fn disclose_statement(
     let node = node_at(file, asked.nodes_at, n);
     let kind = node.kind;
     match kind {
-        17 => disclose_sequence(file, asked, numbers, arguments, addresses, n, out, at),
-        18 => disclose_field(file, asked, numbers, arguments, addresses, n, out, at),
-        19 => disclose_entry(file, asked, numbers, arguments, addresses, n, out, at),
-        20 => disclose_require(file, asked, numbers, arguments, addresses, n, out, at),
-        21 => disclose_conditional(file, asked, numbers, arguments, addresses, n, out, at),
+        SEQUENCE => disclose_sequence(file, asked, numbers, arguments, addresses, n, out, at),
+        FIELD_TAKES => disclose_field(file, asked, numbers, arguments, addresses, n, out, at),
+        ENTRY_TAKES => disclose_entry(file, asked, numbers, arguments, addresses, n, out, at),
+        REQUIRE => disclose_require(file, asked, numbers, arguments, addresses, n, out, at),
+        IF => disclose_conditional(file, asked, numbers, arguments, addresses, n, out, at),
         _ => Told {
             at: at,
             finished: true,

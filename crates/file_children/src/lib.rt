@@ -1,55 +1,59 @@
 // What a kind of node says of the node's parts.
+use file_kinds::CONSTANT;
+use file_kinds::IF;
+use file_kinds::REVEAL;
+use file_kinds::SKIP;
 ghost use mathlib.Core.Path.{_≡_};
 ghost use Rattle.file_children.specs.Children.{childCount, expressionCount, isExpressionKind, isStatementKind};
 
 const CHILDREN: [usize; 22] = [
     0,
-    0,
-    0,
-    0,
-    1,
-    0,
-    2,
-    1,
-    1,
-    0,
-    0,
-    0,
-    0,
+    0, // constant
+    0, // me
+    0, // field
+    1, // entry
+    0, // parameter
+    2, // operator
+    1, // not
+    1, // reveal
     0,
     0,
     0,
     0,
-    2,
-    1,
-    2,
-    1,
-    3,
+    0,
+    0,
+    0,
+    0, // skip
+    2, // sequence
+    1, // field takes
+    2, // entry takes
+    1, // require
+    3, // if
 ];
 
 const EXPRESSIONS: [usize; 22] = [
     0,
-    0,
-    0,
-    0,
-    1,
-    0,
-    2,
-    1,
-    1,
-    0,
-    0,
-    0,
+    0, // constant
+    0, // me
+    0, // field
+    1, // entry
+    0, // parameter
+    2, // operator
+    1, // not
+    1, // reveal
     0,
     0,
     0,
     0,
     0,
     0,
-    1,
-    2,
-    1,
-    1,
+    0,
+    0, // skip
+    0, // sequence
+    1, // field takes
+    2, // entry takes
+    1, // require
+    1, // if
 ];
 
 // How many children a node of a kind has. They are its first parts.
@@ -70,11 +74,11 @@ pub fn expression_count(kind: usize) -> usize
 pub fn is_expression_kind(kind: usize) -> bool
     ensures { λ r. ⌜ r ≡ isExpressionKind kind ⌝ }
 {
-    1 <= kind && kind <= 8
+    CONSTANT <= kind && kind <= REVEAL
 }
 
 pub fn is_statement_kind(kind: usize) -> bool
     ensures { λ r. ⌜ r ≡ isStatementKind kind ⌝ }
 {
-    16 <= kind && kind <= 21
+    SKIP <= kind && kind <= IF
 }

@@ -1,6 +1,11 @@
 // 01, Runs and views: "An honest supplied variable holds what the original works out for its expression .. in an untaken branch it stays
 // plain 0." The original's statements on lent numbers, with one number for each variable that rewriting makes of them.
 use file_bytes::node_at;
+use file_kinds::ENTRY_TAKES;
+use file_kinds::FIELD_TAKES;
+use file_kinds::IF;
+use file_kinds::REQUIRE;
+use file_kinds::SEQUENCE;
 use honest_assignments::entry_slots;
 use honest_assignments::field_slots;
 use honest_supplies::body_slots;
@@ -67,7 +72,7 @@ fn simple_slots(
     let node = node_at(file, nodes_at, n);
     let kind = node.kind;
     match kind {
-        18 => field_slots(
+        FIELD_TAKES => field_slots(
             file,
             function_at,
             nodes_at,
@@ -80,7 +85,7 @@ fn simple_slots(
             out,
             i,
         ),
-        19 => entry_slots(
+        ENTRY_TAKES => entry_slots(
             file,
             function_at,
             nodes_at,
@@ -94,7 +99,7 @@ fn simple_slots(
             out,
             i,
         ),
-        20 => body_slots(
+        REQUIRE => body_slots(
             file,
             function_at,
             nodes_at,
@@ -130,7 +135,7 @@ pub fn statement_slots(
 {
     let kind = node_at(file, nodes_at, n).kind;
     match kind {
-        17 => sequence_slots(
+        SEQUENCE => sequence_slots(
             file,
             function_at,
             nodes_at,
@@ -142,7 +147,7 @@ pub fn statement_slots(
             out,
             i,
         ),
-        21 => conditional_slots(
+        IF => conditional_slots(
             file,
             function_at,
             nodes_at,

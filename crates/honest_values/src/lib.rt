@@ -1,5 +1,12 @@
 // 01, Runs and views: the value that the original works out for an expression, on numbers in all places.
 use file_bytes::node_at;
+use file_kinds::CONSTANT;
+use file_kinds::ENTRY;
+use file_kinds::FIELD;
+use file_kinds::NOT;
+use file_kinds::OPERATOR;
+use file_kinds::PARAMETER;
+use file_kinds::REVEAL;
 use ledger_arithmetic::negated;
 use ledger_arithmetic::operated;
 use ledger_places::number_at;
@@ -36,13 +43,13 @@ pub fn value(
     let node = node_at(file, nodes_at, n);
     let kind = node.kind;
     match kind {
-        1 => constant_of(node.first, node.second),
-        3 => number_at(numbers, position(file, node.arg, 0)),
-        4 => entry_value(file, function_at, nodes_at, numbers, arguments, caller, n),
-        5 => number_at(arguments, node.arg),
-        6 => operator_value(file, function_at, nodes_at, numbers, arguments, caller, n),
-        7 => negation_value(file, function_at, nodes_at, numbers, arguments, caller, n),
-        8 => value(
+        CONSTANT => constant_of(node.first, node.second),
+        FIELD => number_at(numbers, position(file, node.arg, 0)),
+        ENTRY => entry_value(file, function_at, nodes_at, numbers, arguments, caller, n),
+        PARAMETER => number_at(arguments, node.arg),
+        OPERATOR => operator_value(file, function_at, nodes_at, numbers, arguments, caller, n),
+        NOT => negation_value(file, function_at, nodes_at, numbers, arguments, caller, n),
+        REVEAL => value(
             file,
             function_at,
             nodes_at,

@@ -2,6 +2,9 @@
 use file_bytes::byte_at;
 use file_bytes::function_end;
 use file_bytes::two_bytes_at;
+use file_kinds::FINAL_CODES;
+use file_kinds::FINAL_CODES_END;
+use file_kinds::PARAMETER_CODES;
 use honest_statements::statement_slots;
 use honest_supplies::put_slot;
 use ledger_contents::Content;
@@ -9,6 +12,8 @@ use ledger_contents::put_content;
 use ledger_places::number_at;
 use ledger_readers::Reader;
 use ledger_readers::content_for;
+use rewrite_log::CLAIM_LOGGED;
+use rewrite_log::READ_LOGGED;
 use write_parameters::count_private;
 ghost use mathlib.Core.Path.{_≡_};
 ghost use Prim.Native.Nat.{_≤_};
@@ -75,14 +80,14 @@ fn address_place(code: usize) -> usize
     if code == 1 {
         return 1;
     }
-    if code < 16 {
-        return 128;
+    if code < FINAL_CODES {
+        return PARAMETER_CODES;
     }
-    if code < 80 {
+    if code < FINAL_CODES_END {
         return code;
     }
-    if code < 128 {
-        return 128;
+    if code < PARAMETER_CODES {
+        return PARAMETER_CODES;
     }
     code
 }
@@ -131,7 +136,7 @@ fn put_entry(
     ensures { λ next. ⌜ EntryPut call (now (slots .entry)) (now (addresses .entry)) tag code
         (now (flat .entry)) (now (flat .exit)) n next ⌝ }
 {
-    if tag == 1 {
+    if tag == CLAIM_LOGGED {
         n
     } else {
         let slot = slot_at(slots, n);
@@ -157,7 +162,7 @@ pub fn put_variables(
     let mut n = 0;
     let mut left = private;
     while 0 < left {
-        n = put_entry(2, 1, slots, addresses, call, flat, n);
+        n = put_entry(READ_LOGGED, 1, slots, addresses, call, flat, n);
         left -= 1;
     }
     let mut i = 0;

@@ -1,12 +1,14 @@
 // "18. The ledger isn't well formed": a ledger after a done call.
 use file_bytes::read_layout;
 use file_functions::function_start;
+use file_kinds::PARAMETER_CODES_END;
 use ledger_18_parameters::parameters_fit;
 use ledger_18_parts::put_parameters;
 use ledger_18_parts::put_variables;
 use ledger_18_variables::variables_fit;
 use ledger_addresses::put_addresses;
 use ledger_numbers::plain_numbers;
+use ledger_struct::DONE;
 use ledger_struct::Ledger;
 ghost use mathlib.Core.Path.{_≡_};
 ghost use mathlib.Core.List.{map};
@@ -45,7 +47,7 @@ pub fn done_variables_fit(
     let count = parameters.len() / 5;
     let mut arguments = [0u32; 8];
     plain_numbers(parameters, &mut arguments[..]);
-    let mut addresses = [0u32; 136];
+    let mut addresses = [0u32; PARAMETER_CODES_END];
     put_addresses(
         file,
         function_at,
@@ -62,7 +64,7 @@ pub fn is_after_done(l: Ledger, file: &[u8], numbers: &[u32]) -> bool
     requires { ⌜ (Opened (ledgerOf l) (now file) (now numbers)) × (l .function < functionCount (now file)) ⌝ }
     ensures { λ r. ⌜ r ≡ isAfterDone (ledgerOf l) ⌝ }
 {
-    if l.outcome != 0 {
+    if l.outcome != DONE {
         return false;
     }
     let function_at = function_start(file, l.function);

@@ -2,6 +2,7 @@
 use file_functions::function_start;
 use ledger_18_parameters::parameters_fit;
 use ledger_18_parts::put_parameters;
+use ledger_struct::FAILED;
 use ledger_struct::Ledger;
 ghost use mathlib.Core.Path.{_≡_};
 ghost use Prim.Native.Nat.{_<_};
@@ -15,7 +16,7 @@ pub fn is_after_failed(l: Ledger, file: &[u8], numbers: &[u32]) -> bool
     requires { ⌜ (Opened (ledgerOf l) (now file) (now numbers)) × (l .function < functionCount (now file)) ⌝ }
     ensures { λ r. ⌜ r ≡ isAfterFailed (ledgerOf l) ⌝ }
 {
-    if l.outcome != 1 {
+    if l.outcome != FAILED {
         return false;
     }
     if l.variable_count != 0 {

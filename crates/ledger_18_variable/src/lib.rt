@@ -1,7 +1,10 @@
 // "each item .. has the type": one variable, by the event that made it.
 use file_bytes::two_bytes_at;
+use file_kinds::ADDRESS;
+use file_kinds::BOOL;
 use ledger_readers::Reader;
 use ledger_types::type_code;
+use rewrite_log::GUARD_LOGGED;
 ghost use mathlib.Core.Path.{_≡_};
 ghost use mathlib.Core.Bool.{cond};
 ghost use lib.Dec.{eqb};
@@ -29,12 +32,12 @@ pub fn entry_type(file: &[u8], function_at: usize, nodes_at: usize, tag: u16, no
         boolean
         (typeOf (scopeIn (now (file .entry)) «function_at») (expressionIn (nodesIn (now (file .entry))) node)) ⌝ }
 {
-    if tag == 3 {
-        return 0;
+    if tag == GUARD_LOGGED {
+        return BOOL;
     }
     if node < two_bytes_at(file, nodes_at) {
         type_code(file, function_at, nodes_at, node)
     } else {
-        2
+        ADDRESS
     }
 }

@@ -4,6 +4,7 @@ use ledger_18_forms::variable_fits_at;
 use ledger_18_variable::code_reader;
 use ledger_18_variable::entry_type;
 use ledger_types::parameter_type;
+use rewrite_log::CLAIM_LOGGED;
 use rewrite_statements::function_log;
 use write_parameters::count_private;
 ghost use mathlib.Core.Path.{_≡_};
@@ -65,7 +66,7 @@ fn log_fits(
     let mut p = from;
     while i + 4 < log.len() {
         let tag = log[i];
-        if tag == 1 {
+        if tag == CLAIM_LOGGED {
             i += 5;
         } else {
             let code = entry_type(file, function_at, nodes_at, tag, log[i + 3] as usize);

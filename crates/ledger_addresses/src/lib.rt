@@ -1,5 +1,10 @@
 // 01, Owners: the addresses that names stand for in a call, put down at their owner codes.
 use file_bytes::byte_at;
+use file_kinds::FINAL;
+use file_kinds::FINAL_CODES;
+use file_kinds::FINAL_CODES_END;
+use file_kinds::PARAMETER_CODES;
+use file_kinds::PARAMETER_CODES_END;
 use ledger_places::number_at;
 use ledger_places::position;
 use ledger_places::put_number;
@@ -14,7 +19,7 @@ fn final_address(file: &[u8], f: usize, places: &[u32]) -> u32
     ensures { λ r. ⌜ r ≡ named (now (file .entry)) 0 0 (now (places .entry)) (now (places .entry)) (finalName f) ⌝ }
 {
     if f < byte_at(file, 0) {
-        if byte_at(file, 1 + 3 * f) == 1 {
+        if byte_at(file, 1 + 3 * f) == FINAL {
             let p = position(file, f, 0);
             return number_at(places, p);
         }
@@ -49,17 +54,17 @@ fn address_of_code(
     if code == 1 {
         return caller as u32;
     }
-    if code < 16 {
+    if code < FINAL_CODES {
         return 0;
     }
-    if code < 80 {
-        return final_address(file, code - 16, places);
+    if code < FINAL_CODES_END {
+        return final_address(file, code - FINAL_CODES, places);
     }
-    if code < 128 {
+    if code < PARAMETER_CODES {
         return 0;
     }
-    if code < 136 {
-        return parameter_address(file, function_at, code - 128, arguments);
+    if code < PARAMETER_CODES_END {
+        return parameter_address(file, function_at, code - PARAMETER_CODES, arguments);
     }
     0
 }
@@ -77,7 +82,7 @@ pub fn put_addresses(
     ensures { λ _. ⌜ Addressed (now (file .entry)) «function_at» caller (now (arguments .entry)) (now (places .entry)) (now (out .exit)) ⌝ }
 {
     let mut code = 0;
-    while code < 136 {
+    while code < PARAMETER_CODES_END {
         let address = address_of_code(file, function_at, caller, arguments, places, code);
         put_number(out, code, address);
         code += 1;

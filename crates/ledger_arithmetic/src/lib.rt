@@ -2,6 +2,16 @@
 use definitions::difference;
 use definitions::product;
 use definitions::sum;
+use file_kinds::AND;
+use file_kinds::DIVIDED;
+use file_kinds::EQUAL;
+use file_kinds::LESS;
+use file_kinds::LESS_OR_EQUAL;
+use file_kinds::MINUS;
+use file_kinds::NOT_EQUAL;
+use file_kinds::OR;
+use file_kinds::REMAINDER;
+use file_kinds::TIMES;
 ghost use mathlib.Core.Path.{_≡_};
 ghost use mathlib.Core.Bool.{_&&_, _||_};
 ghost use Prim.Native.Nat.{_/_, _%_};
@@ -53,16 +63,16 @@ pub fn operated(code: usize, left: u32, right: u32) -> u32
     ensures { λ r. ⌜ r ≡ operate (operatorOf code) left right ⌝ }
 {
     match code {
-        1 => difference(left, right),
-        2 => product(left, right),
-        3 => quotient(left, right),
-        4 => rest(left, right),
-        5 => bit_of(left < right),
-        6 => bit_of(left <= right),
-        7 => bit_of(left == right),
-        8 => bit_of(left != right),
-        9 => both(left, right),
-        10 => either(left, right),
+        MINUS => difference(left, right),
+        TIMES => product(left, right),
+        DIVIDED => quotient(left, right),
+        REMAINDER => rest(left, right),
+        LESS => bit_of(left < right),
+        LESS_OR_EQUAL => bit_of(left <= right),
+        EQUAL => bit_of(left == right),
+        NOT_EQUAL => bit_of(left != right),
+        AND => both(left, right),
+        OR => either(left, right),
         _ => sum(left, right),
     }
 }

@@ -1,5 +1,10 @@
 // 01, Runs and views: circuits worked out on a call's variables, and the constraints that a verify tests.
 use file_bytes::read_node;
+use file_kinds::CONSTANT;
+use file_kinds::NOT;
+use file_kinds::OPENED;
+use file_kinds::OPERATOR;
+use file_kinds::VARIABLE;
 use ledger_arithmetic::negated;
 use ledger_arithmetic::operated;
 use ledger_contents::opened_at;
@@ -27,15 +32,15 @@ pub fn circuit_value(nodes: &[u8], addresses: &[u32], variables: &[u32], n: usiz
     let node = read_node(nodes, 8 * n);
     let kind = node.kind;
     match kind {
-        1 => constant_of(node.first, node.second),
-        6 => {
+        CONSTANT => constant_of(node.first, node.second),
+        OPERATOR => {
             let left = circuit_value(nodes, addresses, variables, node.first);
             let right = circuit_value(nodes, addresses, variables, node.second);
             operated(node.arg, left, right)
         }
-        7 => negated(circuit_value(nodes, addresses, variables, node.first)),
-        9 => plain_at(variables, node.first),
-        10 => opened_at(variables, node.first),
+        NOT => negated(circuit_value(nodes, addresses, variables, node.first)),
+        VARIABLE => plain_at(variables, node.first),
+        OPENED => opened_at(variables, node.first),
         _ => number_at(addresses, 1),
     }
 }

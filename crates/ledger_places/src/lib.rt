@@ -1,5 +1,6 @@
 // 01, Runs and views: "places in field order (a mapping is 16)": where a place stands, and numbers read and replaced there.
 use file_bytes::byte_at;
+use file_kinds::MAPPING;
 ghost use mathlib.Core.Path.{_≡_};
 ghost use Prim.Native.Nat.{_+_, _*_, _≤_, _<_};
 ghost use lib.ListN.{getD, set};
@@ -13,7 +14,11 @@ pub fn place_count(file: &[u8], f: usize) -> usize
     ensures { λ r. ⌜ r ≡ placeCount (fieldAt (fieldsIn (now (file .entry))) f) ⌝ }
     ensures { λ r. ⌜ r ≤ 16 ⌝ }
 {
-    if byte_at(file, 1 + 3 * f) < 2 { 1 } else { 16 }
+    if byte_at(file, 1 + 3 * f) < MAPPING {
+        1
+    } else {
+        16
+    }
 }
 
 // Where field f's place at a key stands.

@@ -1,4 +1,7 @@
 // Who can read a value, the content that a value is for its readers, and whether a content is what a form asks.
+use file_kinds::BOOL;
+use file_kinds::FINAL_CODES;
+use file_kinds::UINT;
 use ledger_contents::Cell;
 use ledger_contents::Content;
 ghost use mathlib.Core.Path.{_≡_};
@@ -36,10 +39,10 @@ pub fn content_for(reader: Reader, call: u16, index: u16, value: u32) -> Content
 fn is_of_type(code: usize, value: u32) -> bool
     ensures { λ r. ⌜ r ≡ isOfType (dataTypeOf code) value ⌝ }
 {
-    if code == 0 {
+    if code == BOOL {
         return value < 2;
     }
-    if code == 1 {
+    if code == UINT {
         return true;
     }
     value < 16
@@ -77,7 +80,11 @@ pub fn fits(code: usize, reader: Reader, content: Content) -> bool
 fn final_of(code: usize) -> usize
     ensures { λ r. ⌜ r ≡ code - 16 ⌝ }
 {
-    if 16 < code { code - 16 } else { 0 }
+    if FINAL_CODES < code {
+        code - FINAL_CODES
+    } else {
+        0
+    }
 }
 
 // The reader of field f's place at a key, where the places hold these numbers.

@@ -7,6 +7,11 @@ ghost use Prim.Native.Nat.{ℕ, _*_, _/_, _<_, _≤_, min};
 ghost use Rattle.ledger_contents.specs.Contents.{contentsOf};
 ghost use Rattle.ledger_struct.specs.Ledgers.{ledgerOf, contentsIn, withCall, withParameters, withVariables, withPlaces};
 
+// The outcome of a call: "(0 done, 1 failed)".
+pub const DONE: u8 = 0;
+
+pub const FAILED: u8 = 1;
+
 // "The ledger struct holds an array of place structs, by value." What stands behind a count means nothing (`ledgerOf`).
 pub struct Ledger {
     pub file: [u8; 4596],

@@ -1,6 +1,18 @@
 // The data types of expressions, read from the file.
 use file_bytes::byte_at;
 use file_bytes::node_at;
+use file_kinds::ADDRESS;
+use file_kinds::BOOL;
+use file_kinds::CONSTANT;
+use file_kinds::ENTRY;
+use file_kinds::FIELD;
+use file_kinds::LESS;
+use file_kinds::NOT;
+use file_kinds::OPERATOR;
+use file_kinds::OPERATORS;
+use file_kinds::PARAMETER;
+use file_kinds::REVEAL;
+use file_kinds::UINT;
 ghost use mathlib.Core.Path.{_≡_};
 ghost use Prim.Native.Nat.{_<_, _≤_};
 ghost use Rattle.definitions.specs.ContractFile.{fieldAt, parameterAt, byteAt, fieldCount, nodeCount, dataTypeOf, operatorOf, resultType};
@@ -16,7 +28,7 @@ pub fn field_type(file: &[u8], f: usize) -> usize
     if f < byte_at(file, 0) {
         byte_at(file, 1 + 3 * f + 1)
     } else {
-        0
+        BOOL
     }
 }
 
@@ -28,7 +40,7 @@ pub fn parameter_type(file: &[u8], function_at: usize, k: usize) -> usize
     if k < byte_at(file, function_at) {
         byte_at(file, function_at + 1 + 2 * k)
     } else {
-        0
+        BOOL
     }
 }
 
@@ -36,12 +48,12 @@ pub fn parameter_type(file: &[u8], function_at: usize, k: usize) -> usize
 fn operator_type(code: usize) -> usize
     ensures { λ r. ⌜ dataTypeOf r ≡ resultType (operatorOf code) ⌝ }
 {
-    if code < 5 {
-        1
-    } else if code < 11 {
-        0
+    if code < LESS {
+        UINT
+    } else if code < OPERATORS {
+        BOOL
     } else {
-        1
+        UINT
     }
 }
 
@@ -53,13 +65,13 @@ pub fn type_code(file: &[u8], function_at: usize, nodes_at: usize, n: usize) -> 
     let node = node_at(file, nodes_at, n);
     let kind = node.kind;
     match kind {
-        1 => node.arg,
-        3 => field_type(file, node.arg),
-        4 => field_type(file, node.arg),
-        5 => parameter_type(file, function_at, node.arg),
-        6 => operator_type(node.arg),
-        7 => 0,
-        8 => type_code(file, function_at, nodes_at, node.first),
-        _ => 2,
+        CONSTANT => node.arg,
+        FIELD => field_type(file, node.arg),
+        ENTRY => field_type(file, node.arg),
+        PARAMETER => parameter_type(file, function_at, node.arg),
+        OPERATOR => operator_type(node.arg),
+        NOT => BOOL,
+        REVEAL => type_code(file, function_at, nodes_at, node.first),
+        _ => ADDRESS,
     }
 }

@@ -1,7 +1,10 @@
 // The events of an expression, logged in their order: body translation supplies, supplying enters circuit translation, and
 // the reads of a circuit go back to body translation. The node number falls around the cycle.
+use rewrite_log::CLAIM_EVENT;
 use rewrite_log::Entry;
 use rewrite_log::Position;
+use rewrite_log::READ_EVENT;
+use rewrite_log::SUPPLIED_EVENT;
 use rewrite_log::log_entry;
 use rewrite_plans::parts_of;
 use rewrite_plans::read_code;
@@ -74,7 +77,7 @@ pub fn supply_log(
 {
     let variable = p.variable;
     let supplied = Entry {
-        tag: 0,
+        tag: SUPPLIED_EVENT,
         variable: variable,
         owner: owner,
         node: n,
@@ -83,7 +86,7 @@ pub fn supply_log(
     let q = log_entry(log, p, supplied, 1);
     let r = circuit_log(file, function_at, nodes_at, n, guard, log, q);
     let claimed = Entry {
-        tag: 1,
+        tag: CLAIM_EVENT,
         variable: variable,
         owner: owner,
         node: n,
@@ -113,7 +116,7 @@ fn circuit_log(
         let start = p.variable;
         let q = body_parts_log(file, function_at, nodes_at, n, guard, log, p);
         let read = Entry {
-            tag: 2,
+            tag: READ_EVENT,
             variable: q.variable,
             owner: code - 1,
             node: n,

@@ -12,8 +12,25 @@ pub struct Position {
     pub variable: usize,
 }
 
-// Tag 0 is a supplied variable, 1 its claim, 2 a read variable, 3 a guard. `last` is the number of a claim's guard, or the
-// first variable of what is read.
+// The tags of entries: a supplied variable, its claim, a read variable, a guard.
+pub const SUPPLIED_EVENT: usize = 0;
+
+pub const CLAIM_EVENT: usize = 1;
+
+pub const READ_EVENT: usize = 2;
+
+pub const GUARD_EVENT: usize = 3;
+
+// The tags as the numbers that a log holds.
+pub const SUPPLIED_LOGGED: u16 = SUPPLIED_EVENT as u16;
+
+pub const CLAIM_LOGGED: u16 = CLAIM_EVENT as u16;
+
+pub const READ_LOGGED: u16 = READ_EVENT as u16;
+
+pub const GUARD_LOGGED: u16 = GUARD_EVENT as u16;
+
+// `last` is the number of a claim's guard, or the first variable of what is read.
 pub struct Entry {
     pub tag: usize,
     pub variable: usize,

@@ -1,6 +1,17 @@
 // 01, Owners: the owner codes of fields, parameters, names and expressions, read from the file.
 use file_bytes::byte_at;
 use file_bytes::node_at;
+use file_kinds::ADDRESS;
+use file_kinds::CONSTANT;
+use file_kinds::ENTRY;
+use file_kinds::FIELD;
+use file_kinds::FINAL;
+use file_kinds::FINAL_CODES;
+use file_kinds::NOT;
+use file_kinds::OPERATOR;
+use file_kinds::PARAMETER;
+use file_kinds::PARAMETER_CODES;
+use file_kinds::REVEAL;
 ghost use mathlib.Core.Path.{_≡_};
 ghost use mathlib.Core.Bool.{cond};
 ghost use mathlib.Core.Option.{none, some};
@@ -30,8 +41,8 @@ fn final_code(file: &[u8], f: usize) -> u8
     ensures { λ r. ⌜ r ≡ nameCode (cond (isFinal ((fieldAt (fieldsIn (now (file .entry))) f) .shape)) (some (finalName f)) none) ⌝ }
 {
     if f < byte_at(file, 0) {
-        if byte_at(file, 1 + 3 * f) == 1 {
-            (16 + f) as u8
+        if byte_at(file, 1 + 3 * f) == FINAL {
+            (FINAL_CODES + f) as u8
         } else {
             0
         }
@@ -50,10 +61,10 @@ fn address_code(file: &[u8], function_at: usize, k: usize) -> u8
     if k < byte_at(file, function_at) {
         let kind = byte_at(file, function_at + 1 + 2 * k);
         let owner = byte_at(file, function_at + 1 + 2 * k + 1);
-        if kind < 2 {
+        if kind < ADDRESS {
             0
         } else if owner == 0 {
-            (128 + k) as u8
+            (PARAMETER_CODES + k) as u8
         } else {
             0
         }
@@ -107,13 +118,13 @@ pub fn name_code(file: &[u8], function_at: usize, nodes_at: usize, n: usize) -> 
     let node = node_at(file, nodes_at, n);
     let kind = node.kind;
     match kind {
-        1 => 0,
-        3 => final_code(file, node.arg),
-        4 => 0,
-        5 => address_code(file, function_at, node.arg),
-        6 => 0,
-        7 => 0,
-        8 => 0,
+        CONSTANT => 0,
+        FIELD => final_code(file, node.arg),
+        ENTRY => 0,
+        PARAMETER => address_code(file, function_at, node.arg),
+        OPERATOR => 0,
+        NOT => 0,
+        REVEAL => 0,
         _ => 1,
     }
 }
@@ -126,20 +137,20 @@ pub fn owner_code(file: &[u8], function_at: usize, nodes_at: usize, n: usize) ->
     let node = node_at(file, nodes_at, n);
     let kind = node.kind;
     match kind {
-        1 => 0,
-        3 => place_code(field_owner(file, node.arg), 0),
-        4 => place_code(
+        CONSTANT => 0,
+        FIELD => place_code(field_owner(file, node.arg), 0),
+        ENTRY => place_code(
             field_owner(file, node.arg),
             name_code(file, function_at, nodes_at, node.first),
         ),
-        5 => parameter_code(file, function_at, node.arg),
-        6 => {
+        PARAMETER => parameter_code(file, function_at, node.arg),
+        OPERATOR => {
             let left = owner_code(file, function_at, nodes_at, node.first);
             let right = owner_code(file, function_at, nodes_at, node.second);
             parts_code(left, right)
         }
-        7 => parts_code(owner_code(file, function_at, nodes_at, node.first), 0),
-        8 => node.arg as u8,
+        NOT => parts_code(owner_code(file, function_at, nodes_at, node.first), 0),
+        REVEAL => node.arg as u8,
         _ => 0,
     }
 }

@@ -1,5 +1,11 @@
 // What rewriting does with a node: whether it is supplied in the body, read in a circuit, and which parts it has.
 use file_bytes::node_at;
+use file_kinds::ENTRY;
+use file_kinds::FIELD;
+use file_kinds::NOT;
+use file_kinds::OPERATOR;
+use file_kinds::PARAMETER;
+use file_kinds::REVEAL;
 use rewrite_owners::owner_code;
 use rules_codes::is_division;
 ghost use mathlib.Core.Path.{_≡_};
@@ -44,9 +50,9 @@ pub fn supplied_code(file: &[u8], function_at: usize, nodes_at: usize, n: usize)
     let kind = node.kind;
     let owner = owner_code(file, function_at, nodes_at, n) as usize;
     match kind {
-        6 => private_code(owner),
-        7 => private_code(owner),
-        8 => owner + 1,
+        OPERATOR => private_code(owner),
+        NOT => private_code(owner),
+        REVEAL => owner + 1,
         _ => 0,
     }
 }
@@ -60,10 +66,10 @@ pub fn read_code(file: &[u8], function_at: usize, nodes_at: usize, n: usize) -> 
     let kind = node.kind;
     let owner = owner_code(file, function_at, nodes_at, n) as usize;
     match kind {
-        3 => owner + 1,
-        4 => owner + 1,
-        5 => owner + 1,
-        6 => division_code(node.arg as u8, owner),
+        FIELD => owner + 1,
+        ENTRY => owner + 1,
+        PARAMETER => owner + 1,
+        OPERATOR => division_code(node.arg as u8, owner),
         _ => 0,
     }
 }
@@ -76,10 +82,10 @@ pub fn parts_of(file: &[u8], function_at: usize, nodes_at: usize, n: usize) -> P
     let node = node_at(file, nodes_at, n);
     let kind = node.kind;
     let count = match kind {
-        4 => 1,
-        6 => 2,
-        7 => 1,
-        8 => 1,
+        ENTRY => 1,
+        OPERATOR => 2,
+        NOT => 1,
+        REVEAL => 1,
         _ => 0,
     };
     Parts {

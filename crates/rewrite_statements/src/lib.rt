@@ -2,10 +2,16 @@
 use file_bytes::function_end;
 use file_bytes::node_at;
 use file_bytes::two_bytes_at;
+use file_kinds::ENTRY_TAKES;
+use file_kinds::FIELD_TAKES;
+use file_kinds::IF;
+use file_kinds::REQUIRE;
+use file_kinds::SEQUENCE;
 use rewrite_assignments::assign_entry_log;
 use rewrite_assignments::assign_field_log;
 use rewrite_expressions::body_log;
 use rewrite_log::Entry;
+use rewrite_log::GUARD_EVENT;
 use rewrite_log::Position;
 use rewrite_log::log_entry;
 ghost use Rattle.file_accepted.specs.Context.{nodesIn};
@@ -29,7 +35,7 @@ pub fn branch_log(
 {
     let variable = p.variable;
     let entry = Entry {
-        tag: 3,
+        tag: GUARD_EVENT,
         variable: variable,
         owner: 0,
         node: 0,
@@ -64,11 +70,11 @@ pub fn statement_log(
     let node = node_at(file, nodes_at, n);
     let kind = node.kind;
     match kind {
-        17 => {
+        SEQUENCE => {
             let q = statement_log(file, function_at, nodes_at, node.first, guard, log, p);
             statement_log(file, function_at, nodes_at, node.second, guard, log, q)
         }
-        18 => assign_field_log(
+        FIELD_TAKES => assign_field_log(
             file,
             function_at,
             nodes_at,
@@ -78,7 +84,7 @@ pub fn statement_log(
             log,
             p,
         ),
-        19 => assign_entry_log(
+        ENTRY_TAKES => assign_entry_log(
             file,
             function_at,
             nodes_at,
@@ -89,8 +95,8 @@ pub fn statement_log(
             log,
             p,
         ),
-        20 => body_log(file, function_at, nodes_at, node.first, guard, log, p),
-        21 => {
+        REQUIRE => body_log(file, function_at, nodes_at, node.first, guard, log, p),
+        IF => {
             let q = body_log(file, function_at, nodes_at, node.first, guard, log, p);
             let r = branch_log(file, function_at, nodes_at, node.second, log, q);
             branch_log(file, function_at, nodes_at, node.third, log, r)

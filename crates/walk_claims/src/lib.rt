@@ -1,4 +1,7 @@
 // 01, Runs and views: what a constraint says of its variable.
+use file_kinds::FINAL_CODES;
+use file_kinds::FINAL_CODES_END;
+use file_kinds::PARAMETER_CODES;
 use ledger_circuits::circuit_value;
 use ledger_contents::content_at;
 use ledger_places::number_at;
@@ -20,12 +23,12 @@ pub fn address_of(addresses: &[u32], code: usize) -> u32
 {
     if code == 1 {
         number_at(addresses, 1)
-    } else if code < 16 {
-        number_at(addresses, 128)
-    } else if code < 80 {
+    } else if code < FINAL_CODES {
+        number_at(addresses, PARAMETER_CODES)
+    } else if code < FINAL_CODES_END {
         number_at(addresses, code)
-    } else if code < 128 {
-        number_at(addresses, 128)
+    } else if code < PARAMETER_CODES {
+        number_at(addresses, PARAMETER_CODES)
     } else {
         number_at(addresses, code)
     }

@@ -1,6 +1,8 @@
 // 01, Runs and views: "A call walks the function's written body on the ledger's plain values and cells", on flat contents that are lent.
 // A sequence's second part and an if's taken branch go on in the loop: only a sequence's first part deepens the stack.
 use file_bytes::read_node;
+use file_kinds::IF;
+use file_kinds::SEQUENCE;
 use walk_expressions::evaluate;
 use walk_numbers::Walked;
 use walk_numbers::number_of;
@@ -35,8 +37,8 @@ fn hands_on(nodes: &[u8], n: usize) -> bool
     let node = read_node(nodes, 8 * n);
     let kind = node.kind;
     match kind {
-        17 => true,
-        21 => true,
+        SEQUENCE => true,
+        IF => true,
         _ => false,
     }
 }
@@ -64,7 +66,7 @@ pub fn run(
     while hands_on(nodes, at) {
         let node = read_node(nodes, 8 * at);
         let first = node.first;
-        if node.kind == 17 {
+        if node.kind == SEQUENCE {
             if !run(
                 nodes,
                 file,

@@ -1,5 +1,14 @@
 // 01, Runs and views: "A call walks the function's written body on the ledger's plain values and cells": the body's expressions.
 use file_bytes::read_node;
+use file_kinds::CONSTANT;
+use file_kinds::DIVIDED;
+use file_kinds::ENTRY;
+use file_kinds::FIELD;
+use file_kinds::NOT;
+use file_kinds::OPERATOR;
+use file_kinds::PARAMETER;
+use file_kinds::REMAINDER;
+use file_kinds::VARIABLE;
 use ledger_arithmetic::negated;
 use ledger_arithmetic::operated;
 use ledger_circuits::constant_of;
@@ -58,8 +67,8 @@ pub fn divides(code: usize, divisor: u32) -> bool
 {
     if divisor == 0 {
         match code {
-            3 => false,
-            4 => false,
+            DIVIDED => false,
+            REMAINDER => false,
             _ => true,
         }
     } else {
@@ -122,20 +131,20 @@ pub fn evaluate(
     let first = node.first;
     let other = node.second;
     match kind {
-        1 => given_number(constant_of(first, other)),
-        3 => given_place(file, places, node.arg, 0, true),
-        4 => {
+        CONSTANT => given_number(constant_of(first, other)),
+        FIELD => given_place(file, places, node.arg, 0, true),
+        ENTRY => {
             let key = evaluate(nodes, file, addresses, parameters, places, variables, first);
             given_place(file, places, node.arg, number_of(key), key.walked)
         }
-        5 => given_item(parameters, node.arg),
-        6 => {
+        PARAMETER => given_item(parameters, node.arg),
+        OPERATOR => {
             let left = evaluate(nodes, file, addresses, parameters, places, variables, first);
             let right = evaluate(nodes, file, addresses, parameters, places, variables, other);
             combined(node.arg, left, right)
         }
-        7 => opposite(evaluate(nodes, file, addresses, parameters, places, variables, first)),
-        9 => given_item(variables, first),
+        NOT => opposite(evaluate(nodes, file, addresses, parameters, places, variables, first)),
+        VARIABLE => given_item(variables, first),
         _ => given_number(number_at(addresses, 1)),
     }
 }

@@ -1,5 +1,10 @@
 // 01, Runs and views: one command of a written body that is neither a sequence nor an if, on flat contents that are lent.
 use file_bytes::read_node;
+use file_kinds::ENTRY_TAKES;
+use file_kinds::FIELD_TAKES;
+use file_kinds::REQUIRE;
+use file_kinds::SET;
+use file_kinds::VERIFY;
 use ledger_contents::put_content;
 use ledger_places::position;
 use walk_expressions::both_walked;
@@ -65,28 +70,28 @@ pub fn step(
     let first = node.first;
     let other = node.second;
     match kind {
-        18 => {
+        FIELD_TAKES => {
             let value = evaluate(nodes, file, addresses, parameters, places, variables, first);
             assign(file, places, node.arg, 0, value);
             value.walked
         }
-        19 => {
+        ENTRY_TAKES => {
             let key = evaluate(nodes, file, addresses, parameters, places, variables, first);
             let value = evaluate(nodes, file, addresses, parameters, places, variables, other);
             assign(file, places, node.arg, number_of(key), value);
             both_walked(key.walked, value.walked)
         }
-        20 => {
+        REQUIRE => {
             let condition = evaluate(nodes, file, addresses, parameters, places, variables, first);
             is_walked_true(condition)
         }
-        22 => {
+        SET => {
             let value = evaluate(nodes, file, addresses, parameters, places, variables, other);
             let content = value.content;
             put_content(variables, first, content);
             value.walked
         }
-        23 => verify(nodes, constraints, addresses, variables),
+        VERIFY => verify(nodes, constraints, addresses, variables),
         _ => true,
     }
 }

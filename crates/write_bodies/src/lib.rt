@@ -1,5 +1,9 @@
 // 01, Rewriting: the nodes of a function's written body, statement by statement.
 use file_bytes::node_at;
+use file_kinds::IF;
+use file_kinds::IF_BYTE;
+use file_kinds::SEQUENCE;
+use file_kinds::SEQUENCE_BYTE;
 use rewrite_expressions::body_log;
 use rewrite_log::Position;
 use rewrite_statements::statement_log;
@@ -147,7 +151,7 @@ fn write_branch(
         at + 16,
         base + 2,
     );
-    let nodes = put_above_two(17, 0, 2, inside.nodes, out, at, base);
+    let nodes = put_above_two(SEQUENCE_BYTE, 0, 2, inside.nodes, out, at, base);
     Extent {
         nodes: nodes,
         next: inside.next,
@@ -203,7 +207,7 @@ fn write_branches(
         c,
         d,
     );
-    let nodes = put_above_three(21, form, then.nodes, last.nodes, out, at, base);
+    let nodes = put_above_three(IF_BYTE, form, then.nodes, last.nodes, out, at, base);
     Extent {
         nodes: nodes,
         next: last.next,
@@ -283,7 +287,7 @@ pub fn write_statement(
     let node = node_at(file, nodes_at, n);
     let kind = node.kind;
     match kind {
-        17 => write_sequence(
+        SEQUENCE => write_sequence(
             file,
             function_at,
             nodes_at,
@@ -295,7 +299,7 @@ pub fn write_statement(
             at,
             base,
         ),
-        21 => write_conditional(
+        IF => write_conditional(
             file,
             function_at,
             nodes_at,
@@ -367,7 +371,7 @@ fn write_sequence(
         a,
         b,
     );
-    let nodes = put_above_two(17, 0, first.nodes, second.nodes, out, at, base);
+    let nodes = put_above_two(SEQUENCE_BYTE, 0, first.nodes, second.nodes, out, at, base);
     Extent {
         nodes: nodes,
         next: second.next,

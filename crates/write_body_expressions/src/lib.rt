@@ -1,5 +1,20 @@
 // 01, Rewriting: the nodes of an expression's form in the body, written behind others.
 use file_bytes::node_at;
+use file_kinds::CONSTANT;
+use file_kinds::CONSTANT_BYTE;
+use file_kinds::ENTRY;
+use file_kinds::ENTRY_BYTE;
+use file_kinds::FIELD;
+use file_kinds::FIELD_BYTE;
+use file_kinds::ME_BYTE;
+use file_kinds::NOT;
+use file_kinds::NOT_BYTE;
+use file_kinds::OPERATOR;
+use file_kinds::OPERATOR_BYTE;
+use file_kinds::PARAMETER;
+use file_kinds::PARAMETER_BYTE;
+use file_kinds::REVEAL;
+use file_kinds::VARIABLE_BYTE;
 use rewrite_owners::is_public;
 use write_nodes::put_above_one;
 use write_nodes::put_above_two;
@@ -36,17 +51,17 @@ pub fn write_body_form(
     let kind = node.kind;
     let arg = node.arg as u8;
     match kind {
-        1 => put_leaf(1, arg, node.first, node.second, out, at),
-        3 => put_leaf(3, arg, 0, 0, out, at),
-        4 => {
+        CONSTANT => put_leaf(CONSTANT_BYTE, arg, node.first, node.second, out, at),
+        FIELD => put_leaf(FIELD_BYTE, arg, 0, 0, out, at),
+        ENTRY => {
             let key = write_body_form(file, function_at, nodes_at, node.first, i, out, at, base);
-            put_above_one(4, arg, key, out, at, base)
+            put_above_one(ENTRY_BYTE, arg, key, out, at, base)
         }
-        5 => put_leaf(5, arg, 0, 0, out, at),
-        6 => write_body_operator(file, function_at, nodes_at, n, i, out, at, base),
-        7 => write_body_negation(file, function_at, nodes_at, n, i, out, at, base),
-        8 => put_leaf(9, 0, i, 0, out, at),
-        _ => put_leaf(2, 0, 0, 0, out, at),
+        PARAMETER => put_leaf(PARAMETER_BYTE, arg, 0, 0, out, at),
+        OPERATOR => write_body_operator(file, function_at, nodes_at, n, i, out, at, base),
+        NOT => write_body_negation(file, function_at, nodes_at, n, i, out, at, base),
+        REVEAL => put_leaf(VARIABLE_BYTE, 0, i, 0, out, at),
+        _ => put_leaf(ME_BYTE, 0, 0, 0, out, at),
     }
 }
 
@@ -77,9 +92,9 @@ pub fn write_body_operator(
         let a = at + 8 * left;
         let b = base + left;
         let right = write_body_form(file, function_at, nodes_at, node.second, j, out, a, b);
-        put_above_two(6, arg, left, right, out, at, base)
+        put_above_two(OPERATOR_BYTE, arg, left, right, out, at, base)
     } else {
-        put_leaf(9, 0, i, 0, out, at)
+        put_leaf(VARIABLE_BYTE, 0, i, 0, out, at)
     }
 }
 
@@ -105,8 +120,8 @@ pub fn write_body_negation(
     let node = node_at(file, nodes_at, n);
     if is_public(file, function_at, nodes_at, n) {
         let part = write_body_form(file, function_at, nodes_at, node.first, i, out, at, base);
-        put_above_one(7, 0, part, out, at, base)
+        put_above_one(NOT_BYTE, 0, part, out, at, base)
     } else {
-        put_leaf(9, 0, i, 0, out, at)
+        put_leaf(VARIABLE_BYTE, 0, i, 0, out, at)
     }
 }

@@ -1,5 +1,17 @@
 // 01, Rewriting: the nodes of an expression's form in a circuit, written behind others.
 use file_bytes::node_at;
+use file_kinds::CONSTANT;
+use file_kinds::CONSTANT_BYTE;
+use file_kinds::ENTRY;
+use file_kinds::FIELD;
+use file_kinds::ME_BYTE;
+use file_kinds::NOT;
+use file_kinds::NOT_BYTE;
+use file_kinds::OPERATOR;
+use file_kinds::OPERATOR_BYTE;
+use file_kinds::PARAMETER;
+use file_kinds::REVEAL;
+use file_kinds::VARIABLE_BYTE;
 use rewrite_owners::is_public;
 use write_nodes::put_above_one;
 use write_nodes::put_above_two;
@@ -39,15 +51,15 @@ pub fn write_circuit_form(
     let kind = node.kind;
     let arg = node.arg as u8;
     match kind {
-        1 => put_leaf(1, arg, node.first, node.second, out, at),
-        3 => put_read(is_public(file, function_at, nodes_at, n), i, out, at),
-        4 => {
+        CONSTANT => put_leaf(CONSTANT_BYTE, arg, node.first, node.second, out, at),
+        FIELD => put_read(is_public(file, function_at, nodes_at, n), i, out, at),
+        ENTRY => {
             let j = i + body_count(file, function_at, nodes_at, node.first);
             put_read(is_public(file, function_at, nodes_at, n), j, out, at)
         }
-        5 => put_read(is_public(file, function_at, nodes_at, n), i, out, at),
-        6 => write_circuit_operator(file, function_at, nodes_at, n, i, out, at, base),
-        7 => {
+        PARAMETER => put_read(is_public(file, function_at, nodes_at, n), i, out, at),
+        OPERATOR => write_circuit_operator(file, function_at, nodes_at, n, i, out, at, base),
+        NOT => {
             let part = write_circuit_form(
                 file,
                 function_at,
@@ -58,10 +70,10 @@ pub fn write_circuit_form(
                 at,
                 base,
             );
-            put_above_one(7, 0, part, out, at, base)
+            put_above_one(NOT_BYTE, 0, part, out, at, base)
         }
-        8 => write_circuit_form(file, function_at, nodes_at, node.first, i, out, at, base),
-        _ => put_leaf(2, 0, 0, 0, out, at),
+        REVEAL => write_circuit_form(file, function_at, nodes_at, node.first, i, out, at, base),
+        _ => put_leaf(ME_BYTE, 0, 0, 0, out, at),
     }
 }
 
@@ -89,13 +101,13 @@ fn write_circuit_operator(
     if is_public_division(file, function_at, nodes_at, n, node.arg) {
         let j = i + body_count(file, function_at, nodes_at, node.first);
         let k = j + body_count(file, function_at, nodes_at, node.second);
-        put_leaf(9, 0, k, 0, out, at)
+        put_leaf(VARIABLE_BYTE, 0, k, 0, out, at)
     } else {
         let j = i + circuit_count(file, function_at, nodes_at, node.first);
         let left = write_circuit_form(file, function_at, nodes_at, node.first, i, out, at, base);
         let a = at + 8 * left;
         let b = base + left;
         let right = write_circuit_form(file, function_at, nodes_at, node.second, j, out, a, b);
-        put_above_two(6, arg, left, right, out, at, base)
+        put_above_two(OPERATOR_BYTE, arg, left, right, out, at, base)
     }
 }

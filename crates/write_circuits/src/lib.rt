@@ -1,5 +1,6 @@
 // 01, Rewriting: the circuits of a log's claims written behind one another, and the claims' numbers.
 use memory_buffer::put_number;
+use rewrite_log::CLAIM_LOGGED;
 use write_circuit_expressions::write_circuit_form;
 ghost use mathlib.Core.Path.{_≡_};
 ghost use Prim.Native.Nat.{_+_, _*_, _≤_};
@@ -86,7 +87,7 @@ pub fn put_circuits(
 {
     if left == 0 {
         Circuits { count: 0, nodes: 0 }
-    } else if log[from] == 1 {
+    } else if log[from] == CLAIM_LOGGED {
         let nodes = put_circuit(file, function_at, nodes_at, log, from, out, at, base);
         put_claim(log, from, (base + nodes - 1) as u16, numbers, noted);
         let later = put_circuits(

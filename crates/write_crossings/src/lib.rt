@@ -1,4 +1,6 @@
 // 02, Note 2: "each function's count of variables with origins 0 to 3", from the log that its variables are written from.
+use rewrite_log::READ_LOGGED;
+use rewrite_log::SUPPLIED_LOGGED;
 use write_variables::count_tag;
 ghost use mathlib.Core.Path.{_≡_};
 ghost use mathlib.Core.List.{[]};
@@ -24,7 +26,7 @@ pub fn count_crossings(private: usize, log: &[u16]) -> u16
     requires { ⌜ (private ≤ 1024) × (length (now log) ≤ 7680) ⌝ }
     ensures { λ r. ⌜ r ≡ private + (countTag 0 (now (log .entry)) + countTag 2 (now (log .entry))) ⌝ }
 {
-    let made = count_tag(log, 0) + count_tag(log, 2);
+    let made = count_tag(log, SUPPLIED_LOGGED) + count_tag(log, READ_LOGGED);
     (private + made) as u16
 }
 

@@ -1,5 +1,6 @@
 // 01, Rewriting: the fields as they are written, "Fields keep their layout; private ones get type 3 (cell)".
 use file_bytes::byte_at;
+use file_kinds::CELL;
 use memory_append::append_byte;
 ghost use mathlib.Core.Path.{_≡_};
 ghost use mathlib.Core.Bool.{true};
@@ -15,7 +16,7 @@ fn written_type(kind: usize, owner: usize) -> usize
     ensures { λ r. ⌜ r ≡ writtenType kind owner ⌝ }
     ensures { λ r. ⌜ r ≤ 255 ⌝ }
 {
-    if owner == 0 { kind } else { 3 }
+    if owner == 0 { kind } else { CELL }
 }
 
 fn append_field(shape: usize, kind: usize, owner: usize, out: &mut [u8], at: usize) -> usize

@@ -2,6 +2,9 @@
 use file_bytes::byte_at;
 use file_bytes::function_end;
 use file_bytes::two_bytes_at;
+use file_kinds::PARAMETER_BYTE;
+use file_kinds::SEQUENCE_BYTE;
+use file_kinds::VERIFY_BYTE;
 use memory_buffer::put_number;
 use write_bodies::write_statement;
 use write_nodes::put_above_two;
@@ -43,7 +46,7 @@ pub fn put_openings(
     if byte_at(file, place + 1) == 0 {
         return put_openings(file, next, left - 1, k + 1, i, roots, out, at, base);
     }
-    put_leaf(5, k as u8, 0, 0, out, at);
+    put_leaf(PARAMETER_BYTE, k as u8, 0, 0, out, at);
     put_setting(i, 1, out, at, base);
     put_number(roots, i, (base + 1) as u16);
     let later = put_openings(
@@ -95,8 +98,8 @@ pub fn write_passage(
     );
     let nodes = body.nodes;
     if verified {
-        put_leaf(23, 0, 0, 0, out, at + 8 * nodes);
-        put_above_two(17, 0, nodes, 1, out, at, base)
+        put_leaf(VERIFY_BYTE, 0, 0, 0, out, at + 8 * nodes);
+        put_above_two(SEQUENCE_BYTE, 0, nodes, 1, out, at, base)
     } else {
         nodes
     }

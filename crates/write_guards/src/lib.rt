@@ -1,4 +1,6 @@
 // 01, Rewriting: "Each branch begins by setting a guard variable of its own to true": the nodes of that setting.
+use file_kinds::BOOL_BYTE;
+use file_kinds::CONSTANT_BYTE;
 use write_nodes::put_leaf;
 use write_nodes::put_setting;
 ghost use Prim.Native.Nat.{_+_, _≤_};
@@ -13,6 +15,6 @@ pub fn put_guard(variable: usize, out: &mut [u8], at: usize, base: usize) -> usi
     ensures { λ r. ⌜ Numbered (now (out .entry)) (now (out .exit)) at base
         (commandTree (Command.setVariable variable (BodyExpression.constant boolean 1))) r ⌝ }
 {
-    put_leaf(1, 0, 1, 0, out, at);
+    put_leaf(CONSTANT_BYTE, BOOL_BYTE, 1, 0, out, at);
     put_setting(variable, 1, out, at, base)
 }

@@ -3,6 +3,7 @@ use file_bytes::byte_at;
 use memory_append::append;
 use memory_append::append_byte;
 use memory_append::append_two_bytes;
+use rewrite_log::CLAIM_LOGGED;
 use write_parameters::append_opening_claims;
 use write_parameters::append_opening_variables;
 use write_parameters::append_parameters;
@@ -55,7 +56,7 @@ fn append_claim_part(private: usize, log: &[u16], claims: &[u8], out: &mut [u8],
     requires { ⌜ (private + countTag 1 (now log) ≤ 65535) × (at + length (claimPart private (now log) (now claims)) ≤ length (now out)) ⌝ }
     ensures { λ r. ⌜ Appended (now (out .entry)) (now (out .exit)) at (claimPart private (now (log .entry)) (now (claims .entry))) r ⌝ }
 {
-    let count = append_two_bytes(private + count_tag(log, 1), out, at);
+    let count = append_two_bytes(private + count_tag(log, CLAIM_LOGGED), out, at);
     let opened = append_opening_claims(private, out, count);
     append(claims, out, opened)
 }

@@ -1,4 +1,5 @@
 // 01, The contract file: nodes of eight bytes appended to a lent buffer.
+use file_kinds::SET_BYTE;
 use memory_append::append_byte;
 use memory_append::append_two_bytes;
 ghost use mathlib.Core.Path.{_≡_};
@@ -88,7 +89,15 @@ pub fn put_setting(variable: usize, nodes: usize, out: &mut [u8], at: usize, bas
         (nodeBytes (node 22 0 variable (base + nodes - 1) 0)))
         × (r ≡ nodes + 1) ⌝ }
 {
-    put_node(22, 0, variable, base + nodes - 1, 0, out, at + 8 * nodes);
+    put_node(
+        SET_BYTE,
+        0,
+        variable,
+        base + nodes - 1,
+        0,
+        out,
+        at + 8 * nodes,
+    );
     nodes + 1
 }
 

@@ -1,7 +1,14 @@
 // 01, Rewriting: a function's parameters as they are written, and the reads that open its private ones.
 use file_bytes::byte_at;
+use file_kinds::ADDRESS_BYTE;
+use file_kinds::BOOL;
+use file_kinds::BOOL_BYTE;
+use file_kinds::CELL_BYTE;
+use file_kinds::UINT;
+use file_kinds::UINT_BYTE;
 use memory_append::append_byte;
 use memory_append::append_two_bytes;
+use write_variables::READ_CELL;
 ghost use mathlib.Core.Path.{_≡_};
 ghost use mathlib.Core.List.{_++_};
 ghost use Prim.Native.Nat.{_+_, _*_, _≤_};
@@ -16,12 +23,12 @@ ghost use Rattle.write_parameters.specs.Parameters.{openingClaims};
 fn type_code(code: usize) -> u8
     ensures { λ r. ⌜ r ≡ dataTypeCode (dataTypeOf code) ⌝ }
 {
-    if code == 0 {
-        0
-    } else if code == 1 {
-        1
+    if code == BOOL {
+        BOOL_BYTE
+    } else if code == UINT {
+        UINT_BYTE
     } else {
-        2
+        ADDRESS_BYTE
     }
 }
 
@@ -34,7 +41,7 @@ fn append_parameter(kind: usize, owner: usize, out: &mut [u8], at: usize) -> usi
         let next = append_byte(type_code(kind), out, at);
         append_byte(0, out, next)
     } else {
-        let next = append_byte(3, out, at);
+        let next = append_byte(CELL_BYTE, out, at);
         append_byte(1, out, next)
     }
 }
@@ -92,7 +99,7 @@ pub fn append_opening_variables(count: usize, out: &mut [u8], from: usize) -> us
     let mut left = count;
     let mut at = from;
     while 0 < left {
-        let next = append_byte(3, out, at);
+        let next = append_byte(READ_CELL, out, at);
         at = append_byte(1, out, next);
         left -= 1;
     }

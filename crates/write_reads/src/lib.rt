@@ -1,4 +1,6 @@
 // A variable read in a circuit: as it stands where it is plain, opened where it is a cell.
+use file_kinds::OPENED_BYTE;
+use file_kinds::VARIABLE_BYTE;
 use write_nodes::put_leaf;
 ghost use mathlib.Core.Path.{_≡_};
 ghost use Prim.Native.Nat.{_+_, _≤_};
@@ -14,8 +16,8 @@ pub fn put_read(public: bool, variable: usize, out: &mut [u8], at: usize) -> usi
     ensures { λ r. ⌜ (now (out .exit) ≡ stored (now (out .entry)) at (nodeBytes (node (readKind public) 0 variable 0 0))) × (r ≡ 1) ⌝ }
 {
     if public {
-        put_leaf(9, 0, variable, 0, out, at)
+        put_leaf(VARIABLE_BYTE, 0, variable, 0, out, at)
     } else {
-        put_leaf(10, 0, variable, 0, out, at)
+        put_leaf(OPENED_BYTE, 0, variable, 0, out, at)
     }
 }

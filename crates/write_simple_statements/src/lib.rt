@@ -1,5 +1,15 @@
 // 01, Rewriting: the nodes of a statement that holds no other, without the steps before it.
 use file_bytes::node_at;
+use file_kinds::ENTRY_TAKES;
+use file_kinds::ENTRY_TAKES_BYTE;
+use file_kinds::FIELD_TAKES;
+use file_kinds::FIELD_TAKES_BYTE;
+use file_kinds::IF;
+use file_kinds::REQUIRE;
+use file_kinds::REQUIRE_BYTE;
+use file_kinds::SEQUENCE;
+use file_kinds::SKIP_BYTE;
+use file_kinds::VARIABLE_BYTE;
 use rewrite_owners::field_owner;
 use rewrite_owners::is_public;
 use write_body_expressions::write_body_form;
@@ -72,7 +82,7 @@ pub fn write_placed_form(
 {
     if private {
         if is_public(file, function_at, nodes_at, n) {
-            put_leaf(9, 0, i, 0, out, at)
+            put_leaf(VARIABLE_BYTE, 0, i, 0, out, at)
         } else {
             write_body_form(file, function_at, nodes_at, n, i, out, at, base)
         }
@@ -91,18 +101,18 @@ pub fn statement_count(file: &[u8], function_at: usize, nodes_at: usize, n: usiz
     let node = node_at(file, nodes_at, n);
     let kind = node.kind;
     match kind {
-        17 => 0,
-        18 => {
+        SEQUENCE => 0,
+        FIELD_TAKES => {
             let private = is_private_place(file, node.arg);
             placed_count(file, function_at, nodes_at, private, node.first)
         }
-        19 => {
+        ENTRY_TAKES => {
             let private = is_private_place(file, node.arg);
             let key = body_count(file, function_at, nodes_at, node.first);
             key + placed_count(file, function_at, nodes_at, private, node.second)
         }
-        20 => body_count(file, function_at, nodes_at, node.first),
-        21 => 0,
+        REQUIRE => body_count(file, function_at, nodes_at, node.first),
+        IF => 0,
         _ => 0,
     }
 }
@@ -140,7 +150,7 @@ fn write_field_form(
         at,
         base,
     );
-    put_above_one(18, arg, value, out, at, base)
+    put_above_one(FIELD_TAKES_BYTE, arg, value, out, at, base)
 }
 
 // An assignment to an entry: key and value, and the statement above them.
@@ -180,7 +190,7 @@ fn write_entry_form(
         a,
         b,
     );
-    put_above_two(19, arg, key, value, out, at, base)
+    put_above_two(ENTRY_TAKES_BYTE, arg, key, value, out, at, base)
 }
 
 // A requirement: the condition and the statement above it.
@@ -204,7 +214,7 @@ fn write_require_form(
 {
     let node = node_at(file, nodes_at, n);
     let condition = write_body_form(file, function_at, nodes_at, node.first, i, out, at, base);
-    put_above_one(20, 0, condition, out, at, base)
+    put_above_one(REQUIRE_BYTE, 0, condition, out, at, base)
 }
 
 // The form of node n, a statement that holds no other, whose first variable is number i; the answer is how many nodes it has.
@@ -228,11 +238,11 @@ pub fn write_statement_form(
     let node = node_at(file, nodes_at, n);
     let kind = node.kind;
     match kind {
-        17 => put_leaf(16, 0, 0, 0, out, at),
-        18 => write_field_form(file, function_at, nodes_at, n, i, out, at, base),
-        19 => write_entry_form(file, function_at, nodes_at, n, i, out, at, base),
-        20 => write_require_form(file, function_at, nodes_at, n, i, out, at, base),
-        21 => put_leaf(16, 0, 0, 0, out, at),
-        _ => put_leaf(16, 0, 0, 0, out, at),
+        SEQUENCE => put_leaf(SKIP_BYTE, 0, 0, 0, out, at),
+        FIELD_TAKES => write_field_form(file, function_at, nodes_at, n, i, out, at, base),
+        ENTRY_TAKES => write_entry_form(file, function_at, nodes_at, n, i, out, at, base),
+        REQUIRE => write_require_form(file, function_at, nodes_at, n, i, out, at, base),
+        IF => put_leaf(SKIP_BYTE, 0, 0, 0, out, at),
+        _ => put_leaf(SKIP_BYTE, 0, 0, 0, out, at),
     }
 }

@@ -1,5 +1,7 @@
 // 01, Rewriting: steps that set read variables, and the sequences that nest them before a rest.
+use file_kinds::SEQUENCE_BYTE;
 use memory_buffer::put_number;
+use rewrite_log::READ_LOGGED;
 use write_body_expressions::write_body_form;
 use write_nodes::put_node;
 use write_nodes::put_setting;
@@ -69,7 +71,7 @@ pub fn put_steps(
 {
     if left == 0 {
         Steps { count: 0, nodes: 0 }
-    } else if log[from] == 2 {
+    } else if log[from] == READ_LOGGED {
         let variable = log[from + 1] as usize;
         let n = log[from + 3] as usize;
         let i = log[from + 4] as usize;
@@ -116,7 +118,7 @@ pub fn close_steps(roots: &[u16], count: usize, top: usize, out: &mut [u8], at: 
 {
     if 0 < count {
         let root = roots[count - 1] as usize;
-        put_node(17, 0, root, top, 0, out, at);
+        put_node(SEQUENCE_BYTE, 0, root, top, 0, out, at);
         close_steps(roots, count - 1, top + 1, out, at + 8);
     }
 }

@@ -1,5 +1,14 @@
 // 01, Rewriting: how many variables the body's and the circuit's form of a node make.
 use file_bytes::node_at;
+use file_kinds::CONSTANT;
+use file_kinds::DIVIDED;
+use file_kinds::ENTRY;
+use file_kinds::FIELD;
+use file_kinds::NOT;
+use file_kinds::OPERATOR;
+use file_kinds::PARAMETER;
+use file_kinds::REMAINDER;
+use file_kinds::REVEAL;
 use rewrite_owners::is_public;
 ghost use mathlib.Core.Path.{_≡_};
 ghost use mathlib.Core.Bool.{_&&_};
@@ -23,8 +32,8 @@ pub fn is_public_division(
         && isDivision (operatorOf code)) ⌝ }
 {
     match code {
-        3 => is_public(file, function_at, nodes_at, n),
-        4 => is_public(file, function_at, nodes_at, n),
+        DIVIDED => is_public(file, function_at, nodes_at, n),
+        REMAINDER => is_public(file, function_at, nodes_at, n),
         _ => false,
     }
 }
@@ -39,11 +48,11 @@ pub fn body_count(file: &[u8], function_at: usize, nodes_at: usize, n: usize) ->
     let node = node_at(file, nodes_at, n);
     let kind = node.kind;
     match kind {
-        1 => 0,
-        3 => 0,
-        4 => body_count(file, function_at, nodes_at, node.first),
-        5 => 0,
-        6 => {
+        CONSTANT => 0,
+        FIELD => 0,
+        ENTRY => body_count(file, function_at, nodes_at, node.first),
+        PARAMETER => 0,
+        OPERATOR => {
             if is_public(file, function_at, nodes_at, n) {
                 let left = body_count(file, function_at, nodes_at, node.first);
                 let right = body_count(file, function_at, nodes_at, node.second);
@@ -52,14 +61,14 @@ pub fn body_count(file: &[u8], function_at: usize, nodes_at: usize, n: usize) ->
                 circuit_count(file, function_at, nodes_at, n) + 1
             }
         }
-        7 => {
+        NOT => {
             if is_public(file, function_at, nodes_at, n) {
                 body_count(file, function_at, nodes_at, node.first)
             } else {
                 circuit_count(file, function_at, nodes_at, n) + 1
             }
         }
-        8 => circuit_count(file, function_at, nodes_at, n) + 1,
+        REVEAL => circuit_count(file, function_at, nodes_at, n) + 1,
         _ => 0,
     }
 }
@@ -74,11 +83,11 @@ pub fn circuit_count(file: &[u8], function_at: usize, nodes_at: usize, n: usize)
     let node = node_at(file, nodes_at, n);
     let kind = node.kind;
     match kind {
-        1 => 0,
-        3 => 1,
-        4 => body_count(file, function_at, nodes_at, node.first) + 1,
-        5 => 1,
-        6 => {
+        CONSTANT => 0,
+        FIELD => 1,
+        ENTRY => body_count(file, function_at, nodes_at, node.first) + 1,
+        PARAMETER => 1,
+        OPERATOR => {
             if is_public_division(file, function_at, nodes_at, n, node.arg) {
                 let left = body_count(file, function_at, nodes_at, node.first);
                 let right = body_count(file, function_at, nodes_at, node.second);
@@ -89,8 +98,8 @@ pub fn circuit_count(file: &[u8], function_at: usize, nodes_at: usize, n: usize)
                 left + right
             }
         }
-        7 => circuit_count(file, function_at, nodes_at, node.first),
-        8 => circuit_count(file, function_at, nodes_at, node.first),
+        NOT => circuit_count(file, function_at, nodes_at, node.first),
+        REVEAL => circuit_count(file, function_at, nodes_at, node.first),
         _ => 0,
     }
 }

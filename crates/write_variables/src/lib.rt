@@ -1,5 +1,8 @@
 // 01, Rewriting: a function's variables and keys, written from its log.
 use memory_append::append_byte;
+use rewrite_log::CLAIM_LOGGED;
+use rewrite_log::READ_LOGGED;
+use rewrite_log::SUPPLIED_LOGGED;
 ghost use mathlib.Core.Path.{_≡_};
 ghost use mathlib.Core.List.{[], _∷_};
 ghost use Prim.Native.Nat.{_+_, _≤_};
@@ -8,6 +11,17 @@ ghost use Rattle.memory_append.specs.Append.{Appended};
 ghost use Rattle.write_variables.specs.PerEntry.{perEntry, ofTag, countTag};
 ghost use Rattle.write_variables.specs.Variables.{originOf, variableOf, keyCode, onceUnseen, seenIn, KeysTaken};
 ghost use Rattle.definitions.specs.Rewriting.{eachOnce};
+
+// "Origins: 0 supplied plain, 1 supplied cell, 2 read plain, 3 read cell, 4 guard."
+pub const SUPPLIED_PLAIN: u8 = 0;
+
+pub const SUPPLIED_CELL: u8 = 1;
+
+pub const READ_PLAIN: u8 = 2;
+
+pub const READ_CELL: u8 = 3;
+
+pub const GUARD: u8 = 4;
 
 // 1 where two numbers are the same.
 fn one_if_same(a: u16, b: u16) -> usize
@@ -30,16 +44,20 @@ pub fn count_tag(log: &[u16], tag: u16) -> usize
     count
 }
 
-// "Origins: 0 supplied plain, 1 supplied cell, 2 read plain, 3 read cell, 4 guard."
+// The origin of an entry's variable. A claim makes none.
 fn origin_of(tag: u16, owner: u16) -> u8
     ensures { λ r. ⌜ r ≡ originOf tag owner ⌝ }
 {
-    if tag == 0 {
-        if owner == 0 { 0 } else { 1 }
-    } else if tag == 2 {
-        if owner == 0 { 2 } else { 3 }
+    if tag == SUPPLIED_LOGGED {
+        if owner == 0 {
+            SUPPLIED_PLAIN
+        } else {
+            SUPPLIED_CELL
+        }
+    } else if tag == READ_LOGGED {
+        if owner == 0 { READ_PLAIN } else { READ_CELL }
     } else {
-        4
+        GUARD
     }
 }
 
@@ -48,7 +66,7 @@ fn append_variable(tag: u16, owner: u16, out: &mut [u8], at: usize) -> usize
     requires { ⌜ at + length (variableOf tag 0 owner 0 0) ≤ length (now out) ⌝ }
     ensures { λ r. ⌜ Appended (now (out .entry)) (now (out .exit)) at (variableOf tag 0 owner 0 0) r ⌝ }
 {
-    if tag == 1 {
+    if tag == CLAIM_LOGGED {
         at
     } else {
         let next = append_byte(origin_of(tag, owner), out, at);
@@ -91,7 +109,7 @@ fn append_key(tag: u16, owner: u16, table: &mut [u8], out: &mut [u8], at: usize)
     ensures { λ r. ⌜ KeysTaken (now (table .entry)) (now (table .exit)) (keyCode tag 0 owner 0 0)
         (now (out .entry)) (now (out .exit)) at r ⌝ }
 {
-    if tag == 0 {
+    if tag == SUPPLIED_LOGGED {
         if owner == 0 {
             at
         } else {
