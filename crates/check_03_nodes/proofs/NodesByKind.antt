@@ -1,20 +1,11 @@
--- A node against the tables by its kind's number, and the loop over the nodes.
+-- A node against the tables by its kind's number.
 use mathlib.Core.Path.{_≡_, ap, sym, _∙_}
-use mathlib.Core.Bool.{Bool, true, false, not}
-use mathlib.Core.List.{List}
+use mathlib.Core.Bool.{Bool, false}
 use mathlib.Core.Logic.{_⊎_, inl, inr, ⊎-elim}
-use Prim.Native.Nat.{ℕ, _+_, _-_, _<_, _≤_}
+use Prim.Native.Nat.{ℕ}
 use borrow.Author.Tests.{ne-eqb}
-use Rattle.definitions.specs.Basics.{any}
 use Rattle.definitions.specs.ContractFile.{NodeRecord, kindOf}
 use Rattle.definitions.specs.Numbers.{kindInTables, nodeInTables}
-use Rattle.file_bytes.specs.declared.Node.{Node}
-use Rattle.file_bytes.specs.Node.{recordOf}
-use Rattle.file_decoded.specs.Slices.{nodeFrom, nodesFrom}
-use Rattle.file_decoded.specs.Node.{IsDecoded}
-use Rattle.file_decoded.proofs.Records.{nodes-step, nodes-end}
-use Rattle.file_children.proofs.Loops.{any-next, any-found, any-done}
-use Rattle.check_03_nodes.specs.Outside.{nodeOutside}
 
 -- A node of a known kind.
 pub of-kind : (r : NodeRecord) (n : ℕ) → r .kind ≡ n → nodeInTables r ≡ kindInTables (kindOf n) r
@@ -23,20 +14,6 @@ of-kind r n e = ap (λ (m : ℕ). kindInTables (kindOf m) r) e
 pub of-two-kinds : (r : NodeRecord) (n m : ℕ) (answer : Bool) → answer ≡ kindInTables (kindOf n) r → answer ≡ kindInTables (kindOf m) r
     → (r .kind ≡ n) ⊎ (r .kind ≡ m) → answer ≡ nodeInTables r
 of-two-kinds r n m answer a b = ⊎-elim (λ e. a ∙ sym (of-kind r n e)) (λ e. b ∙ sym (of-kind r m e))
-
-module _ (left : ℕ) (nodes : List ℕ) (at : ℕ) (goal : Bool) (inv : any nodeOutside (nodesFrom left nodes at) ≡ goal) where
-  module _ (h : 0 < left) (node : Node) (is : IsDecoded (nodeFrom nodes at) node) (inside : Bool) (e : inside ≡ nodeInTables (recordOf node)) where
-    node-asked : nodeOutside (nodeFrom nodes at) ≡ not inside
-    node-asked = ap nodeOutside (sym (is .same)) ∙ ap not (sym e)
-
-    pub node-inside : not inside ≡ false → any nodeOutside (nodesFrom (left - 1) nodes (at + 5)) ≡ goal
-    node-inside t = any-next nodeOutside _ _ _ goal (nodes-step nodes at left h) inv (node-asked ∙ t)
-
-    pub node-outside : not inside ≡ true → true ≡ goal
-    node-outside t = any-found nodeOutside _ _ _ goal (nodes-step nodes at left h) inv (node-asked ∙ t)
-
-  pub nodes-inside : left ≤ 0 → false ≡ goal
-  nodes-inside h = any-done nodeOutside _ goal (nodes-end nodes at left h) inv
 
 -- A kind that is none of the listed ones.
 pub of-no-kind : (r : NodeRecord) → (r .kind ≡ 1 → ⊥) → ((r .kind ≡ 2) ⊎ (r .kind ≡ 16) → ⊥) → ((r .kind ≡ 3) ⊎ (r .kind ≡ 5) → ⊥)

@@ -1,9 +1,6 @@
-// Number 3 for nodes, and for the whole file.
-use check_03_declarations::fields_outside;
-use check_03_declarations::functions_outside;
+// Number 3 for one node: its kind, its arg and the parts that its kind doesn't use.
 use check_03_declarations::is_final_code;
 use file_bytes::Node;
-use file_decoded::node_from;
 use file_kinds::ADDRESS;
 use file_kinds::BOOL;
 use file_kinds::CONSTANT;
@@ -26,15 +23,12 @@ use file_kinds::SKIP;
 use file_kinds::UINT;
 ghost use mathlib.Core.Path.{_≡_};
 ghost use mathlib.Core.Bool.{_&&_};
-ghost use Prim.Native.Nat.{_+_, _*_, _/_, _≤_};
+ghost use Prim.Native.Nat.{_+_, _*_, _≤_};
 ghost use lib.Dec.{leb};
-ghost use lib.ListN.{length};
-ghost use Rattle.definitions.specs.Basics.{any, isZero};
+ghost use Rattle.definitions.specs.Basics.{isZero};
 ghost use Rattle.definitions.specs.ContractFile.{isParameterCode, dataTypeOf, isOfType};
-ghost use Rattle.definitions.specs.Numbers.{targetInTables, nodeInTables, outsideTables};
+ghost use Rattle.definitions.specs.Numbers.{targetInTables, nodeInTables};
 ghost use Rattle.file_bytes.specs.Node.{recordOf};
-ghost use Rattle.file_decoded.specs.Slices.{nodesFrom, sectionsFrom, ParametersInside};
-ghost use Rattle.check_03_nodes.specs.Outside.{nodeOutside};
 
 fn is_parameter_code(code: usize) -> bool
     ensures { λ r. ⌜ r ≡ isParameterCode code ⌝ }
@@ -98,7 +92,7 @@ fn zeros(a: usize, b: usize, c: usize, d: usize) -> bool
 }
 
 // "Parts that a kind doesn't use are zero."
-fn node_in_tables(node: Node) -> bool
+pub fn node_in_tables(node: Node) -> bool
     requires { ⌜ (node .first ≤ 65535) × (node .second ≤ 65535) ⌝ }
     ensures { λ r. ⌜ r ≡ nodeInTables (recordOf node) ⌝ }
 {
@@ -120,36 +114,4 @@ fn node_in_tables(node: Node) -> bool
         IF => arg == 0,
         _ => false,
     }
-}
-
-// Whether some of the nodes is outside the tables.
-fn nodes_outside(nodes: &[u16]) -> bool
-    ensures { λ r. ⌜ r ≡ any nodeOutside (nodesFrom (length (now (nodes .entry)) / 5) (now (nodes .entry)) 0) ⌝ }
-{
-    let mut at: usize = 0;
-    let mut left = nodes.len() / 5;
-    while 0 < left {
-        let node = node_from(nodes, at);
-        if !node_in_tables(node) {
-            return true;
-        }
-        at += 5;
-        left -= 1;
-    }
-    false
-}
-
-// "3. A shape, type, owner code, kind, operator, constant or unused part is outside the tables above."
-pub fn outside_tables(fields: &[u16], functions: &[u16], parameters: &[u16], nodes: &[u16]) -> bool
-    requires { ⌜ ParametersInside (now functions) (now parameters) ⌝ }
-    ensures { λ r. ⌜ r ≡ outsideTables (sectionsFrom (now (fields .entry)) (now (functions .entry))
-        (now (parameters .entry)) (now (nodes .entry))) ⌝ }
-{
-    if fields_outside(fields) {
-        return true;
-    }
-    if functions_outside(functions, parameters) {
-        return true;
-    }
-    nodes_outside(nodes)
 }

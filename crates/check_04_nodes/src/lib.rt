@@ -9,7 +9,7 @@ ghost use lib.Dec.{leb};
 ghost use Rattle.definitions.specs.Basics.{any};
 ghost use Rattle.definitions.specs.ContractFile.{nodeOf, fieldsNamed, children};
 ghost use Rattle.file_bytes.specs.Node.{recordOf};
-ghost use Rattle.check_04_nodes.specs.Naming.{naming};
+ghost use Rattle.check_04_nodes.specs.Naming.{naming, nodeNamesNothing};
 
 pub const NAMING: [usize; 22] = [
     0,
@@ -55,7 +55,7 @@ pub fn final_number(code: usize) -> usize
 }
 
 // Whether a node's arg names no field.
-pub fn arg_names_nothing(fields: usize, node: Node) -> bool
+fn arg_names_nothing(fields: usize, node: Node) -> bool
     ensures { λ r. ⌜ r ≡ any (leb fields) (fieldsNamed (nodeOf (recordOf node))) ⌝ }
 {
     let arg = node.arg;
@@ -73,7 +73,7 @@ pub fn arg_names_nothing(fields: usize, node: Node) -> bool
 }
 
 // Whether some child's number is not below n.
-pub fn child_not_below(n: usize, node: Node) -> bool
+fn child_not_below(n: usize, node: Node) -> bool
     ensures { λ r. ⌜ r ≡ any (leb n) (children (nodeOf (recordOf node))) ⌝ }
 {
     let count = child_count(node.kind);
@@ -93,4 +93,14 @@ pub fn child_not_below(n: usize, node: Node) -> bool
         return false;
     }
     n <= node.third
+}
+
+// "4. A field number, in owner codes too, names nothing, .. or a child's number isn't below its parent's.": of the node n.
+pub fn node_names_nothing(fields: usize, n: usize, node: Node) -> bool
+    ensures { λ r. ⌜ r ≡ nodeNamesNothing fields n (recordOf node) ⌝ }
+{
+    if arg_names_nothing(fields, node) {
+        return true;
+    }
+    child_not_below(n, node)
 }

@@ -6,18 +6,19 @@ use Prim.Native.Nat.{ℕ, zero, suc, _+_, _*_, _-_, _<_, _≤_}
 use native.Mathlib.Numerals.{add-one}
 use native.Mathlib.Omega.{arith}
 use lib.Dec.{eqb}
-use lib.ListN.{length, getD, take, replicate, getD-replicate, length-map}
+use lib.ListN.{length, getD, take, replicate, getD-replicate}
 use borrow.Author.Tests.{eq-eqb, ne-eqb}
 use Rattle.definitions.specs.Basics.{anyNumbered, countIf, flatMap}
 use Rattle.definitions.specs.ContractFile.{NodeRecord, Sections, nodeOf, children}
 use Rattle.definitions.specs.Numbers.{usesOf, usedOtherThanOnce}
+use Rattle.theory_laws.proofs.Lists.{count-append}
 use Rattle.file_bytes.specs.declared.Node.{Node}
 use Rattle.file_bytes.specs.Node.{recordOf}
 use Rattle.file_children.specs.Children.{childCount}
 use Rattle.file_children.proofs.Children.{children-are}
 use Rattle.file_decoded.specs.Slices.{numberAt, functionsFrom, nodeFrom, nodesFrom}
 use Rattle.file_decoded.specs.Node.{IsDecoded}
-use Rattle.file_decoded.proofs.Records.{functions-length, functions-step, functions-end, nodes-step, nodes-end}
+use Rattle.file_decoded.proofs.Records.{functions-step, functions-end, nodes-step, nodes-end}
 use Rattle.check_05_uses.specs.Counting.{Room, Counted, rootOf, childrenOf, otherThanOne, anyFrom}
 use Rattle.check_05_uses.proofs.UseCounts.{counted-none, counted-more, room-after}
 
@@ -70,10 +71,10 @@ take-few (suc (suc (suc zero))) a b c = omega arith
 take-few (suc (suc (suc (suc n)))) a b c = omega arith
 
 -- A node has at most three children.
-pub room-after-node : (r : NodeRecord) (a b : List ℕ) (left : ℕ) → 0 < left → Counted a b (children (nodeOf r)) → Room a (3 * left) → Room b
-    (3 * (left - 1))
-room-after-node r a b left h c room =
-    room-after a b (children (nodeOf r)) (3 * left) (3 * (left - 1)) c room
+pub room-after-node : (r : NodeRecord) (a b : List ℕ) (left more : ℕ) → 0 < left → Counted a b (children (nodeOf r)) → Room a (3 * left + more)
+    → Room b (3 * (left - 1) + more)
+room-after-node r a b left more h c room =
+    room-after a b (children (nodeOf r)) (3 * left + more) (3 * (left - 1) + more) c room
     (let few : length (children (nodeOf r)) ≤ 3 = rw (children-are r)
     (take-few (childCount (r .kind)) (r .first) (r .second) (r .third)) in omega arith)
 
@@ -118,19 +119,14 @@ pub room-start : (more : ℕ) → more ≤ 65535 → Room no-uses more
 unfolding no-uses
 room-start more h = record { each = λ n k. (let none = getD-replicate {A = ℕ} 512 n 0 0 k in omega arith); long = refl }
 
-pub room-after-roots : (parameters : List ℕ) (count : ℕ) (functions : List ℕ) (at : ℕ) (roots : List ℕ) (more : ℕ)
-    → Counted no-uses roots (map rootOf (functionsFrom parameters count functions at)) → count + more ≤ 65535 → Room roots more
-room-after-roots parameters count functions at roots more c h =
-    let records = functionsFrom parameters count functions at in
-    room-after no-uses roots _ (count + more) more c (room-start (count + more) h)
-    (omega (arith, length-map records rootOf, functions-length parameters count functions at))
-
-module _ (s : Sections) (count : ℕ) (long : length (s .nodes) ≡ count) (few : count ≤ 512) (roots counts : List ℕ)
-    (a : Counted no-uses roots (map rootOf (s .functions))) (b : Counted roots counts (flatMap childrenOf (s .nodes))) where
+module _ (s : Sections) (count : ℕ) (long : length (s .nodes) ≡ count) (few : count ≤ 512) (parts counts : List ℕ)
+    (a : Counted no-uses parts (flatMap childrenOf (s .nodes))) (b : Counted parts counts (map rootOf (s .functions))) where
   counts-are : (n : ℕ) → n < 512 → getD counts n 0 ≡ countIf (eqb n) (usesOf s)
   unfolding no-uses usesOf
   counts-are n h =
-      let whole = counted-more no-uses roots counts _ _ a b .each n h in
+      let e = a .each n h in
+      let f = b .each n h in
+      let whole = count-append (eqb n) (map rootOf (s .functions)) (flatMap childrenOf (s .nodes)) in
       let none = getD-replicate {A = ℕ} 512 n 0 0 h in
       omega arith
 

@@ -1,26 +1,25 @@
--- A node's chain by how many children it has, and the loops that note depths and ask the roots'.
+-- A node's chain by how many children it has, and the loop that notes depths.
 use mathlib.Core.Path.{_≡_, refl, ap, sym, _∙_}
 use mathlib.Core.Bool.{Bool, true, false}
 use mathlib.Core.List.{List, [], _∷_, map}
-use Prim.Native.Nat.{ℕ, suc, _+_, _*_, _-_, _<_, _≤_, max}
+use Prim.Native.Nat.{ℕ, suc, _+_, _*_, _<_, _≤_, max}
 use native.Mathlib.Omega.{arith}
 use lib.Dec.{leb, ltb}
-use lib.ListN.{length, set, replicate, length-map, List·getD-map, List·getD-eq-default}
-use borrow.Author.Tests.{lt-ltb, le-ltb, lt-leb, ltb-true, ltb-false}
+use lib.ListN.{length, set, replicate, length-map, List·getD-eq-default}
+use borrow.Author.Tests.{lt-leb, ltb-true, ltb-false}
 use Rattle.definitions.specs.Basics.{all, any, largest}
 use Rattle.definitions.specs.ContractFile.{NodeRecord, FunctionRecord, Sections, Node as Form, unknownNode, nodeOf, nodeAt, children, expressionParts, statementParts, chainLength}
 use Rattle.definitions.specs.Numbers.{namesNothing, tooDeep}
-use Rattle.theory_laws.proofs.Lists.{getD-inside, zeros-at}
+use Rattle.theory_laws.proofs.Lists.{zeros-at}
 use Rattle.theory_laws.proofs.TruthValues.{and-left, and-right}
 use Rattle.theory_trees.proofs.Falls.{nodes-fall}
 use Rattle.file_bytes.specs.declared.Node.{Node}
 use Rattle.file_bytes.specs.Node.{recordOf}
 use Rattle.file_children.specs.Children.{childCount}
 use Rattle.file_children.proofs.ByCount.{no-children, one-child, two-children, three-children}
-use Rattle.file_children.proofs.Loops.{any-next, any-found, any-done}
-use Rattle.file_decoded.specs.Slices.{numberAt, functionFrom, functionsFrom, nodeFrom, nodesFrom}
+use Rattle.file_decoded.specs.Slices.{nodeFrom, nodesFrom}
 use Rattle.file_decoded.specs.Node.{IsDecoded}
-use Rattle.file_decoded.proofs.Records.{nodes-length, node-of, functions-step, functions-end}
+use Rattle.file_decoded.proofs.Records.{node-within}
 use Rattle.check_06_depth.specs.Chains.{ChildrenBelow, Chains, depthIn, rootTooDeep}
 use Rattle.check_06_depth.proofs.ChainLevels.{note}
 
@@ -45,14 +44,6 @@ module _ (depths : List ℕ) (r : NodeRecord) (count : ℕ) (is : count ≡ chil
       chain-three k third all d n = rw (three-children r count is k) (omega arith)
 
 -- The loop that notes depths.
-node-within : (count : ℕ) (nodes : List ℕ) (n : ℕ) → n < count → nodeAt (map nodeOf (nodesFrom count nodes 0)) n
-    ≡ nodeOf (nodeFrom nodes (0 + 5 * n))
-node-within count nodes n h =
-    let records = nodesFrom count nodes 0 in
-    let first = nodeFrom nodes 0 in
-    getD-inside (map nodeOf records) n unknownNode (nodeOf first) (omega (arith, length-map records nodeOf, nodes-length count nodes 0))
-    ∙ List·getD-map nodeOf records n first ∙ ap nodeOf (node-of count nodes 0 n first h)
-
 pub chains-next : (count : ℕ) (nodes : List ℕ) (n at : ℕ) (node : Node) (depths : List ℕ) (chain : ℕ)
     → ChildrenBelow (map nodeOf (nodesFrom count nodes 0)) → Chains (map nodeOf (nodesFrom count nodes 0)) n depths → n < count → count ≤ 512
     → at ≡ 5 * n → IsDecoded (nodeFrom nodes at) node → chain ≡ suc (largest (map (depthIn depths) (children (nodeOf (recordOf node)))))
@@ -60,7 +51,7 @@ pub chains-next : (count : ℕ) (nodes : List ℕ) (n at : ℕ) (node : Node) (d
 chains-next count nodes n at node depths chain below c h few e is made =
     let there : at ≡ 0 + 5 * n = omega arith in
     let same : nodeOf (recordOf node) ≡ nodeAt (map nodeOf (nodesFrom count nodes 0)) n =
-    ap nodeOf (is .same) ∙ ap (λ (m : ℕ). nodeOf (nodeFrom nodes m)) there ∙ sym (node-within count nodes n h) in
+    ap nodeOf (is .same) ∙ ap (λ (m : ℕ). nodeOf (nodeFrom nodes m)) there ∙ sym (node-within count nodes 0 n h) in
     note (map nodeOf (nodesFrom count nodes 0)) below n depths chain (omega arith) c
     (made ∙ ap (λ m. suc (largest (map (depthIn depths) (children m)))) same)
 
@@ -68,22 +59,6 @@ pub chains-done : (nodes : List Form) (n count : ℕ) (depths : List ℕ) → Ch
 chains-done nodes n count depths c g h =
     let e : n ≡ count = omega arith in
     rw e at c
-
--- The loop over the roots.
-module _ (depths : List ℕ) (left : ℕ) (functions : List ℕ) (at : ℕ) (goal : Bool) (parameters : List ℕ)
-    (inv : any (rootTooDeep depths) (functionsFrom parameters left functions at) ≡ goal) where
-  pub roots-done : left ≤ 0 → false ≡ goal
-  roots-done h = any-done (rootTooDeep depths) _ goal (functions-end parameters functions at left h) inv
-
-  module _ (h : 0 < left) (root : ℕ) (a : root ≡ numberAt functions (at + 2)) (depth : ℕ) (e : depth ≡ depthIn depths root) where
-    asked : (b : Bool) → ltb 64 depth ≡ b → rootTooDeep depths (functionFrom parameters functions at) ≡ b
-    asked b t = ap (ltb 64) (sym (e ∙ ap (depthIn depths) a)) ∙ t
-
-    pub root-in-depth : depth ≤ 64 → any (rootTooDeep depths) (functionsFrom parameters (left - 1) functions (at + 3)) ≡ goal
-    root-in-depth t = any-next (rootTooDeep depths) _ _ _ goal (functions-step parameters functions at left h) inv (asked false (le-ltb 64 depth t))
-
-    pub root-too-deep : 64 < depth → true ≡ goal
-    root-too-deep t = any-found (rootTooDeep depths) _ _ _ goal (functions-step parameters functions at left h) inv (asked true (lt-ltb 64 depth t))
 
 -- What number 4 has settled.
 none-above : (n : ℕ) (xs : List ℕ) → all (λ x. ltb x n) xs ≡ true → any (leb n) xs ≡ false

@@ -1,4 +1,4 @@
--- The sort of a node that is looked up, a node's children by its kind, and the loops over functions and nodes.
+-- The sort of a node that is looked up, a node's children by its kind, and the loop over the nodes.
 use mathlib.Core.Path.{_≡_, refl, ap, sym, _∙_}
 use mathlib.Core.Bool.{Bool, true, false, not, _&&_, _||_}
 use mathlib.Core.List.{List}
@@ -12,13 +12,13 @@ use Rattle.definitions.specs.ContractFile.{NodeRecord, Kind, constantKind, meKi
 use Rattle.definitions.specs.Numbers.{wrongSort}
 use Rattle.file_bytes.specs.declared.Node as file-node
 use Rattle.file_bytes.specs.Node.{recordOf}
-use Rattle.file_decoded.specs.Slices.{numberAt, functionFrom, functionsFrom, nodeFrom, nodesFrom, sectionsFrom}
-use Rattle.file_decoded.proofs.Records.{functions-step, functions-end, nodes-step, nodes-end, node-within, node-past}
+use Rattle.file_decoded.specs.Slices.{numberAt, functionsFrom, nodeFrom, nodesFrom, sectionsFrom}
+use Rattle.file_decoded.proofs.Records.{nodes-step, nodes-end, node-within, node-past}
 use Rattle.file_decoded.specs.Node.{IsDecoded}
 use Rattle.file_children.specs.Children.{childrenOfKind, expressionsOfKind, childCount, expressionCount, isExpressionKind, isStatementKind}
 use Rattle.file_children.proofs.Truth.{or-false}
 use Rattle.file_children.proofs.Children.{expression-is, statement-is}
-use Rattle.file_children.proofs.Loops.{any-next, any-found, any-done, any-map}
+use Rattle.file_children.proofs.Loops.{noted-next, noted-done, any-map}
 use Rattle.check_07_sorts.specs.Sorts.{nodesIn, hasSort, rootWrong, partsWrong}
 
 -- Nodes that are looked up.
@@ -111,22 +111,7 @@ module _ (nodes : List Node) (r : NodeRecord) (count expressions : ℕ) (a : cou
       unfolding wrongChildren
       third-asked u l third k = rw (by-child, lt-ltb 0 count h, ← e, t, lt-ltb 1 count g, ← f, u, lt-ltb 2 count l, k)
 
--- The loops: what is left to ask has the same answer.
-module _ (nodes : List Node) (parameters : List ℕ) (left : ℕ) (functions : List ℕ) (at : ℕ) (goal : Bool)
-    (inv : any (rootWrong nodes) (functionsFrom parameters left functions at) ≡ goal) where
-  module _ (h : 0 < left) (root : ℕ) (b : root ≡ numberAt functions (at + 2)) (right : Bool) (e : right ≡ hasSort nodes false root) where
-    root-asked : rootWrong nodes (functionFrom parameters functions at) ≡ not right
-    root-asked = ap (λ (n : ℕ). not (isStatement (nodeAt nodes n))) (sym b) ∙ ap not (sym e)
-
-    pub root-right : not right ≡ false → any (rootWrong nodes) (functionsFrom parameters (left - 1) functions (at + 3)) ≡ goal
-    root-right t = any-next (rootWrong nodes) _ _ _ goal (functions-step parameters functions at left h) inv (root-asked ∙ t)
-
-    pub root-wrong : not right ≡ true → true ≡ goal
-    root-wrong t = any-found (rootWrong nodes) _ _ _ goal (functions-step parameters functions at left h) inv (root-asked ∙ t)
-
-  pub roots-right : left ≤ 0 → false ≡ goal
-  roots-right h = any-done (rootWrong nodes) _ goal (functions-end parameters functions at left h) inv
-
+-- The loop: what is left to ask has the same answer.
 abbrev pub nodeWrong : List Node → NodeRecord → Bool
 nodeWrong nodes r = partsWrong nodes (nodeOf r)
 
@@ -134,20 +119,17 @@ pub nodes-all : (numbers : List ℕ)
     → any (nodeWrong (nodesIn numbers)) (nodesFrom (length numbers / 5) numbers 0) ≡ any (partsWrong (nodesIn numbers)) (nodesIn numbers)
 nodes-all numbers = sym (any-map (partsWrong (nodesIn numbers)) nodeOf (nodesFrom (length numbers / 5) numbers 0))
 
-module _ (nodes : List Node) (left : ℕ) (numbers : List ℕ) (at : ℕ) (goal : Bool) (inv : any (nodeWrong nodes) (nodesFrom left numbers at) ≡ goal) where
-  module _ (h : 0 < left) (node : file-node.Node) (is : IsDecoded (nodeFrom numbers at) node) (wrong : Bool)
-      (e : wrong ≡ partsWrong nodes (nodeOf (recordOf node))) where
-    node-asked : nodeWrong nodes (nodeFrom numbers at) ≡ wrong
-    node-asked = ap (nodeWrong nodes) (sym (is .same)) ∙ sym e
+-- A node of a wrong child is noted, and the loop goes on.
+module _ (nodes : List Node) (left : ℕ) (numbers : List ℕ) (at : ℕ) (noted goal : Bool)
+    (inv : noted || any (nodeWrong nodes) (nodesFrom left numbers at) ≡ goal) where
+  pub node-noted : 0 < left → (node : file-node.Node) → IsDecoded (nodeFrom numbers at) node → (wrong : Bool) → wrong ≡ partsWrong nodes (nodeOf (recordOf node))
+      → (or-now : Bool) → or-now ≡ noted || wrong → or-now || any (nodeWrong nodes) (nodesFrom (left - 1) numbers (at + 5)) ≡ goal
+  node-noted h node is wrong e or-now n =
+      noted-next (nodeWrong nodes) noted _ _ _ goal (nodes-step numbers at left h) inv or-now
+      (n ∙ ap (λ (b : Bool). noted || b) (e ∙ ap (nodeWrong nodes) (is .same)))
 
-    pub node-right : wrong ≡ false → any (nodeWrong nodes) (nodesFrom (left - 1) numbers (at + 5)) ≡ goal
-    node-right t = any-next (nodeWrong nodes) _ _ _ goal (nodes-step numbers at left h) inv (node-asked ∙ t)
-
-    pub node-wrong : wrong ≡ true → true ≡ goal
-    node-wrong t = any-found (nodeWrong nodes) _ _ _ goal (nodes-step numbers at left h) inv (node-asked ∙ t)
-
-  pub nodes-right : left ≤ 0 → false ≡ goal
-  nodes-right h = any-done (nodeWrong nodes) _ goal (nodes-end numbers at left h) inv
+  pub nodes-noted : left ≤ 0 → noted ≡ goal
+  nodes-noted h = noted-done (nodeWrong nodes) noted _ goal (nodes-end numbers at left h) inv
 
 -- Number 7 of the sections that slices hold.
 pub sorts-wrong : (fields functions parameters nodes : List ℕ)

@@ -1,20 +1,47 @@
--- Numbers 1 to 7 first, then 8 to 15 of a file that they let pass.
-use mathlib.Core.Path.{_≡_, ap, sym, _∙_}
-use mathlib.Core.List.{List}
+-- Numbers 1 and 2 first, then 3 to 7 of the decoded sections, then 8 to 15.
+use mathlib.Core.Path.{_≡_, refl, ap, sym, _∙_}
+use mathlib.Core.Bool.{Bool, true, false, _||_}
+use mathlib.Core.List.{List, [], _∷_}
 use Prim.Native.Nat.{ℕ, zero, suc, _<_}
 use native.Mathlib.Omega.{arith}
-use Rattle.definitions.specs.Basics.{firstThatHolds}
-use Rattle.definitions.specs.ContractFile.{sectionsOf, contractOf}
-use Rattle.definitions.specs.Numbers.{checkNumber, contractSentences, orElse}
-use Rattle.check_01_to_07.specs.Shape.{shapeNumber}
-use Rattle.check_01_to_07.proofs.Shape.{check-after-shape}
+use lib.Dec.{ltb}
+use lib.ListN.{length}
+use Rattle.definitions.specs.Basics.{any, isZero, firstThatHolds}
+use Rattle.definitions.specs.ContractFile.{Sections, sectionsOf, contractOf, fieldCount, functionCount, nodeCount}
+use Rattle.definitions.specs.Numbers.{endsWrongly, countOffLimits, outsideTables, namesNothing, usedOtherThanOnce, tooDeep, wrongSort, contractSentences, checkNumber, orElse}
+use Rattle.theory_laws.proofs.TruthValues.{or-left, or-right}
+use Rattle.check_03_to_07.specs.Shape.{sectionsNumber}
+use Rattle.check_contract.specs.Decoding.{contractNumber}
 
-abbrev rulesNumber : List ℕ → ℕ
-rulesNumber file = firstThatHolds 8 (contractSentences (contractOf (sectionsOf file)))
+five-then : (c d e f g : Bool) (later : List Bool)
+    → firstThatHolds 3 (c ∷ d ∷ e ∷ f ∷ g ∷ later) ≡ orElse (firstThatHolds 3 (c ∷ d ∷ e ∷ f ∷ g ∷ [])) (firstThatHolds 8 later)
+unfolding firstThatHolds
+five-then true d e f g later = refl
+five-then false true e f g later = refl
+five-then false false true f g later = refl
+five-then false false false true g later = refl
+five-then false false false false true later = refl
+five-then false false false false false later = refl
 
-pub refused-by-shape : (file : List ℕ) (n : ℕ) → n ≡ shapeNumber file → 0 < n → n ≡ checkNumber file
-refused-by-shape file zero e h = absurd (omega arith)
-refused-by-shape file (suc n) e h = ap (λ k. orElse k (rulesNumber file)) e ∙ sym (check-after-shape file)
+rules-after : (s : Sections) → contractNumber s ≡ orElse (sectionsNumber s) (firstThatHolds 8 (contractSentences (contractOf s)))
+unfolding contractNumber sectionsNumber
+rules-after s = five-then (outsideTables s) (namesNothing s) (usedOtherThanOnce s) (tooDeep s) (wrongSort s) (contractSentences (contractOf s))
 
-pub left-to-rules : (file : List ℕ) (n r : ℕ) → n ≡ shapeNumber file → n ≡ 0 → r ≡ rulesNumber file → r ≡ checkNumber file
-left-to-rules file n r e z q = q ∙ sym (check-after-shape file ∙ ap (λ k. orElse k (rulesNumber file)) (sym e ∙ z))
+pub refused-by-shape : (s : Sections) (n : ℕ) → n ≡ sectionsNumber s → 0 < n → n ≡ contractNumber s
+refused-by-shape s zero e h = absurd (omega arith)
+refused-by-shape s (suc n) e h = ap (λ k. orElse k (firstThatHolds 8 (contractSentences (contractOf s)))) e ∙ sym (rules-after s)
+
+pub left-to-rules : (s : Sections) (r : ℕ) → sectionsNumber s ≡ 0 → r ≡ firstThatHolds 8 (contractSentences (contractOf s)) → r ≡ contractNumber s
+left-to-rules s r z q = q ∙ sym (rules-after s ∙ ap (λ k. orElse k (firstThatHolds 8 (contractSentences (contractOf s)))) z)
+
+pub check-after-counts : (file : List ℕ) → endsWrongly file ≡ false → countOffLimits file ≡ false → checkNumber file ≡ contractNumber (sectionsOf file)
+unfolding checkNumber contractNumber firstThatHolds
+check-after-counts file ends counts = rw (ends, counts)
+
+-- Number 2 holds of no function's parameters.
+pub few-parameters : (file : List ℕ) → countOffLimits file ≡ false → any (λ r. ltb 8 (length (r .parameters))) ((sectionsOf file) .functions) ≡ false
+unfolding countOffLimits
+few-parameters file h =
+    let three = ltb 64 (fieldCount file) || isZero (functionCount file) || ltb 16 (functionCount file) in
+    let many = any (λ r. ltb 8 (length (r .parameters))) ((sectionsOf file) .functions) in
+    or-right three many (or-left (three || many) (ltb 512 (nodeCount file)) h)

@@ -17,8 +17,7 @@ use Rattle.theory_laws.proofs.TruthValues.{or-else-first}
 use Rattle.file_bytes.proofs.Sections.{functions-are}
 use Rattle.file_children.proofs.Truth.{either-false}
 use Rattle.theory_accepted.specs.Settled.{Settled}
-use Rattle.check_01_to_07.specs.Shape.{shapeNumber}
-use Rattle.check_01_to_07.proofs.Shape.{settled, check-after-shape}
+use Rattle.theory_accepted.proofs.Sentences.{accepted-settled}
 use Rattle.file_accepted.proofs.Accepted.{few-fields, few-functions, few-nodes}
 
 abbrev manyParameters : FunctionRecord → Bool
@@ -38,7 +37,7 @@ functions-near (suc k) file at h =
 
 module _ (file : List ℕ) (accepted : checkNumber file ≡ 0) where
   shaped : Settled file
-  shaped = settled file (or-else-first (shapeNumber file) _ (sym (check-after-shape file) ∙ accepted))
+  shaped = accepted-settled file accepted
 
   pub accepted-fields : fieldCount file ≤ 64
   accepted-fields = few-fields file (shaped .counts)

@@ -1,6 +1,6 @@
 -- Steps of a loop that asks whether some element of a list passes a test: what is left to ask has the same answer.
-use mathlib.Core.Path.{_≡_, refl, ap}
-use mathlib.Core.Bool.{Bool, true, false, _&&_, _||_}
+use mathlib.Core.Path.{_≡_, refl, ap, _∙_}
+use mathlib.Core.Bool.{Bool, true, false, _&&_, _||_, or-assoc}
 use mathlib.Core.List.{List, [], _∷_, map}
 use Prim.Native.Nat.{ℕ, zero, suc, _+_, _<_}
 use native.Mathlib.Omega.{arith}
@@ -8,7 +8,7 @@ use native.Mathlib.Numerals.{add-one}
 use lib.Dec.{eqb}
 use borrow.Author.Tests.{eqb-true, eqb-false}
 use Rattle.definitions.specs.Basics.{any, anyNumbered}
-use Rattle.file_children.proofs.Truth.{both-true}
+use Rattle.file_children.proofs.Truth.{or-false, both-true}
 
 module _ {A : Type 0} (test : A → Bool) (x : A) (xs ys : List A) (goal : Bool) (e : ys ≡ x ∷ xs) (inv : any test ys ≡ goal) where
   pub any-next : test x ≡ false → any test xs ≡ goal
@@ -28,19 +28,26 @@ pub any-done : {A : Type 0} (test : A → Bool) (ys : List A) (goal : Bool) → 
 unfolding any
 any-done test ys goal e inv = rw e at inv
 
-module _ {A : Type 0} (test : ℕ → A → Bool) (n : ℕ) (x : A) (xs ys : List A) (goal : Bool) (e : ys ≡ x ∷ xs)
-    (inv : anyNumbered test n ys ≡ goal) where
-  pub anyNumbered-next : test n x ≡ false → anyNumbered test (n + 1) xs ≡ goal
-  unfolding anyNumbered
-  anyNumbered-next h = rw add-one (rw (e, h) at inv)
+-- The same of a loop that goes on behind an element that passes, and notes that there was one.
+module _ {A : Type 0} (test : A → Bool) (noted : Bool) (x : A) (xs ys : List A) (goal : Bool) (e : ys ≡ x ∷ xs) (inv : noted || any test ys ≡ goal) where
+  pub noted-next : (or-now : Bool) → or-now ≡ noted || test x → or-now || any test xs ≡ goal
+  unfolding any
+  noted-next or-now n = rw n (or-assoc noted (test x) (any test xs) ∙ (rw e at inv))
 
-  pub anyNumbered-found : test n x ≡ true → true ≡ goal
-  unfolding anyNumbered
-  anyNumbered-found h = rw (e, h) at inv
+pub noted-done : {A : Type 0} (test : A → Bool) (noted : Bool) (ys : List A) (goal : Bool) → ys ≡ [] → noted || any test ys ≡ goal → noted ≡ goal
+unfolding any
+noted-done test noted ys goal e inv = rw (e, or-false noted) at inv
 
-pub anyNumbered-done : {A : Type 0} (test : ℕ → A → Bool) (n : ℕ) (ys : List A) (goal : Bool) → ys ≡ [] → anyNumbered test n ys ≡ goal → false ≡ goal
+module _ {A : Type 0} (test : ℕ → A → Bool) (n : ℕ) (noted : Bool) (x : A) (xs ys : List A) (goal : Bool) (e : ys ≡ x ∷ xs)
+    (inv : noted || anyNumbered test n ys ≡ goal) where
+  pub notedNumbered-next : (or-now : Bool) → or-now ≡ noted || test n x → or-now || anyNumbered test (n + 1) xs ≡ goal
+  unfolding anyNumbered
+  notedNumbered-next or-now m = rw (m, add-one) (or-assoc noted (test n x) (anyNumbered test (suc n) xs) ∙ (rw e at inv))
+
+pub notedNumbered-done : {A : Type 0} (test : ℕ → A → Bool) (n : ℕ) (noted : Bool) (ys : List A) (goal : Bool) → ys ≡ []
+    → noted || anyNumbered test n ys ≡ goal → noted ≡ goal
 unfolding anyNumbered
-anyNumbered-done test n ys goal e inv = rw e at inv
+notedNumbered-done test n noted ys goal e inv = rw (e, or-false noted) at inv
 
 -- A test that holds of each number below a bound, worked out number by number.
 unfoldable pub allBelow : (ℕ → Bool) → ℕ → Bool

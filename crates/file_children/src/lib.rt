@@ -4,6 +4,7 @@ use file_kinds::IF;
 use file_kinds::REVEAL;
 use file_kinds::SKIP;
 ghost use mathlib.Core.Path.{_≡_};
+ghost use mathlib.Core.Bool.{_||_};
 ghost use Rattle.file_children.specs.Children.{childCount, expressionCount, isExpressionKind, isStatementKind};
 
 const CHILDREN: [usize; 22] = [
@@ -81,4 +82,11 @@ pub fn is_statement_kind(kind: usize) -> bool
     ensures { λ r. ⌜ r ≡ isStatementKind kind ⌝ }
 {
     SKIP <= kind && kind <= IF
+}
+
+// Both operands are worked out, so that a loop that notes an answer has one path.
+pub fn either(a: bool, b: bool) -> bool
+    ensures { λ r. ⌜ r ≡ (a || b) ⌝ }
+{
+    if a { true } else { b }
 }

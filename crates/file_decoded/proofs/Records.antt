@@ -1,16 +1,21 @@
 -- How many records a slice holds, the first one with those that follow it, and a node by its number.
-use mathlib.Core.Path.{_≡_, refl, ap, _∙_}
+use mathlib.Core.Path.{_≡_, refl, ap}
 use mathlib.Core.List.{List, [], _∷_, map}
 use Prim.Native.Nat.{ℕ, zero, suc, _+_, _*_, _-_, _<_, _≤_}
 use native.Mathlib.Omega.{arith}
-use lib.ListN.{length, getD}
-use Rattle.definitions.specs.ContractFile.{NodeRecord, unknownNode, nodeOf, nodeAt}
+use lib.ListN.{length}
+use Rattle.definitions.specs.ContractFile.{unknownNode, nodeOf, nodeAt}
 use Rattle.file_decoded.specs.Slices.{fieldFrom, fieldsFrom, parameterFrom, parametersFrom, functionFrom, functionsFrom, nodeFrom, nodesFrom}
 
 pub fields-length : (count : ℕ) (numbers : List ℕ) (at : ℕ) → length (fieldsFrom count numbers at) ≡ count
 unfolding fieldsFrom
 fields-length zero numbers at = refl
 fields-length (suc count) numbers at = ap suc (fields-length count numbers (at + 3))
+
+pub parameters-length : (count : ℕ) (numbers : List ℕ) (at : ℕ) → length (parametersFrom count numbers at) ≡ count
+unfolding parametersFrom
+parameters-length zero numbers at = refl
+parameters-length (suc count) numbers at = ap suc (parameters-length count numbers (at + 2))
 
 pub functions-length : (parameters : List ℕ) (count : ℕ) (numbers : List ℕ) (at : ℕ) → length (functionsFrom parameters count numbers at) ≡ count
 unfolding functionsFrom
@@ -21,14 +26,6 @@ pub nodes-length : (count : ℕ) (numbers : List ℕ) (at : ℕ) → length (nod
 unfolding nodesFrom
 nodes-length zero numbers at = refl
 nodes-length (suc count) numbers at = ap suc (nodes-length count numbers (at + 5))
-
-pub node-of : (count : ℕ) (numbers : List ℕ) (at n : ℕ) (none : NodeRecord) → n < count → getD (nodesFrom count numbers at) n none ≡ nodeFrom numbers (at + 5 * n)
-unfolding nodesFrom
-node-of zero numbers at n none h = absurd (omega arith)
-node-of (suc count) numbers at zero none h = let e : at ≡ at + 5 * 0 = omega arith in ap (nodeFrom numbers) e
-node-of (suc count) numbers at (suc n) none h =
-    let e : at + 5 + 5 * n ≡ at + 5 * suc n = omega arith in
-    node-of count numbers (at + 5) n none (omega arith) ∙ ap (nodeFrom numbers) e
 
 -- In a file's trees.
 pub node-within : (count : ℕ) (numbers : List ℕ) (at n : ℕ) → n < count

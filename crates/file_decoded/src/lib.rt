@@ -40,6 +40,19 @@ pub fn short_node_room() -> [u16; 320]
     [0; 320]
 }
 
+// A column with a number for each of their nodes.
+pub fn column_room() -> [u16; 512]
+    ensures { λ r. ⌜ 512 ≡ length r ⌝ }
+{
+    [0; 512]
+}
+
+pub fn short_column_room() -> [u16; 64]
+    ensures { λ r. ⌜ 64 ≡ length r ⌝ }
+{
+    [0; 64]
+}
+
 // The number at a place.
 pub fn number_from(numbers: &[u16], at: usize) -> usize
     requires { ⌜ at < length (now numbers) ⌝ }
@@ -47,6 +60,14 @@ pub fn number_from(numbers: &[u16], at: usize) -> usize
     ensures { λ r. ⌜ r ≤ 65535 ⌝ }
 {
     numbers[at] as usize
+}
+
+// The same as it stands, of two bytes.
+pub fn short_from(numbers: &[u16], at: usize) -> u16
+    requires { ⌜ at < length (now numbers) ⌝ }
+    ensures { λ r. ⌜ r ≡ numberAt (now (numbers .entry)) at ⌝ }
+{
+    numbers[at]
 }
 
 // The node whose five numbers begin at a place.

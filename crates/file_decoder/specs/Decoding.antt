@@ -3,7 +3,8 @@ use mathlib.Core.Path.{_≡_}
 use mathlib.Core.List.{List}
 use Prim.Native.Nat.{ℕ, _+_, _*_, _/_, _<_, _≤_}
 use lib.ListN.{length}
-use Rattle.definitions.specs.ContractFile.{byteAt, functionEnd, functionsEnd, functionRecord, functionRecords, nodeRecord, fileEnd, sectionsOf}
+use Rattle.definitions.specs.ContractFile.{byteAt, functionEnd, functionsEnd, functionRecord, functionRecords, nodeRecord}
+use Rattle.definitions.specs.ContractFile.{fileEnd, sectionsOf}
 use Rattle.file_bytes.specs.declared.Layout.{Layout}
 use Rattle.file_bytes.specs.Layout.{IsLayout}
 use Rattle.file_decoded.specs.Slices.{numberAt, functionFrom, functionsFrom, nodeFrom, sectionsFrom, ParametersInside}

@@ -136,3 +136,64 @@ pub const FINAL_CODES_END: usize = FINAL_CODES + 64;
 pub const PARAMETER_CODES: usize = 128;
 
 pub const PARAMETER_CODES_END: usize = PARAMETER_CODES + 8;
+
+// The same as numbers of two bytes, which a decoded contract is made of.
+pub const CONSTANT_SHORT: u16 = CONSTANT as u16;
+
+pub const ME_SHORT: u16 = ME as u16;
+
+pub const FIELD_SHORT: u16 = FIELD as u16;
+
+pub const ENTRY_SHORT: u16 = ENTRY as u16;
+
+pub const PARAMETER_SHORT: u16 = PARAMETER as u16;
+
+pub const OPERATOR_SHORT: u16 = OPERATOR as u16;
+
+pub const NOT_SHORT: u16 = NOT as u16;
+
+pub const REVEAL_SHORT: u16 = REVEAL as u16;
+
+pub const SEQUENCE_SHORT: u16 = SEQUENCE as u16;
+
+pub const FIELD_TAKES_SHORT: u16 = FIELD_TAKES as u16;
+
+pub const ENTRY_TAKES_SHORT: u16 = ENTRY_TAKES as u16;
+
+pub const REQUIRE_SHORT: u16 = REQUIRE as u16;
+
+pub const IF_SHORT: u16 = IF as u16;
+
+pub const DIVIDED_SHORT: u16 = DIVIDED as u16;
+
+pub const REMAINDER_SHORT: u16 = REMAINDER as u16;
+
+pub const LESS_SHORT: u16 = LESS as u16;
+
+pub const LESS_OR_EQUAL_SHORT: u16 = LESS_OR_EQUAL as u16;
+
+pub const EQUAL_SHORT: u16 = EQUAL as u16;
+
+pub const NOT_EQUAL_SHORT: u16 = NOT_EQUAL as u16;
+
+pub const AND_SHORT: u16 = AND as u16;
+
+pub const OR_SHORT: u16 = OR as u16;
+
+pub const BOOL_SHORT: u16 = BOOL as u16;
+
+pub const UINT_SHORT: u16 = UINT as u16;
+
+pub const ADDRESS_SHORT: u16 = ADDRESS as u16;
+
+pub const PLAIN_SHORT: u16 = PLAIN as u16;
+
+pub const FINAL_SHORT: u16 = FINAL as u16;
+
+pub const MAPPING_SHORT: u16 = MAPPING as u16;
+
+pub const FINAL_CODES_SHORT: u16 = FINAL_CODES as u16;
+
+pub const FINAL_CODES_END_SHORT: u16 = FINAL_CODES_END as u16;
+
+pub const PARAMETER_CODES_SHORT: u16 = PARAMETER_CODES as u16;

@@ -31,7 +31,7 @@ fn private_code(owner: usize) -> usize
 }
 
 // 1 for a public division, which a circuit reads; 0 for any other operator.
-fn division_code(operator: u8, owner: usize) -> usize
+fn division_code(operator: u16, owner: usize) -> usize
     ensures { λ r. ⌜ r ≡ cond (eqb owner 0 && isDivision (operatorOf operator)) 1 0 ⌝ }
 {
     if owner == 0 {
@@ -69,7 +69,7 @@ pub fn read_code(file: &[u8], function_at: usize, nodes_at: usize, n: usize) -> 
         FIELD => owner + 1,
         ENTRY => owner + 1,
         PARAMETER => owner + 1,
-        OPERATOR => division_code(node.arg as u8, owner),
+        OPERATOR => division_code(node.arg as u16, owner),
         _ => 0,
     }
 }

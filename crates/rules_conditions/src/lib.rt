@@ -1,4 +1,5 @@
 // A condition judged: numbers 9 and 14.
+use file_kinds::BOOL_SHORT;
 use rules_faults::least;
 use rules_faults::number_if;
 use rules_judgements::Judged;
@@ -10,7 +11,10 @@ pub fn condition_fault(condition: Judged) -> u8
     ensures { λ r. ⌜ r ≡ conditionFault condition ⌝ }
 {
     least(
-        least(condition.fault, number_if(!(condition.kind == 0), 9)),
+        least(
+            condition.fault,
+            number_if(!(condition.kind == BOOL_SHORT), 9),
+        ),
         number_if(!(condition.owner == 0), 14),
     )
 }

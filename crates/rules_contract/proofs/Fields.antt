@@ -2,24 +2,23 @@
 use mathlib.Core.Path.{_≡_, refl, ap, sym, _∙_}
 use mathlib.Core.Bool.{Bool, true, false, not, cond}
 use mathlib.Core.List.{List, [], _∷_, _++_}
-use Prim.Native.Nat.{ℕ, suc, _+_, _-_, _<_, _≤_, min}
+use Prim.Native.Nat.{ℕ, suc, _+_, _-_, _/_, _<_, _≤_, min}
 use native.Mathlib.Omega.{arith}
 use native.Mathlib.Numerals.{add-one}
+use borrow.Author.Tests.{ne-eqb}
 use lib.Dec.{eqb}
 use lib.ListN.{length, getD, drop, length-map, drop-of-length-le}
 use lib.Seq.{drop-cons}
 use Rattle.definitions.specs.Basics.{flatMap}
-use Rattle.definitions.specs.ContractFile.{toFinal, sectionsOf, fieldOf, fieldCount, fieldOwnerOfCode}
-use Rattle.definitions.specs.Numbers.{fault, fieldOfDeclaredOwner}
-use Rattle.theory_laws.proofs.Records.{fields-length}
+use Rattle.definitions.specs.ContractFile.{fieldOf}
+use Rattle.definitions.specs.Numbers.{fault}
 use Rattle.rules_faults.specs.Faults.{leastFault}
 use Rattle.rules_faults.proofs.Faults.{least-append, least-none, least-bounded, counted-8}
-use Rattle.rules_links.proofs.Names.{above-eqb}
-use Rattle.rules_codes.proofs.Codes.{FieldCode, everyoneCode, keyCode, finalCode, field-code}
-use Rattle.rules_judgements.specs.declared.Declared.{Declared}
-use Rattle.rules_scopes.specs.Scopes.{FieldAt}
-use Rattle.file_bytes.proofs.Sections.{fields-are}
-use Rattle.rules_contract.specs.Sections.{fieldsOf, ownerFault}
+use Rattle.file_decoded.specs.Slices.{fieldsFrom}
+use Rattle.file_decoded.proofs.Records.{fields-length}
+use Rattle.rules_scopes.specs.declared.Declared.{Declared}
+use Rattle.rules_scopes.specs.Scopes.{fieldOn, IsField}
+use Rattle.rules_contract.specs.Sections.{fieldsIn, ownerFault}
 
 module _ {A : Type 0} (faultsOf : A → List ℕ) where
   pub flat-cons : (x : A) (xs : List A) → leastFault (flatMap faultsOf (x ∷ xs)) ≡ min (leastFault (faultsOf x)) (leastFault (flatMap faultsOf xs))
@@ -46,38 +45,23 @@ module _ {A : Type 0} (faultsOf : A → List ℕ) where
       let empty : leastFault (flatMap faultsOf (drop i l)) ≡ 16 = ap (λ x. leastFault (flatMap faultsOf x)) (drop-of-length-le l h) ∙ flat-none in
       omega arith
 
-pub count-fields : (file : List ℕ) → length (fieldsOf file) ≡ fieldCount file
-count-fields file = length-map ((sectionsOf file) .fields) fieldOf ∙ (ap length (fields-are file) ∙ fields-length (fieldCount file) file 1)
+pub count-fields : (fields : List ℕ) → length (fieldsIn fields) ≡ length fields / 3
+count-fields fields = length-map (fieldsFrom (length fields / 3) fields 0) fieldOf ∙ fields-length (length fields / 3) fields 0
 
-module _ (file : List ℕ) (f : ℕ) (d : Declared) (at : FieldAt file f d) where
+module _ (fields : List ℕ) (f : ℕ) (d : Declared) (is : IsField (length fields / 3) (fieldOn fields f) d) where
   one-fault : (b : Bool) → leastFault (fault b 8 ++ []) ≡ cond b 8 16
   one-fault true = counted-8
   one-fault false = least-none
 
-  pub owner-unnamed : d .owner < 16 → 16 ≡ ownerFault file f
+  pub owner-tagged : d .tagged ≡ true → 16 ≡ ownerFault fields f
   unfolding flatMap
-  owner-unnamed h = go (field-code (d .owner) (at .same .listed))
-    where
-      none : (code : ℕ) → code ≡ d .owner → fieldOfDeclaredOwner (fieldOwnerOfCode code) ≡ [] → 16 ≡ ownerFault file f
-      none code e is = rw (at .same .owner, ← e, is) (sym least-none)
+  owner-tagged e = rw (is .owner, e) (sym least-none)
 
-      go : FieldCode (d .owner) → 16 ≡ ownerFault file f
-      go (everyoneCode e) = none 0 (sym e) refl
-      go (keyCode e) = none 2 (sym e) refl
-      go (finalCode g p e) = absurd (omega arith)
-
-  pub owner-named : (named : Declared) (r : ℕ) → 16 ≤ d .owner → FieldAt file (d .owner - 16) named → r ≡ cond (not (eqb (named .shape) 1)) 8 16 → r ≡ ownerFault file f
+  pub owner-everyone : d .tagged ≡ false → d .owner ≡ 0 → 16 ≡ ownerFault fields f
   unfolding flatMap
-  owner-named named r h there e = go (field-code (d .owner) (at .same .listed))
-    where
-      whole : (g : ℕ) → d .owner ≡ 16 + g → fieldOwnerOfCode (16 + g) ≡ toFinal g → FieldAt file g named → r ≡ ownerFault file f
-      whole g u is here = rw (at .same .owner, u, is, here .same .shape, one-fault (not (eqb (named .shape) 1))) e
+  owner-everyone e o = rw (is .owner, e, o) (sym least-none)
 
-      go : FieldCode (d .owner) → r ≡ ownerFault file f
-      go (everyoneCode u) = absurd (omega arith)
-      go (keyCode u) = absurd (omega arith)
-      go (finalCode g p u) =
-          let z : 16 + g - 16 ≡ g = omega arith in
-          let w : d .owner - 16 ≡ g = omega arith in
-          let is : fieldOwnerOfCode (16 + g) ≡ toFinal g = rw (above-eqb (16 + g) 0 (omega arith), above-eqb (16 + g) 2 (omega arith), z) in
-          whole g u is (rw w at there)
+  pub owner-named : (named : Declared) (r : ℕ) → d .tagged ≡ false → (d .owner ≡ 0 → ⊥) → IsField (length fields / 3) (fieldOn fields (d .owner - 10)) named
+      → r ≡ cond (not (eqb (named .shape) 1)) 8 16 → r ≡ ownerFault fields f
+  unfolding flatMap
+  owner-named named r e o there h = rw (is .owner, e, ne-eqb (d .owner) 0 o, there .shape, one-fault (not (eqb (named .shape) 1))) h

@@ -1,172 +1,160 @@
--- The functions of a file one after another.
+-- The functions of a contract one after another: the least fault so far, and the column so far, with those of the functions ahead.
 use mathlib.Core.Path.{_≡_, refl, ap, sym, _∙_}
-use mathlib.Core.Bool.{Bool, false, _||_}
+use mathlib.Core.Bool.{false, not}
 use mathlib.Core.List.{List, [], _∷_, map}
-use Prim.Native.Nat.{ℕ, zero, suc, _+_, _*_, _-_, _<_, _≤_, min}
+use Prim.Native.Nat.{ℕ, zero, suc, _+_, _*_, _-_, _/_, _<_, _≤_, min}
 use native.Mathlib.Omega.{arith}
-use borrow.Author.Tests.{ltb-false, leb-false, ne-eqb}
-use lib.Dec.{leb, ltb}
-use lib.ListN.{length}
-use Rattle.definitions.specs.Basics.{any, flatMap, isZero, firstThatHolds}
-use Rattle.definitions.specs.ContractFile.{byteAt, twoBytesAt, sectionsOf, functionEnd, functionRecord, functionRecords, functionCount, fieldCount, nodeCount, nodesAt, fieldOf, functionOf, contractOf}
-use Rattle.definitions.specs.Reading.{functionsRead}
-use Rattle.definitions.specs.Owners.{noLinks}
-use Rattle.definitions.specs.Numbers.{functionFaults, fieldFaults, statementFaults, countOffLimits, namesNothing, contractFaults, contractSentences, fieldOfDeclaredOwner}
-use Rattle.theory_laws.proofs.Records.{force-is}
-use Rattle.theory_laws.proofs.TruthValues.{or-left, or-right}
-use Rattle.file_bytes.specs.Layout.{IsLayout}
-use Rattle.file_bytes.specs.declared.Layout.{Layout}
-use Rattle.file_bytes.proofs.Sections.{functions-are, count-of-nodes}
+use borrow.Author.Tests.{ne-eqb}
+use lib.ListN.{length, take, drop, length-drop}
+use lib.Seq.{getD-take, getD-drop, length-take-le}
+use Rattle.definitions.specs.Basics.{any, flatMap, firstThatHolds}
+use Rattle.definitions.specs.ContractFile.{FunctionRecord, parameterOf, functionOf, contractOf}
+use Rattle.definitions.specs.Numbers.{functionFaults, fieldFaults, parameterInTables, contractFaults, contractSentences}
+use Rattle.file_decoded.specs.Slices.{numberAt, parametersFrom, functionFrom, functionsFrom, sectionsFrom}
+use Rattle.file_decoded.proofs.Records.{functions-step, functions-end}
 use Rattle.rules_faults.specs.Faults.{leastFault, numberOf}
 use Rattle.rules_faults.proofs.Faults.{least-append, least-sentence}
-use Rattle.rules_links.specs.Names.{linkedBy}
-use Rattle.theory_accepted.specs.Settled.{Settled}
-use Rattle.rules_scopes.specs.Trees.{nodesOf, statementOn}
-use Rattle.rules_scopes.specs.Scopes.{scopeAt}
-use Rattle.rules_contract.specs.Sections.{fieldsOf, allFieldsFault, allFunctionsFault, functionFault, FunctionReady}
+use Rattle.rules_scopes.specs.Trees.{nodesIn}
+use Rattle.rules_scopes.specs.Scopes.{ParametersReady}
+use Rattle.definitions.specs.Owners.{noLinks}
+use Rattle.rules_links.specs.Classes.{linkedBy}
+use Rattle.rules_statements.specs.Checking.{JudgedStatement}
+use Rattle.rules_statements.specs.declared.Checked.{Checked}
+use Rattle.rules_marks.specs.Marks.{marked, ownerAt, statementsUnder}
+use Rattle.rules_marks.proofs.Marking.{marked-length}
+use Rattle.rules_contract.specs.Sections.{fieldsIn, allFieldsFault, functionsMarked, contractMarked, FunctionJudged, FunctionsJudged, FunctionsReady}
 use Rattle.rules_contract.proofs.Fields.{flat-cons, flat-none, fault-start}
+use Rattle.rules_contract.proofs.Passing.{parameters-each, not-not}
 
-records-step : (left : ℕ) (file : List ℕ) (at : ℕ) → 0 < left → functionRecords left file at ≡ functionRecord file at ∷ functionRecords (left - 1) file (functionEnd file at)
-unfolding functionsRead
-records-step zero file at h = absurd (omega arith)
-records-step (suc left) file at h =
-    let e : suc left - 1 ≡ left = omega arith in
-    rw (e, force-is (functionEnd file at) (functionRecords left file))
+-- A function's own parameters, in a slice of their own and where they stand among all.
+parameters-same : (count : ℕ) (own all : List ℕ) (at from : ℕ) → ((i : ℕ) → i < 2 * count → numberAt own (at + i) ≡ numberAt all (from + i))
+    → parametersFrom count own at ≡ parametersFrom count all from
+unfolding parametersFrom
+parameters-same zero own all at from same = refl
+parameters-same (suc count) own all at from same =
+    let z : at + 0 ≡ at = omega arith in
+    let y : from + 0 ≡ from = omega arith in
+    let type : numberAt own at ≡ numberAt all from = rw (z, y) at (same 0 (omega arith)) in
+    let later : parametersFrom count own (at + 2) ≡ parametersFrom count all (from + 2) =
+    parameters-same count own all (at + 2) (from + 2) (λ i h.
+    let a : at + (2 + i) ≡ at + 2 + i = omega arith in
+    let b : from + (2 + i) ≡ from + 2 + i = omega arith in
+    rw (a, b) at (same (2 + i) (omega arith))) in
+    λ i. record { type = type i; owner = same 1 (omega arith) i } ∷ later i
 
-records-none : (left : ℕ) (file : List ℕ) (at : ℕ) → left ≤ 0 → functionRecords left file at ≡ []
-unfolding functionsRead
-records-none zero file at h = refl
-records-none (suc left) file at h = absurd (omega arith)
+-- A function judged in classes that stand for no links.
+pub function-judged : (fields parameters nodes : List ℕ) (root : ℕ) (links classes classes′ before after : List ℕ) (r : Checked) → classes ≡ links → linkedBy links ≡ noLinks
+    → JudgedStatement fields parameters nodes root classes classes′ before after r → FunctionJudged fields parameters nodes root before after (r .fault)
+function-judged fields parameters nodes root links classes classes′ before after r e none h =
+    record { fault = rw (e, none) at (h .checked .fault); column = h .column }
 
--- What is known of the functions that are still to come.
-pub record Upcoming (file : List ℕ) (left at : ℕ) : Type 0 where
-  pub parameters : any (λ r. ltb 8 (length (r .parameters))) (functionRecords left file at) ≡ false
-  pub roots : any (λ r. leb (length ((sectionsOf file) .nodes)) (r .root)) (functionRecords left file at) ≡ false
-  pub near : at + 513 * left ≤ 199999
+module _ (parameters : List ℕ) (from count : ℕ) (inside : from + 2 * count ≤ length parameters) where
+  abbrev own : List ℕ
+  own = take (from + 2 * count - from) (drop from parameters)
 
-any-first : {A : Type 0} (test : A → Bool) (x : A) (xs : List A) → any test (x ∷ xs) ≡ false → (test x ≡ false) × (any test xs ≡ false)
-unfolding any
-any-first test x xs h = (or-left (test x) (any test xs) h, or-right (test x) (any test xs) h)
+  own-length : length own ≡ 2 * count
+  own-length =
+      let h = length-drop from parameters in
+      length-take-le (from + 2 * count - from) (drop from parameters) (omega arith) ∙ (omega arith)
 
-abbrev pub functionsLeft : List ℕ → ℕ → ℕ → ℕ
-functionsLeft file left at = leastFault (flatMap (functionFaults (fieldsOf file)) (map (functionOf (nodesOf file)) (functionRecords left file at)))
-
-module _ (file : List ℕ) (left at : ℕ) (more : 0 < left) where
-  left-step : functionsLeft file left at ≡ min (functionFault file at) (functionsLeft file (left - 1) (functionEnd file at))
-  left-step =
-      ap (λ x. leastFault (flatMap (functionFaults (fieldsOf file)) (map (functionOf (nodesOf file)) x))) (records-step left file at more)
-      ∙ flat-cons (functionFaults (fieldsOf file)) (functionOf (nodesOf file) (functionRecord file at))
-      (map (functionOf (nodesOf file)) (functionRecords (left - 1) file (functionEnd file at)))
-
-  pub functions-next : (total so-far next end : ℕ) → min so-far (functionsLeft file left at) ≡ total → next ≡ min so-far (functionFault file at) → end ≡ functionEnd file at
-      → min next (functionsLeft file (left - 1) end) ≡ total
-  functions-next total so-far next end inv e f =
-      let s = left-step in
-      rw f (shift (functionFault file at) (functionsLeft file (left - 1) (functionEnd file at)) s e)
-    where
-      shift : (one rest : ℕ) → functionsLeft file left at ≡ min one rest → next ≡ min so-far one → min next rest ≡ total
-      shift one rest s e = omega arith
-
-  pub upcoming-next : (end : ℕ) → Upcoming file left at → end ≡ functionEnd file at → end ≤ at + 513 → Upcoming file (left - 1) end
-  upcoming-next end u e h =
-      let near = u .near in
+  pub own-parameters : parametersFrom (length own / 2) own 0 ≡ parametersFrom count parameters from
+  own-parameters =
+      let e : length own / 2 ≡ count = let h = own-length in omega arith in
       rw e
-      (record {
-        parameters = any-first (λ r. ltb 8 (length (r .parameters))) (functionRecord file at) (functionRecords (left - 1) file (functionEnd file at))
-            (rw (records-step left file at more) at (u .parameters)) .1;
-        roots = any-first (λ r. leb (length ((sectionsOf file) .nodes)) (r .root)) (functionRecord file at)
-            (functionRecords (left - 1) file (functionEnd file at)) (rw (records-step left file at more) at (u .roots)) .1;
-        near = closer (functionEnd file at) (rw e at h);
-      })
-    where
-      closer : (end : ℕ) → end ≤ at + 513 → end + 513 * (left - 1) ≤ 199999
-      closer end h = let near = u .near in omega arith
+      (parameters-same count own parameters 0 from (λ i h.
+      let z : 0 + i ≡ i = omega arith in
+      rw z (getD-take (from + 2 * count - from) (drop from parameters) i 0 (omega arith) ∙ getD-drop from parameters i 0)))
 
-  pub function-ready : (nodesStart : ℕ) → Settled file → nodesStart ≡ nodesAt file → nodesStart ≤ 200000 → nodeCount file ≤ 65535
-      → Upcoming file left at → FunctionReady file nodesStart at
-  function-ready nodesStart s e h k u =
-      let near = u .near in
-      let few = any-first (λ r. ltb 8 (length (r .parameters))) (functionRecord file at) (functionRecords (left - 1) file (functionEnd file at))
-      (rw (records-step left file at more) at (u .parameters)) .0 in
-      let root = any-first (λ r. leb (length ((sectionsOf file) .nodes)) (r .root)) (functionRecord file at)
-      (functionRecords (left - 1) file (functionEnd file at)) (rw (records-step left file at more) at (u .roots)) .0 in
+  pub own-ready : count ≤ 8 → any (λ p. not (parameterInTables p)) (parametersFrom count parameters from) ≡ false → ParametersReady own
+  own-ready few listed =
+      let h = own-length in
       record {
-        settled = s;
-        nodes = e;
-        near = h;
-        fewNodes = k;
-        nearFunction = omega arith;
-        fewParameters = ltb-false 8 (length ((functionRecord file at) .parameters)) few;
-        root = rw (sym (count-of-nodes file)) (leb-false (length ((sectionsOf file) .nodes)) ((functionRecord file at) .root) root);
+        few = omega arith;
+        listed = λ k l.
+            let z : 0 + 2 * k ≡ 2 * k = omega arith in
+            not-not _ (rw z at (parameters-each (λ p. not (parameterInTables p)) (length own / 2) own 0 (rw own-parameters listed) k l));
       }
 
-pub functions-done : (file : List ℕ) (left at total so-far : ℕ) → left ≤ 0 → so-far ≤ 16 → min so-far (functionsLeft file left at) ≡ total → so-far ≡ total
-functions-done file left at total so-far h k inv =
-    let none : functionsLeft file left at ≡ 16 =
-    ap (λ x. leastFault (flatMap (functionFaults (fieldsOf file)) (map (functionOf (nodesOf file)) x))) (records-none left file at h) ∙ flat-none
-    (functionFaults (fieldsOf file)) in
-    omega arith
+module _ (fields functions parameters nodes : List ℕ) where
+  -- The functions from number f on.
+  abbrev ahead : ℕ → List FunctionRecord
+  ahead f = functionsFrom parameters (length functions / 3 - f) functions (3 * f)
 
--- What a settled file says of all its functions.
-module _ (file : List ℕ) (s : Settled file) where
-  few-parameters : any (λ r. ltb 8 (length (r .parameters))) ((sectionsOf file) .functions) ≡ false
-  unfolding countOffLimits
-  few-parameters =
-      or-right (ltb 64 (fieldCount file) || isZero (functionCount file) || ltb 16 (functionCount file))
-      (any (λ r. ltb 8 (length (r .parameters))) ((sectionsOf file) .functions))
-      (or-left _ (ltb 512 (nodeCount file)) (s .counts))
+  abbrev faultsOf : List FunctionRecord → ℕ
+  faultsOf rs = leastFault (flatMap (functionFaults (fieldsIn fields)) (map (functionOf (nodesIn nodes)) rs))
 
-  roots-there : any (λ r. leb (length ((sectionsOf file) .nodes)) (r .root)) ((sectionsOf file) .functions) ≡ false
-  unfolding namesNothing
-  roots-there =
-      or-right
-      (any (λ r. any (leb (length ((sectionsOf file) .fields))) (fieldOfDeclaredOwner ((fieldOf r) .owner))) ((sectionsOf file) .fields))
-      (any (λ r. leb (length ((sectionsOf file) .nodes)) (r .root)) ((sectionsOf file) .functions)) (or-left _ _ (s .numbers))
+  ahead-step : (f : ℕ) → f < length functions / 3 → ahead f ≡ functionFrom parameters functions (3 * f) ∷ ahead (f + 1)
+  ahead-step f h =
+      let a : length functions / 3 - f - 1 ≡ length functions / 3 - (f + 1) = omega arith in
+      let b : 3 * f + 3 ≡ 3 * (f + 1) = omega arith in
+      functions-step parameters functions (3 * f) (length functions / 3 - f) (omega arith)
+      ∙ λ i. functionFrom parameters functions (3 * f) ∷ functionsFrom parameters (a i) functions (b i)
 
-  pub upcoming-start : (l : Layout) → IsLayout file l → Upcoming file (l .functions) (l .«functions_at» + 1)
-  upcoming-start l i =
-      let a = i .functions in
-      let b = i .functionsStart in
-      let c = i .fields in
-      let d = i .fewFields in
-      let e = i .fewFunctions in
-      let near : l .«functions_at» + 1 + 513 * l .functions ≤ 199999 = omega arith in
+  -- The least fault and the column before function f is judged.
+  pub record FunctionsSo (before : List ℕ) (f fault : ℕ) (owners : List ℕ) : Type 0 where
+    pub few : fault ≤ 16
+    pub least : min fault (faultsOf (ahead f)) ≡ faultsOf (functionsFrom parameters (length functions / 3) functions 0)
+    pub column : functionsMarked (fieldsIn fields) (nodesIn nodes) (ahead f) owners ≡ contractMarked fields functions parameters nodes before
+    pub long : length owners ≡ length before
+
+  pub functions-start : (before : List ℕ) → FunctionsSo before 0 16 before
+  functions-start before =
+      let a : length functions / 3 - 0 ≡ length functions / 3 = omega arith in
+      let b : 3 * 0 ≡ 0 = omega arith in
+      let e : ahead 0 ≡ functionsFrom parameters (length functions / 3) functions 0 = λ i. functionsFrom parameters (a i) functions (b i) in
       record {
-        parameters = rw (a, b, ← functions-are file) few-parameters;
-        roots = rw (a, b, ← functions-are file) roots-there;
-        near = near;
+        few = omega arith;
+        least = rw e (fault-start (functionFaults (fieldsIn fields)) (map (functionOf (nodesIn nodes)) (functionsFrom parameters (length functions / 3) functions 0)));
+        column = ap (λ rs. functionsMarked (fieldsIn fields) (nodesIn nodes) rs before) e;
+        long = refl;
       }
 
-  pub functions-start : (l : Layout) → IsLayout file l → min 16 (functionsLeft file (l .functions) (l .«functions_at» + 1)) ≡ allFunctionsFault file
-  functions-start l i =
-      rw (i .functions, i .functionsStart, ← functions-are file)
-      (fault-start (functionFaults (fieldsOf file)) (map (functionOf (nodesOf file)) ((sectionsOf file) .functions)))
+  module _ (before : List ℕ) (f fault : ℕ) (owners : List ℕ) (so : FunctionsSo before f fault owners) where
+    abbrev here : FunctionRecord
+    here = functionFrom parameters functions (3 * f)
 
--- The function at a place, judged with no links.
-module _ (file : List ℕ) (at count root : ℕ) (counted : count ≡ byteAt file at) (rooted : root ≡ twoBytesAt file (at + 1 + 2 * count)) where
-  pub root-is : root ≡ (functionRecord file at) .root
-  root-is =
-      let e : at + 1 + 2 * byteAt file at ≡ at + 1 + 2 * byteAt file at + 2 - 2 = omega arith in
-      rooted ∙ (ap (λ n. twoBytesAt file (at + 1 + 2 * n)) counted ∙ ap (twoBytesAt file) e)
+    pub functions-more : (own owners′ : List ℕ) (r next : ℕ) → f < length functions / 3
+        → parametersFrom (length own / 2) own 0 ≡ here .parameters
+        → FunctionJudged fields own nodes (here .root) owners owners′ r → next ≡ min fault r → FunctionsSo before (f + 1) next owners′
+    unfolding functionsMarked
+    functions-more own owners′ r next h same judged e =
+        let step = ahead-step f h in
+        let one : leastFault (functionFaults (fieldsIn fields) (functionOf (nodesIn nodes) here)) ≡ r = rw same at (judged .fault) in
+        let split : faultsOf (ahead f) ≡ min r (faultsOf (ahead (f + 1))) =
+        ap faultsOf step
+        ∙ (flat-cons (functionFaults (fieldsIn fields)) (functionOf (nodesIn nodes) here) (map (functionOf (nodesIn nodes)) (ahead (f + 1)))
+        ∙ ap (λ x. min x (faultsOf (ahead (f + 1)))) one) in
+        record {
+          few = omega (arith, so .few);
+          least = shift (faultsOf (ahead f)) (faultsOf (ahead (f + 1))) split (so .least);
+          column = rw (judged .column, same) (ap (λ rs. functionsMarked (fieldsIn fields) (nodesIn nodes) rs owners) (sym step) ∙ so .column);
+          long = ap length (judged .column) ∙ (marked-length _ _ owners ∙ so .long);
+        }
+      where
+        shift : (now later : ℕ) → now ≡ min r later → min fault now ≡ faultsOf (functionsFrom parameters (length functions / 3) functions 0)
+            → min next later ≡ faultsOf (functionsFrom parameters (length functions / 3) functions 0)
+        shift now later s t = omega arith
 
-  pub function-fault-is : (classes : List ℕ) (r : ℕ) → linkedBy classes ≡ noLinks
-      → leastFault (statementFaults (scopeAt file (record { at = at + 1; count = count })) (linkedBy classes) (statementOn (nodesOf file) root)) ≡ r
-      → r ≡ functionFault file at
-  unfolding statementOn
-  function-fault-is classes r none h = sym (rw (none, counted, root-is) at h)
+    pub functions-done : length functions / 3 ≤ f → FunctionsJudged fields functions parameters nodes before owners fault
+    unfolding functionsMarked
+    functions-done h =
+        let none : ahead f ≡ [] = functions-end parameters functions (3 * f) (length functions / 3 - f) (omega arith) in
+        let empty : faultsOf (ahead f) ≡ 16 = ap faultsOf none ∙ flat-none (functionFaults (fieldsIn fields)) in
+        record {
+          fault = omega (arith, so .few, so .least);
+          column = rw none at (so .column);
+        }
 
--- The whole contract.
-pub number-is : (file : List ℕ) (r fault : ℕ) → fault ≡ min (allFieldsFault file) (allFunctionsFault file) → r ≡ numberOf fault
-    → r ≡ firstThatHolds 8 (contractSentences (contractOf (sectionsOf file)))
-unfolding contractFaults contractOf
-number-is file r fault e h =
-    h ∙ (ap numberOf (e ∙ sym (least-append (flatMap (fieldFaults (fieldsOf file)) (fieldsOf file))
-    (flatMap (functionFaults (fieldsOf file)) (map (functionOf (nodesOf file)) ((sectionsOf file) .functions)))))
-    ∙ sym (least-sentence (contractOf (sectionsOf file))))
-
-pub least-parts : (file : List ℕ) (fields functions fault : ℕ) → fields ≡ allFieldsFault file → functions ≡ allFunctionsFault file → fault ≡ min fields functions
-    → fault ≡ min (allFieldsFault file) (allFunctionsFault file)
-least-parts file fields functions fault a b e = rw (← a, ← b) e
+  -- The whole contract.
+  pub number-is : (r fault one other : ℕ) → one ≡ allFieldsFault fields → other ≡ faultsOf (functionsFrom parameters (length functions / 3) functions 0)
+      → fault ≡ min one other → r ≡ numberOf fault
+      → r ≡ firstThatHolds 8 (contractSentences (contractOf (sectionsFrom fields functions parameters nodes)))
+  unfolding contractFaults contractOf
+  number-is r fault one other a b e h =
+      let both : fault ≡ min (allFieldsFault fields) (faultsOf (functionsFrom parameters (length functions / 3) functions 0)) = rw (← a, ← b) e in
+      h ∙ (ap numberOf (both ∙ sym (least-append (flatMap (fieldFaults (fieldsIn fields)) (fieldsIn fields))
+      (flatMap (functionFaults (fieldsIn fields)) (map (functionOf (nodesIn nodes)) (functionsFrom parameters (length functions / 3) functions 0)))))
+      ∙ sym (least-sentence (contractOf (sectionsFrom fields functions parameters nodes))))
 
 pub number-none : (fault : ℕ) → fault ≡ 16 → 0 ≡ numberOf fault
 number-none fault e = rw e

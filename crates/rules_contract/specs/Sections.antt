@@ -1,37 +1,71 @@
--- The least faults of a file's fields and of its functions.
+-- The least faults of a contract's fields and of its functions, and the column of owners, as the decoded slices give them.
 use mathlib.Core.Path.{_≡_}
-use mathlib.Core.List.{List, map}
-use Prim.Native.Nat.{ℕ, _<_, _≤_}
+use mathlib.Core.Bool.{false, not}
+use mathlib.Core.List.{List, [], _∷_, map}
+use Prim.Native.Nat.{ℕ, _+_, _*_, _/_, _<_, _≤_}
+use lib.Dec.{ltb}
 use lib.ListN.{length}
-use Rattle.definitions.specs.Basics.{flatMap}
-use Rattle.definitions.specs.ContractFile.{Field, fieldAt, sectionsOf, fieldOf, functionRecord, nodesAt, nodeCount, functionOf}
-use Rattle.definitions.specs.Numbers.{fieldFaults, functionFaults}
+use Rattle.definitions.specs.Basics.{any, flatMap}
+use Rattle.definitions.specs.ContractFile.{Field, Scope, Node, FunctionRecord, fieldAt, fieldOf, parameterOf, functionOf}
+use Rattle.definitions.specs.Owners.{noLinks}
+use Rattle.definitions.specs.Numbers.{fieldFaults, functionFaults, statementFaults, parameterInTables, outsideTables, namesNothing}
+use Rattle.theory_trees.specs.Trees.{statementIn}
+use Rattle.file_decoded.specs.Slices.{numberAt, fieldsFrom, parametersFrom, functionsFrom, sectionsFrom, ParametersInside, Shaped}
 use Rattle.rules_faults.specs.Faults.{leastFault}
-use Rattle.theory_accepted.specs.Settled.{Settled}
-use Rattle.rules_scopes.specs.Trees.{nodesOf}
+use Rattle.rules_scopes.specs.Trees.{nodesIn}
+use Rattle.rules_scopes.specs.Scopes.{scopeFrom, FieldsReady, NodesReady}
+use Rattle.rules_marks.specs.Marks.{marked, ownerAt, statementsUnder}
 
-abbrev pub fieldsOf : List ℕ → List Field
-fieldsOf file = map fieldOf ((sectionsOf file) .fields)
+abbrev pub fieldsIn : List ℕ → List Field
+fieldsIn fields = map fieldOf (fieldsFrom (length fields / 3) fields 0)
 
 abbrev pub ownerFault : List ℕ → ℕ → ℕ
-ownerFault file f = leastFault (fieldFaults (fieldsOf file) (fieldAt (fieldsOf file) f))
+ownerFault fields f = leastFault (fieldFaults (fieldsIn fields) (fieldAt (fieldsIn fields) f))
 
 abbrev pub allFieldsFault : List ℕ → ℕ
-allFieldsFault file = leastFault (flatMap (fieldFaults (fieldsOf file)) (fieldsOf file))
+allFieldsFault fields = leastFault (flatMap (fieldFaults (fieldsIn fields)) (fieldsIn fields))
 
--- The function that begins at a place.
-abbrev pub functionFault : List ℕ → ℕ → ℕ
-functionFault file at = leastFault (functionFaults (fieldsOf file) (functionOf (nodesOf file) (functionRecord file at)))
+-- One function: its least fault with no links at its start, and its expressions' owners.
+pub record FunctionJudged (fields parameters nodes : List ℕ) (root : ℕ) (before after : List ℕ) (r : ℕ) : Type 0 where
+  pub fault : leastFault (statementFaults (scopeFrom fields parameters) noLinks (statementIn (nodesIn nodes) root)) ≡ r
+  pub column : after ≡ marked (ownerAt (scopeFrom fields parameters) (nodesIn nodes)) (statementsUnder (nodesIn nodes) root) before
 
-abbrev pub allFunctionsFault : List ℕ → ℕ
-allFunctionsFault file =
-    leastFault (flatMap (functionFaults (fieldsOf file)) (map (functionOf (nodesOf file)) ((sectionsOf file) .functions)))
+abbrev pub scopeOfRecord : List Field → FunctionRecord → Scope
+scopeOfRecord fields r = record { fields = fields; parameters = map parameterOf (r .parameters) }
 
-pub record FunctionReady (file : List ℕ) (nodesStart at : ℕ) : Type 0 where
-  pub settled : Settled file
-  pub nodes : nodesStart ≡ nodesAt file
-  pub near : nodesStart ≤ 200000
-  pub fewNodes : nodeCount file ≤ 65535
-  pub nearFunction : at < 200000
-  pub fewParameters : length ((functionRecord file at) .parameters) ≤ 8
-  pub root : (functionRecord file at) .root < nodeCount file
+-- The column when all functions were judged, in their order.
+unfoldable pub functionsMarked : List Field → List Node → List FunctionRecord → List ℕ → List ℕ
+functionsMarked fields nodes [] column = column
+functionsMarked fields nodes (r ∷ rs) column =
+    functionsMarked fields nodes rs (marked (ownerAt (scopeOfRecord fields r) nodes) (statementsUnder nodes (r .root)) column)
+
+abbrev pub contractMarked : List ℕ → List ℕ → List ℕ → List ℕ → List ℕ → List ℕ
+contractMarked fields functions parameters nodes column =
+    functionsMarked (fieldsIn fields) (nodesIn nodes) (functionsFrom parameters (length functions / 3) functions 0) column
+
+pub record FunctionsJudged (fields functions parameters nodes before after : List ℕ) (r : ℕ) : Type 0 where
+  pub fault : r ≡ leastFault (flatMap (functionFaults (fieldsIn fields))
+      (map (functionOf (nodesIn nodes)) (functionsFrom parameters (length functions / 3) functions 0)))
+  pub column : after ≡ contractMarked fields functions parameters nodes before
+
+-- What is known of each function: its parameters are few and in the tables, its root is a node.
+pub record FunctionsReady (fields functions parameters nodes owners : List ℕ) : Type 0 where
+  pub declared : FieldsReady fields
+  pub inside : ParametersInside functions parameters
+  pub few : length functions ≤ 48
+  pub fewParameters : (f : ℕ) → f < length functions / 3 → numberAt functions (3 * f + 1) ≤ 8
+  pub listed : (f : ℕ) → f < length functions / 3
+      → any (λ p. not (parameterInTables p))
+      (parametersFrom (numberAt functions (3 * f + 1)) parameters (numberAt functions (3 * f))) ≡ false
+  pub roots : (f : ℕ) → f < length functions / 3 → numberAt functions (3 * f + 2) < length nodes / 5
+  pub bodies : NodesReady fields nodes
+  pub column : length nodes / 5 ≤ length owners
+
+-- Numbers 2, 3 and 4 let the sections pass.
+pub record Passed (fields functions parameters nodes : List ℕ) : Type 0 where
+  pub shaped : Shaped functions nodes
+  pub inside : ParametersInside functions parameters
+  pub fewFields : length fields ≤ 192
+  pub fewParameters : any (λ r. ltb 8 (length (r .parameters))) ((sectionsFrom fields functions parameters nodes) .functions) ≡ false
+  pub tables : outsideTables (sectionsFrom fields functions parameters nodes) ≡ false
+  pub numbers : namesNothing (sectionsFrom fields functions parameters nodes) ≡ false

@@ -1,90 +1,125 @@
-// Numbers 8 to 15 of a contract file that numbers 1 to 7 let pass.
-use file_bytes::Layout;
-use file_bytes::byte_at;
-use file_bytes::function_end;
-use file_bytes::read_layout;
-use file_bytes::two_bytes_at;
+// Numbers 8 to 15 of a contract that numbers 1 to 7 let pass, from its decoded slices; the owners of all its expressions in a column.
+use file_decoded::number_from;
+use file_kinds::FINAL_SHORT;
 use rules_faults::least;
 use rules_faults::number_if;
+use rules_links::class_room;
 use rules_links::no_links;
-use rules_scopes::Parameters;
-use rules_scopes::field_at;
+use rules_owners::FINALS;
+use rules_scopes::field_from;
 use rules_statements::judge_statement;
 ghost use mathlib.Core.Path.{_≡_};
-ghost use Prim.Native.Nat.{_≤_};
+ghost use Prim.Native.Nat.{_/_, _<_, _≤_};
+ghost use lib.ListN.{length};
 ghost use Rattle.definitions.specs.Basics.{firstThatHolds};
-ghost use Rattle.definitions.specs.ContractFile.{sectionsOf, fieldCount, contractOf};
+ghost use Rattle.definitions.specs.ContractFile.{contractOf};
 ghost use Rattle.definitions.specs.Numbers.{contractSentences};
-ghost use Rattle.file_bytes.specs.Layout.{IsLayout};
-ghost use Rattle.theory_accepted.specs.Settled.{Settled};
-ghost use Rattle.rules_contract.specs.Sections.{ownerFault, allFieldsFault, FunctionReady, functionFault, allFunctionsFault};
+ghost use Rattle.file_decoded.specs.Slices.{sectionsFrom};
+ghost use Rattle.rules_scopes.specs.Scopes.{FieldsReady, ParametersReady, NodesReady};
+ghost use Rattle.rules_contract.specs.Sections.{ownerFault, allFieldsFault, FunctionJudged, FunctionsReady, FunctionsJudged, Passed};
+ghost use Rattle.rules_contract.specs.Sections.{contractMarked};
 
 // "8. .. an owner code's field isn't final": in field f's own owner code.
-fn owner_fault(file: &[u8], f: u8) -> u8
-    requires { ⌜ Settled (now file) ⌝ }
-    ensures { λ r. ⌜ r ≡ ownerFault (now (file .entry)) f ⌝ }
+fn owner_fault(fields: &[u16], f: u16) -> u8
+    requires { ⌜ (FieldsReady (now fields)) × (f < length (now fields) / 3) ⌝ }
+    ensures { λ r. ⌜ r ≡ ownerFault (now (fields .entry)) f ⌝ }
 {
-    let d = field_at(file, f);
-    let owner = d.owner;
-    if owner < 16 {
+    let declared = field_from(fields, f);
+    if declared.tagged {
         return 16;
     }
-    let named = field_at(file, owner - 16);
-    number_if(!(named.shape == 1), 8)
+    if declared.owner == 0 {
+        return 16;
+    }
+    let named = field_from(fields, declared.owner - FINALS);
+    number_if(!(named.shape == FINAL_SHORT), 8)
 }
 
-fn fields_fault(file: &[u8], count: usize) -> u8
-    requires { ⌜ (Settled (now file)) × (count ≡ fieldCount (now file)) × (count ≤ 255) ⌝ }
-    ensures { λ r. ⌜ r ≡ allFieldsFault (now (file .entry)) ⌝ }
+fn fields_fault(fields: &[u16]) -> u8
+    requires { ⌜ FieldsReady (now fields) ⌝ }
+    ensures { λ r. ⌜ r ≡ allFieldsFault (now (fields .entry)) ⌝ }
 {
+    let count = fields.len() / 3;
     let mut fault: u8 = 16;
     let mut i: usize = 0;
     while i < count {
-        fault = least(fault, owner_fault(file, i as u8));
+        fault = least(fault, owner_fault(fields, i as u16));
         i += 1;
     }
     fault
 }
 
-// The function whose bytes begin at a place, with no links at its start.
-fn function_fault(file: &[u8], nodes_at: usize, at: usize) -> u8
-    requires { ⌜ FunctionReady (now file) «nodes_at» at ⌝ }
-    ensures { λ r. ⌜ r ≡ functionFault (now (file .entry)) at ⌝ }
+// One function, from its own parameters and its root, with no links at its start.
+fn function_fault(
+    fields: &[u16],
+    parameters: &[u16],
+    nodes: &[u16],
+    owners: &mut [u16],
+    root: usize,
+) -> u8
+    requires { ⌜ (root < length (now nodes) / 5) × (FieldsReady (now fields)) × (ParametersReady (now parameters))
+        × (NodesReady (now fields) (now nodes)) × (length (now nodes) / 5 ≤ length (now owners)) ⌝ }
+    ensures { λ r. ⌜ FunctionJudged (now (fields .entry)) (now (parameters .entry)) (now (nodes .entry)) root
+        (now (owners .entry)) (now (owners .exit)) r ⌝ }
 {
-    let count = byte_at(file, at);
-    let root = two_bytes_at(file, at + 1 + 2 * count);
-    let p = Parameters {
-        at: at + 1,
-        count: count as u8,
-    };
-    let checked = judge_statement(file, nodes_at, p, no_links(), root);
+    let count = 10 + fields.len() / 3;
+    let mut classes = class_room();
+    no_links(&mut classes[..count]);
+    let checked = judge_statement(
+        fields,
+        parameters,
+        nodes,
+        &mut classes[..count],
+        owners,
+        root,
+    );
     checked.fault
 }
 
-fn functions_fault(file: &[u8], layout: Layout) -> u8
-    requires { ⌜ (Settled (now file)) × (IsLayout (now file) layout) ⌝ }
-    ensures { λ r. ⌜ r ≡ allFunctionsFault (now (file .entry)) ⌝ }
+fn functions_fault(
+    fields: &[u16],
+    functions: &[u16],
+    parameters: &[u16],
+    nodes: &[u16],
+    owners: &mut [u16],
+) -> u8
+    requires { ⌜ FunctionsReady (now fields) (now functions) (now parameters) (now nodes) (now owners) ⌝ }
+    ensures { λ r. ⌜ FunctionsJudged (now (fields .entry)) (now (functions .entry)) (now (parameters .entry)) (now (nodes .entry))
+        (now (owners .entry)) (now (owners .exit)) r ⌝ }
 {
+    let count = functions.len() / 3;
     let mut fault: u8 = 16;
-    let mut at = layout.functions_at + 1;
-    let mut left = layout.functions;
-    while 0 < left {
-        fault = least(fault, function_fault(file, layout.nodes_at, at));
-        at = function_end(file, at);
-        left -= 1;
+    let mut f: usize = 0;
+    while f < count {
+        let from = number_from(functions, 3 * f);
+        let to = from + 2 * number_from(functions, 3 * f + 1);
+        let root = number_from(functions, 3 * f + 2);
+        fault = least(
+            fault,
+            function_fault(fields, &parameters[from..to], nodes, owners, root),
+        );
+        f += 1;
     }
     fault
 }
 
 // The first of the sentences 8 to 15 that holds, 0 for none.
-pub fn rules_number(file: &[u8]) -> u8
-    requires { ⌜ Settled (now file) ⌝ }
-    ensures { λ r. ⌜ r ≡ firstThatHolds 8 (contractSentences (contractOf (sectionsOf (now (file .entry))))) ⌝ }
+pub fn rules_number(
+    fields: &[u16],
+    functions: &[u16],
+    parameters: &[u16],
+    nodes: &[u16],
+    owners: &mut [u16],
+) -> u8
+    requires { ⌜ (Passed (now fields) (now functions) (now parameters) (now nodes)) × (length (now nodes) / 5 ≤ length (now owners)) ⌝ }
+    ensures { λ r. ⌜ r ≡ firstThatHolds 8 (contractSentences (contractOf (sectionsFrom (now (fields .entry)) (now (functions .entry))
+        (now (parameters .entry)) (now (nodes .entry))))) ⌝ }
+    ensures { λ _. ⌜ now (owners .exit) ≡ contractMarked (now (fields .entry)) (now (functions .entry)) (now (parameters .entry))
+        (now (nodes .entry)) (now (owners .entry)) ⌝ }
 {
-    let layout = read_layout(file);
     let fault = least(
-        fields_fault(file, layout.fields),
-        functions_fault(file, layout),
+        fields_fault(fields),
+        functions_fault(fields, functions, parameters, nodes, owners),
     );
     if fault == 16 { 0 } else { fault }
 }

@@ -1,1 +1,3 @@
-pub mod Reading
+pub mod Judging
+pub mod Names
+pub mod Learning

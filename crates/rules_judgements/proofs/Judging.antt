@@ -3,102 +3,117 @@ use mathlib.Core.Path.{_≡_, refl, sym, _∙_}
 use mathlib.Core.Bool.{Bool, true, false, not, cond, _&&_, _||_}
 use mathlib.Core.List.{_++_}
 use mathlib.Core.Option.{none, some}
-use Prim.Native.Nat.{ℕ, _+_}
+use Prim.Native.Nat.{ℕ, zero, suc, _+_, _≤_, _<_}
+use native.Mathlib.Omega.{arith}
 use borrow.Author.Tests.{eqb-true}
 use lib.Dec.{eqb, leb}
 use lib.ListN.{length}
-use Rattle.definitions.specs.ContractFile.{finalName, parameterName, Expression, constant, me, field, entry, parameter, Scope, fieldAt, parameterAt, ownerOfCode, dataTypeOf, typeOf}
+use Rattle.definitions.specs.ContractFile.{finalName, parameterName, Expression, constant, me, field, entry, parameter, Scope, fieldAt, parameterAt, dataTypeOf, dataTypeCode, typeOf}
 use Rattle.definitions.specs.Owners.{Links, ownerOf, nameOf, placeOwner}
-use Rattle.definitions.specs.Numbers.{targetInTables, expressionFaults, entryFaults, fault, readFault}
+use Rattle.definitions.specs.Numbers.{expressionFaults, entryFaults, fault, readFault}
 use Rattle.rules_faults.specs.Faults.{leastFault}
 use Rattle.rules_faults.proofs.Faults.{least-append, least-none, least-one, counted-8, counted-9, counted-10}
-use Rattle.rules_links.specs.Names.{nameWith}
-use Rattle.rules_codes.specs.Codes.{placeCode}
-use Rattle.rules_codes.proofs.Codes.{public-code, no-name, tagged-code, place-owner, place-listed, listed-final, listed-argument, name-final, name-argument, caller-listed, caller-code}
-use Rattle.rules_judgements.specs.Judging.{JudgedAs, IsField, IsParameter, Present, Final, constantJudged, meJudged, fieldJudged, entryFault, entryJudged, parameterJudged}
+use Rattle.rules_owners.specs.Numbering.{nameWith, ownerWith}
+use Rattle.rules_owners.proofs.Numbering.{above-eqb, argument-numbered, final-numbered}
+use Rattle.rules_scopes.specs.Scopes.{IsField, IsParameter}
+use Rattle.rules_scopes.specs.declared.Declared.{Declared}
+use Rattle.rules_scopes.specs.declared.Given.{Given}
+use Rattle.rules_codes.specs.Codes.{placeNumber}
+use Rattle.rules_codes.proofs.Codes.{public-code, no-name, tagged-code, place-owner, place-listed, caller-listed, caller-code}
+use Rattle.rules_judgements.specs.Judging.{JudgedAs, constantJudged, meJudged, fieldJudged, entryFault, entryJudged, parameterJudged}
 use Rattle.rules_judgements.specs.declared.Judged.{Judged}
-use Rattle.rules_judgements.specs.declared.Declared.{Declared}
-use Rattle.rules_judgements.specs.declared.Given.{Given}
 
-module _ (scope : Scope) (linked : Links) where
-  pub constant-is : (code value : ℕ) → JudgedAs scope linked (constant (dataTypeOf code) value) (constantJudged code)
+name-final : (f : ℕ) → nameWith (10 + f) ≡ some (finalName f)
+name-final f = rw (above-eqb (10 + f) 0 (omega arith), final-numbered f)
+
+name-argument : (k : ℕ) → k < 8 → nameWith (2 + k) ≡ some (parameterName k)
+name-argument k h = rw (above-eqb (2 + k) 0 (omega arith), argument-numbered k h)
+
+constant-type : (code : ℕ) → code ≤ 2 → dataTypeCode (dataTypeOf code) ≡ code
+constant-type zero h = refl
+constant-type (suc zero) h = refl
+constant-type (suc (suc zero)) h = refl
+constant-type (suc (suc (suc n))) h = absurd (omega arith)
+
+module _ (scope : Scope) (linked : Links) (count : ℕ) (enough : 10 ≤ count) where
+  pub constant-is : (code value : ℕ) → code ≤ 2 → JudgedAs scope linked count (constant (dataTypeOf code) value) (constantJudged code)
   unfolding typeOf ownerOf nameOf expressionFaults
-  constant-is code value = record { type = refl; owner = refl; name = refl; fault = least-none; ownerListed = refl; nameListed = refl }
+  constant-is code value h = record { type = constant-type code h; owner = refl; name = refl; fault = least-none; ownerListed = omega arith; nameListed = omega arith }
 
-  pub me-is : JudgedAs scope linked me meJudged
+  pub me-is : JudgedAs scope linked count me meJudged
   unfolding typeOf ownerOf nameOf expressionFaults
-  me-is = record { type = refl; owner = refl; name = refl; fault = least-none; ownerListed = refl; nameListed = refl }
+  me-is = record { type = refl; owner = refl; name = refl; fault = least-none; ownerListed = omega arith; nameListed = omega arith }
 
-  field-name : (f : ℕ) (d : Declared) → Final f d → (final : Bool) → eqb (d .shape) 1 ≡ final → cond final (some (finalName f)) none ≡ nameWith (cond final (16 + f) 0)
-  field-name f d h true e = sym (name-final f (h .below (eqb-true (d .shape) 1 e)))
-  field-name f d h false e = refl
+  field-name : (f : ℕ) (final : Bool) → cond final (some (finalName f)) none ≡ nameWith (cond final (10 + f) 0)
+  field-name f true = sym (name-final f)
+  field-name f false = refl
 
-  field-name-listed : (f : ℕ) (d : Declared) → Final f d → (final : Bool) → eqb (d .shape) 1 ≡ final → targetInTables (cond final (16 + f) 0) ≡ true
-  field-name-listed f d h true e = listed-final f (h .below (eqb-true (d .shape) 1 e))
-  field-name-listed f d h false e = refl
+  field-name-listed : (f : ℕ) → 10 + f < count → (final : Bool) → cond final (10 + f) 0 < count
+  field-name-listed f h true = h
+  field-name-listed f h false = omega arith
 
-  pub field-is : (f : ℕ) (d : Declared) → Final f d → IsField (fieldAt (scope .fields) f) d → JudgedAs scope linked (field f) (fieldJudged linked f d)
+  pub field-is : (fields f : ℕ) (d : Declared) → 10 + fields ≤ count → 10 + f < count → IsField fields (fieldAt (scope .fields) f) d
+      → JudgedAs scope linked count (field f) (fieldJudged linked f d)
   unfolding typeOf ownerOf nameOf expressionFaults
-  field-is f d h i =
-      let own : placeOwner ((fieldAt (scope .fields) f) .owner) none ≡ ownerOfCode (placeCode (d .owner) 0) = rw (i .owner) (place-owner (d .owner) 0 (i .listed)) in
+  field-is fields f d room h i =
+      let own : placeOwner ((fieldAt (scope .fields) f) .owner) none ≡ ownerWith (placeNumber d 0) = place-owner fields (fieldAt (scope .fields) f) d 0 i in
       record {
         type = i .type;
         owner = own;
-        name = rw (i .shape) (field-name f d h (eqb (d .shape) 1) refl);
+        name = rw (i .shape) (field-name f (eqb (d .shape) 1));
         fault = simp least-append (rw (i .shape, own, least-one (eqb (d .shape) 2) 8 counted-8));
-        ownerListed = place-listed (d .owner) 0 (i .listed) refl;
-        nameListed = field-name-listed f d h (eqb (d .shape) 1) refl;
+        ownerListed = place-listed fields (fieldAt (scope .fields) f) d 0 i count room (omega arith);
+        nameListed = field-name-listed f h (eqb (d .shape) 1);
       }
 
-  pub entry-fault-is : (f : ℕ) (d : Declared) (e : Expression) (key : Judged) → IsField (fieldAt (scope .fields) f) d → JudgedAs scope linked e key
+  pub entry-fault-is : (fields f : ℕ) (d : Declared) (e : Expression) (key : Judged) → IsField fields (fieldAt (scope .fields) f) d → JudgedAs scope linked count e key
       → leastFault (entryFaults scope f e) ≡ entryFault d key
-  entry-fault-is f d e key i h =
+  entry-fault-is fields f d e key i h =
       simp least-append
-      (rw (i .shape, i .owner, h .type, h .owner, h .name, public-code (key .owner), tagged-code (d .owner), no-name (key .name))
+      (rw (i .shape, i .owner, h .type, h .owner, h .name, public-code (key .owner), tagged-code (d .owner) (d .tagged), no-name (key .name))
       (rw (
         least-one (not (eqb (d .shape) 2)) 8 counted-8,
         least-one (not (eqb (key .kind) 2)) 9 counted-9,
-        least-one (not (eqb (key .owner) 0) || (eqb (d .owner) 2 && eqb (key .name) 0)) 10 counted-10,
+        least-one (not (eqb (key .owner) 0) || (d .tagged && eqb (key .name) 0)) 10 counted-10,
       )))
 
-  pub entry-is : (f : ℕ) (d : Declared) (e : Expression) (key : Judged) → IsField (fieldAt (scope .fields) f) d → JudgedAs scope linked e key
-      → JudgedAs scope linked (entry f e) (entryJudged linked d key)
+  pub entry-is : (fields f : ℕ) (d : Declared) (e : Expression) (key : Judged) → 10 + fields ≤ count → IsField fields (fieldAt (scope .fields) f) d
+      → JudgedAs scope linked count e key → JudgedAs scope linked count (entry f e) (entryJudged linked d key)
   unfolding typeOf ownerOf nameOf expressionFaults
-  entry-is f d e key i h =
-      let own : placeOwner ((fieldAt (scope .fields) f) .owner) (nameOf scope e) ≡ ownerOfCode (placeCode (d .owner) (key .name)) =
-      rw (i .owner, h .name) (place-owner (d .owner) (key .name) (i .listed)) in
+  entry-is fields f d e key room i h =
+      let own : placeOwner ((fieldAt (scope .fields) f) .owner) (nameOf scope e) ≡ ownerWith (placeNumber d (key .name)) =
+      rw (h .name) (place-owner fields (fieldAt (scope .fields) f) d (key .name) i) in
       record {
         type = i .type;
         owner = own;
         name = refl;
         fault = least-append (expressionFaults scope linked e ++ entryFaults scope f e) (readFault scope linked (entry f e))
-            ∙ rw (least-append (expressionFaults scope linked e) (entryFaults scope f e), entry-fault-is f d e key i h, own, h .fault);
-        ownerListed = place-listed (d .owner) (key .name) (i .listed) (h .nameListed);
-        nameListed = refl;
+            ∙ rw (least-append (expressionFaults scope linked e) (entryFaults scope f e), entry-fault-is fields f d e key i h, own, h .fault);
+        ownerListed = place-listed fields (fieldAt (scope .fields) f) d (key .name) i count room (h .nameListed);
+        nameListed = omega arith;
       }
 
-  pub parameter-is : (k count : ℕ) (p : Given) → length (scope .parameters) ≡ count → IsParameter (parameterAt (scope .parameters) k) p → Present k p
-      → JudgedAs scope linked (parameter k) (parameterJudged linked k count p)
+  pub parameter-is : (k present : ℕ) (p : Given) → length (scope .parameters) ≡ present → IsParameter k (parameterAt (scope .parameters) k) p
+      → JudgedAs scope linked count (parameter k) (parameterJudged linked k present p)
   unfolding typeOf ownerOf nameOf expressionFaults
-  parameter-is k count p l i there =
+  parameter-is k present p l i =
       record {
         type = i .type;
         owner = rw (i .private) (caller-code (not (eqb (p .owner) 0)));
         name = rw (i .type, i .private) (named (eqb (p .owner) 0) refl (eqb (p .kind) 2));
         fault = simp least-append
-            (rw (l, i .private, caller-code (not (eqb (p .owner) 0)), least-one (leb count k) 8 counted-8));
-        ownerListed = caller-listed (not (eqb (p .owner) 0));
-        nameListed = in-tables (eqb (p .owner) 0) refl (eqb (p .kind) 2);
+            (rw (l, i .private, caller-code (not (eqb (p .owner) 0)), least-one (leb present k) 8 counted-8));
+        ownerListed = caller-listed count enough (not (eqb (p .owner) 0));
+        nameListed = listed (eqb (p .owner) 0) refl (eqb (p .kind) 2);
       }
     where
-      named : (a : Bool) → eqb (p .owner) 0 ≡ a → (b : Bool) → cond (b && not (not a)) (some (parameterName k)) none ≡ nameWith (cond a (cond b (128 + k) 0) 0)
-      named true e true = sym (name-argument k (there .there (eqb-true (p .owner) 0 e)))
+      named : (a : Bool) → eqb (p .owner) 0 ≡ a → (b : Bool) → cond (b && not (not a)) (some (parameterName k)) none ≡ nameWith (cond a (cond b (2 + k) 0) 0)
+      named true e true = sym (name-argument k (i .present (eqb-true (p .owner) 0 e)))
       named true e false = refl
       named false e true = refl
       named false e false = refl
 
-      in-tables : (a : Bool) → eqb (p .owner) 0 ≡ a → (b : Bool) → targetInTables (cond a (cond b (128 + k) 0) 0) ≡ true
-      in-tables true e true = listed-argument k (there .there (eqb-true (p .owner) 0 e))
-      in-tables true e false = refl
-      in-tables false e true = refl
-      in-tables false e false = refl
+      listed : (a : Bool) → eqb (p .owner) 0 ≡ a → (b : Bool) → cond a (cond b (2 + k) 0) 0 < count
+      listed true e true = let h = i .present (eqb-true (p .owner) 0 e) in omega arith
+      listed true e false = omega arith
+      listed false e b = omega arith

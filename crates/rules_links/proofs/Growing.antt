@@ -1,26 +1,30 @@
 -- Links learnt one after the other, and none learnt.
-use mathlib.Core.Path.{_≡_, refl, sym, _∙_}
-use mathlib.Core.Bool.{true, true≢false}
+use mathlib.Core.Path.{_≡_, refl, _∙_}
+use mathlib.Core.Bool.{Bool, true, false, _||_, true≢false}
+use mathlib.Core.List.{List}
+use Prim.Native.Nat.{ℕ}
+use lib.ListN.{length}
 use Rattle.definitions.specs.Owners.{Links}
-use Rattle.rules_links.specs.Names.{linkedBy}
-use Rattle.rules_links.specs.Growing.{Learnt}
-use Rattle.rules_links.specs.declared.Classes.{Classes}
+use Rattle.theory_laws.proofs.TruthValues.{or-left, or-right}
+use Rattle.rules_links.specs.Classes.{Classed, linkedBy, Learnt}
 
-pub nothing-learnt : (classes : Classes) (links : Links) → linkedBy (classes .of) ≡ links → Learnt classes classes links
-nothing-learnt classes links same = record { links = same; unlessGrown = λ h. (refl, h) }
+pub nothing-learnt : {added : Bool} (classes : List ℕ) (links : Links) → Classed classes → linkedBy classes ≡ links → Learnt classes classes added links
+nothing-learnt classes links classed same = record { links = same; classed = classed; long = refl; unlessAdded = λ h. refl }
 
-pub link-learnt : (before after : Classes) (links : Links) → after .grown ≡ true → linkedBy (after .of) ≡ links → Learnt before after links
-link-learnt before after links grown same = record { links = same; unlessGrown = λ h. absurd (true≢false (sym grown ∙ h)) }
+pub link-learnt : (before after : List ℕ) (links : Links) → Classed after → length after ≡ length before → linkedBy after ≡ links
+    → Learnt before after true links
+link-learnt before after links classed long same = record { links = same; classed = classed; long = long; unlessAdded = λ h. absurd (true≢false h) }
 
-pub learnt-as : {before after : Classes} {links same : Links} → Learnt before after links → links ≡ same → Learnt before after same
-learnt-as h e = record { links = h .links ∙ e; unlessGrown = h .unlessGrown }
+pub learnt-as : {before after : List ℕ} {added : Bool} {links same : Links} → Learnt before after added links → links ≡ same
+    → Learnt before after added same
+learnt-as h e = record { links = h .links ∙ e; classed = h .classed; long = h .long; unlessAdded = h .unlessAdded }
 
-pub learnt-both : {before between after : Classes} {links more : Links} → Learnt before between links → Learnt between after more → Learnt before after more
-learnt-both h k =
+pub learnt-both : {before between after : List ℕ} {a b : Bool} {links more : Links} → Learnt before between a links → Learnt between after b more
+    → Learnt before after (a || b) more
+learnt-both {a = a} {b = b} h k =
     record {
       links = k .links;
-      unlessGrown = λ e.
-          let second = k .unlessGrown e in
-          let first = h .unlessGrown (second .1) in
-          (first .0 ∙ second .0, first .1);
+      classed = k .classed;
+      long = k .long ∙ h .long;
+      unlessAdded = λ e. h .unlessAdded (or-left a b e) ∙ k .unlessAdded (or-right a b e);
     }

@@ -3,16 +3,19 @@ use mathlib.Core.Path.{_≡_, refl, ap, sym, _∙_, fun-ext}
 use mathlib.Core.Bool.{Bool, true, false, cond, _&&_, _||_, true≢false}
 use mathlib.Core.List.{List}
 use Prim.Native.Nat.{ℕ, _+_, _≤_, _<_}
+use native.Mathlib.Numerals.{add-one}
 use native.Mathlib.Omega.{arith}
-use borrow.Author.Tests.{ltb-true, eqb-true, eqb-false, eq-eqb, ne-eqb}
+use borrow.Author.Tests.{ltb-true, ltb-false, eqb-true, eqb-false, eq-eqb, ne-eqb}
 use lib.Dec.{eqb, ltb}
-use lib.ListN.{length, getD, set, length-set}
-use lib.Seq.{getD-set-same, getD-set-other}
+use lib.ListN.{length, getD, set, take, length-set, List·getD-eq-default}
+use lib.Seq.{getD-set-same, getD-set-other, take-suc, take-suc-set, take-all}
 use Rattle.definitions.specs.ContractFile.{Name, meName, finalName, parameterName, sameName}
 use Rattle.definitions.specs.Owners.{Links, noLinks, withLink, withLinkOf}
-use Rattle.definitions.specs.Numbers.{targetInTables}
-use Rattle.rules_links.specs.Names.{nameOfCode, nameWith, codeOfName, known, linkedBy, exchanged, Exchanged}
-use Rattle.rules_links.proofs.Names.{known-code, code-of-name, known-below, below-eqb, above-eqb}
+use Rattle.rules_owners.specs.Numbering.{nameNumbered, nameWith, numberOfName}
+use Rattle.rules_owners.proofs.Numbering.{name-back, below-eqb, above-eqb}
+use Rattle.rules_links.specs.Classes.{Classed, known, linkedBy, exchanged, Exchanged, Learnt}
+use Rattle.rules_links.proofs.Names.{known-number, known-below}
+use Rattle.rules_links.proofs.Growing.{link-learnt}
 
 eqb-sym : (a b : ℕ) → eqb a b ≡ eqb b a
 eqb-sym a b = go (eqb a b) refl
@@ -31,33 +34,33 @@ eqb-shift m a b = go (eqb a b) refl
 pub eqb-same : (a : ℕ) → eqb a a ≡ true
 eqb-same a = eq-eqb a a refl
 
-same-codes : (a b : Name) → known a ≡ true → known b ≡ true → eqb (codeOfName a) (codeOfName b) ≡ sameName a b
+same-numbers : (count : ℕ) (a b : Name) → known count a ≡ true → known count b ≡ true → eqb (numberOfName a) (numberOfName b) ≡ sameName a b
 unfolding sameName
-same-codes meName meName p q = refl
-same-codes meName (finalName g) p q = below-eqb 1 (16 + g) (omega arith)
-same-codes meName (parameterName j) p q = below-eqb 1 (128 + j) (omega arith)
-same-codes (finalName f) meName p q = above-eqb (16 + f) 1 (omega arith)
-same-codes (finalName f) (finalName g) p q = eqb-shift 16 f g
-same-codes (finalName f) (parameterName j) p q = let x = ltb-true f 64 p in below-eqb (16 + f) (128 + j) (omega arith)
-same-codes (parameterName k) meName p q = above-eqb (128 + k) 1 (omega arith)
-same-codes (parameterName k) (finalName g) p q = let x = ltb-true g 64 q in above-eqb (128 + k) (16 + g) (omega arith)
-same-codes (parameterName k) (parameterName j) p q = eqb-shift 128 k j
+same-numbers count meName meName p q = refl
+same-numbers count meName (finalName g) p q = below-eqb 1 (10 + g) (omega arith)
+same-numbers count meName (parameterName j) p q = below-eqb 1 (2 + j) (omega arith)
+same-numbers count (finalName f) meName p q = above-eqb (10 + f) 1 (omega arith)
+same-numbers count (finalName f) (finalName g) p q = eqb-shift 10 f g
+same-numbers count (finalName f) (parameterName j) p q = let x = ltb-true j 8 q in above-eqb (10 + f) (2 + j) (omega arith)
+same-numbers count (parameterName k) meName p q = above-eqb (2 + k) 1 (omega arith)
+same-numbers count (parameterName k) (finalName g) p q = let x = ltb-true k 8 p in below-eqb (2 + k) (10 + g) (omega arith)
+same-numbers count (parameterName k) (parameterName j) p q = eqb-shift 2 k j
 
-apart-eqb : (m x y : ℕ) → ltb x m ≡ true → ltb y m ≡ false → eqb x y ≡ false
-apart-eqb m x y p q = ne-eqb x y (λ e. true≢false (sym p ∙ (ap (λ n. ltb n m) e ∙ q)))
+apart-eqb : (test : ℕ → Bool) (x y : ℕ) → test x ≡ true → test y ≡ false → eqb x y ≡ false
+apart-eqb test x y p q = ne-eqb x y (λ e. true≢false (sym p ∙ (ap test e ∙ q)))
 
--- A name with a code differs from one without.
-apart : (a b : Name) → known a ≡ true → known b ≡ false → sameName a b ≡ false
+-- A name with a class differs from one without.
+apart : (count : ℕ) (a b : Name) → known count a ≡ true → known count b ≡ false → sameName a b ≡ false
 unfolding sameName
-apart meName meName p q = q
-apart meName (finalName g) p q = refl
-apart meName (parameterName j) p q = refl
-apart (finalName f) meName p q = refl
-apart (finalName f) (finalName g) p q = apart-eqb 64 f g p q
-apart (finalName f) (parameterName j) p q = refl
-apart (parameterName k) meName p q = refl
-apart (parameterName k) (finalName g) p q = refl
-apart (parameterName k) (parameterName j) p q = apart-eqb 8 k j p q
+apart count meName meName p q = q
+apart count meName (finalName g) p q = refl
+apart count meName (parameterName j) p q = refl
+apart count (finalName f) meName p q = refl
+apart count (finalName f) (finalName g) p q = apart-eqb (λ n. ltb (10 + n) count) f g p q
+apart count (finalName f) (parameterName j) p q = refl
+apart count (parameterName k) meName p q = refl
+apart count (parameterName k) (finalName g) p q = refl
+apart count (parameterName k) (parameterName j) p q = apart-eqb (λ n. ltb n 8) k j p q
 
 same-sym : (a b : Name) → sameName a b ≡ sameName b a
 unfolding sameName
@@ -72,21 +75,30 @@ same-sym (parameterName k) (finalName g) = refl
 same-sym (parameterName k) (parameterName j) = eqb-sym k j
 
 -- Each name in a class of its own.
-pub alone : (classes : List ℕ) → ((i : ℕ) → i < 256 → getD classes i 0 ≡ i) → linkedBy classes ≡ noLinks
+pub alone : (classes : List ℕ) → 10 ≤ length classes → ((i : ℕ) → i < length classes → getD classes i 0 ≡ i) → linkedBy classes ≡ noLinks
 unfolding linkedBy
-alone classes own = fun-ext (λ a. fun-ext (λ b. go a b (known a) refl (known b) refl))
+alone classes enough own = fun-ext (λ a. fun-ext (λ b. go a b (known (length classes) a) refl (known (length classes) b) refl))
   where
-    go : (a b : Name) (s : Bool) → known a ≡ s → (t : Bool) → known b ≡ t
-        → cond (s && t) (eqb (getD classes (codeOfName a) 0) (getD classes (codeOfName b) 0)) (sameName a b) ≡ sameName a b
+    go : (a b : Name) (s : Bool) → known (length classes) a ≡ s → (t : Bool) → known (length classes) b ≡ t
+        → cond (s && t) (eqb (getD classes (numberOfName a) 0) (getD classes (numberOfName b) 0)) (sameName a b) ≡ sameName a b
     go a b true p true q =
-        rw (own (codeOfName a) (known-below a p), own (codeOfName b) (known-below b q)) (same-codes a b p q)
+        rw (own (numberOfName a) (known-below _ enough a p), own (numberOfName b) (known-below _ enough b q)) (same-numbers (length classes) a b p q)
     go a b true p false q = refl
     go a b false p t q = refl
 
-pub linked-codes : (classes : List ℕ) (a b : ℕ) → targetInTables a ≡ true → targetInTables b ≡ true → (a ≡ 0 → ⊥) → (b ≡ 0 → ⊥)
-    → linkedBy classes (nameOfCode a) (nameOfCode b) ≡ eqb (getD classes a 0) (getD classes b 0)
+pub linked-numbers : (classes : List ℕ) (a b : ℕ) → 10 ≤ length classes → a < length classes → b < length classes → (a ≡ 0 → ⊥) → (b ≡ 0 → ⊥)
+    → linkedBy classes (nameNumbered a) (nameNumbered b) ≡ eqb (getD classes a 0) (getD classes b 0)
 unfolding linkedBy
-linked-codes classes a b p q m n = rw (known-code a p m, known-code b q n, code-of-name a p m, code-of-name b q n)
+linked-numbers classes a b enough p q m n = rw (known-number _ a p m, known-number _ b q n, name-back a m, name-back b n)
+
+-- Classes whose numbers are those of names, as far as there are any.
+pub classed : (classes : List ℕ) → 10 ≤ length classes → length classes ≤ 74
+    → ((j : ℕ) → j < length classes → getD classes j 0 < length classes) → Classed classes
+classed classes enough few inside = record { enough = enough; few = few; bounded = λ j. go j (ltb j (length classes)) refl }
+  where
+    go : (j : ℕ) (t : Bool) → ltb j (length classes) ≡ t → getD classes j 0 < length classes
+    go j true h = inside j (ltb-true j (length classes) h)
+    go j false h = rw (List·getD-eq-default classes 0 (ltb-false j (length classes) h)) (omega arith)
 
 -- Two numbers after p is exchanged for q: equal if they were, or if one was p and the other q.
 exchanged-equal : (p q a b : ℕ) → eqb (exchanged p q a) (exchanged p q b) ≡ (eqb a b || (eqb a p && eqb q b) || (eqb a q && eqb p b))
@@ -132,35 +144,41 @@ exchanged-equal p q a b = go (eqb a p) refl (eqb b p) refl
         last false true = refl
         last false false = refl
 
-module _ (before after : List ℕ) (x y : Name) (kx : known x ≡ true) (ky : known y ≡ true)
-    (each : (j : ℕ) → j < 256 → getD after j 0 ≡ exchanged (getD before (codeOfName x) 0) (getD before (codeOfName y) 0) (getD before j 0)) where
+-- The links of classes, by how many names there are.
+abbrev linkedAmong : ℕ → List ℕ → Links
+linkedAmong count classes a b =
+    cond (known count a && known count b) (eqb (getD classes (numberOfName a) 0) (getD classes (numberOfName b) 0)) (sameName a b)
+
+module _ (before after : List ℕ) (enough : 10 ≤ length before) (x y : Name) (kx : known (length before) x ≡ true) (ky : known (length before) y ≡ true)
+    (exchange : Exchanged (getD before (numberOfName x) 0) (getD before (numberOfName y) 0) before after) where
   -- Links are chained: joining two classes links whatever is linked to the one with whatever is linked to the other.
-  pub joined-links : linkedBy after ≡ withLink x y (linkedBy before)
+  joined-links : linkedBy after ≡ withLink x y (linkedBy before)
   unfolding linkedBy withLink
-  joined-links = fun-ext (λ a. fun-ext (λ b. go a b (known a) refl (known b) refl))
+  joined-links =
+      ap (λ n. linkedAmong n after) (exchange .long)
+      ∙ fun-ext (λ a. fun-ext (λ b. go a b (known (length before) a) refl (known (length before) b) refl))
     where
       or-false : (u : Bool) → u ≡ (u || false || false)
       or-false true = refl
       or-false false = refl
 
-      and-false : (u v : Bool) → u ≡ (u || (v && false) || false)
-      and-false true v = refl
-      and-false false true = refl
-      and-false false false = refl
+      each : (a : Name) → known (length before) a ≡ true
+          → getD after (numberOfName a) 0 ≡ exchanged (getD before (numberOfName x) 0) (getD before (numberOfName y) 0) (getD before (numberOfName a) 0)
+      each a p = exchange .each (numberOfName a) (known-below (length before) enough a p)
 
-      go : (a b : Name) (s : Bool) → known a ≡ s → (t : Bool) → known b ≡ t
-          → cond (s && t) (eqb (getD after (codeOfName a) 0) (getD after (codeOfName b) 0)) (sameName a b)
-          ≡ (cond (s && t) (eqb (getD before (codeOfName a) 0) (getD before (codeOfName b) 0)) (sameName a b)
-          || (cond (s && known x) (eqb (getD before (codeOfName a) 0) (getD before (codeOfName x) 0)) (sameName a x)
-          && cond (known y && t) (eqb (getD before (codeOfName y) 0) (getD before (codeOfName b) 0)) (sameName y b))
-          || (cond (s && known y) (eqb (getD before (codeOfName a) 0) (getD before (codeOfName y) 0)) (sameName a y)
-          && cond (known x && t) (eqb (getD before (codeOfName x) 0) (getD before (codeOfName b) 0)) (sameName x b)))
+      go : (a b : Name) (s : Bool) → known (length before) a ≡ s → (t : Bool) → known (length before) b ≡ t
+          → cond (s && t) (eqb (getD after (numberOfName a) 0) (getD after (numberOfName b) 0)) (sameName a b)
+          ≡ (cond (s && t) (eqb (getD before (numberOfName a) 0) (getD before (numberOfName b) 0)) (sameName a b)
+          || (cond (s && known (length before) x) (eqb (getD before (numberOfName a) 0) (getD before (numberOfName x) 0)) (sameName a x)
+          && cond (known (length before) y && t) (eqb (getD before (numberOfName y) 0) (getD before (numberOfName b) 0)) (sameName y b))
+          || (cond (s && known (length before) y) (eqb (getD before (numberOfName a) 0) (getD before (numberOfName y) 0)) (sameName a y)
+          && cond (known (length before) x && t) (eqb (getD before (numberOfName x) 0) (getD before (numberOfName b) 0)) (sameName x b)))
       go a b true p true q =
-          rw (kx, ky, each (codeOfName a) (known-below a p), each (codeOfName b) (known-below b q))
-          (exchanged-equal (getD before (codeOfName x) 0) (getD before (codeOfName y) 0) (getD before (codeOfName a) 0) (getD before (codeOfName b) 0))
+          rw (kx, ky, each a p, each b q)
+          (exchanged-equal (getD before (numberOfName x) 0) (getD before (numberOfName y) 0) (getD before (numberOfName a) 0) (getD before (numberOfName b) 0))
       go a b true p false q =
-          rw (kx, ky, apart y b ky q, apart x b kx q) (last (sameName a b) (eqb (getD before (codeOfName a) 0) (getD before (codeOfName x) 0))
-          (eqb (getD before (codeOfName a) 0) (getD before (codeOfName y) 0)))
+          rw (kx, ky, apart _ y b ky q, apart _ x b kx q) (last (sameName a b) (eqb (getD before (numberOfName a) 0) (getD before (numberOfName x) 0))
+          (eqb (getD before (numberOfName a) 0) (getD before (numberOfName y) 0)))
         where
           last : (u v w : Bool) → u ≡ (u || (v && false) || (w && false))
           last true v w = refl
@@ -169,7 +187,7 @@ module _ (before after : List ℕ) (x y : Name) (kx : known x ≡ true) (ky : kn
           last false false true = refl
           last false false false = refl
       go a b false p t q =
-          rw (same-sym a x, same-sym a y, apart x a kx p, apart y a ky p) (or-false (sameName a b))
+          rw (same-sym a x, same-sym a y, apart _ x a kx p, apart _ y a ky p) (or-false (sameName a b))
 
 pub no-left-name : (linked : Links) (a b : ℕ) → a ≡ 0 → linked ≡ withLinkOf (nameWith a) (nameWith b) linked
 no-left-name linked a b e = rw e
@@ -177,12 +195,26 @@ no-left-name linked a b e = rw e
 pub no-right-name : (linked : Links) (a b : ℕ) → (a ≡ 0 → ⊥) → b ≡ 0 → linked ≡ withLinkOf (nameWith a) (nameWith b) linked
 no-right-name linked a b n e = rw (ne-eqb a 0 n, e)
 
-pub with-link-codes : (before after : List ℕ) (a b : ℕ) → targetInTables a ≡ true → targetInTables b ≡ true → (a ≡ 0 → ⊥) → (b ≡ 0 → ⊥)
-    → Exchanged (getD before a 0) (getD before b 0) before after
-    → linkedBy after ≡ withLinkOf (nameWith a) (nameWith b) (linkedBy before)
-with-link-codes before after a b p q m n each =
-    rw (ne-eqb a 0 m, ne-eqb b 0 n)
-    (joined-links before after (nameOfCode a) (nameOfCode b) (known-code a p m) (known-code b q n) (rw (code-of-name a p m, code-of-name b q n) (each .each)))
+module _ (before after : List ℕ) (a b : ℕ) (whole : Classed before) (p : a < length before) (q : b < length before)
+    (exchange : Exchanged (getD before a 0) (getD before b 0) before after) where
+  joined-classed : Classed after
+  joined-classed = classed after (rw (exchange .long) (whole .enough)) (rw (exchange .long) (whole .few)) inside
+    where
+      chosen : (class : ℕ) (t : Bool) → class < length before → cond t (getD before b 0) class < length before
+      chosen class true h = whole .bounded b
+      chosen class false h = h
+
+      inside : (j : ℕ) → j < length after → getD after j 0 < length after
+      inside j h =
+          let k : j < length before = rw (exchange .long) at h in
+          rw (exchange .long, exchange .each j k) (chosen (getD before j 0) (eqb (getD before j 0) (getD before a 0)) (whole .bounded j))
+
+  -- The names of two numbers are linked when their classes are joined.
+  pub joined : (a ≡ 0 → ⊥) → (b ≡ 0 → ⊥) → Learnt before after true (withLinkOf (nameWith a) (nameWith b) (linkedBy before))
+  joined m n = link-learnt before after _ joined-classed (exchange .long)
+      (rw (ne-eqb a 0 m, ne-eqb b 0 n)
+      (joined-links before after (whole .enough) (nameNumbered a) (nameNumbered b) (known-number _ a p m) (known-number _ b q n)
+      (rw (name-back a m, name-back b n) exchange)))
 
 -- One more class number is its own index.
 pub own-next : (l : List ℕ) (i : ℕ) → i < length l → ((j : ℕ) → j < i → getD l j 0 ≡ j) → (j : ℕ) → j < i + 1 → getD (set l i i) j 0 ≡ j
@@ -194,6 +226,9 @@ own-next l i h own j p = go (eqb j i) refl
       where
         le : (a b : ℕ) → a < b + 1 → (a ≡ b → ⊥) → a < b
         le a b x y = omega arith
+
+pub own-classed : (l : List ℕ) → 10 ≤ length l → length l ≤ 74 → ((j : ℕ) → j < length l → getD l j 0 ≡ j) → Classed l
+own-classed l enough few own = classed l enough few (λ j h. rw (own j h) h)
 
 -- Up to i exchanged, from i on as before.
 pub record UpTo (old new i : ℕ) (before now : List ℕ) : Type 0 where
@@ -232,3 +267,11 @@ up-to-next old new i value before now h u e =
             let z = eqb-true j i q in
             rw (z, ← u .ahead i (least j)) (getD-set-same now i value 0 h ∙ e)
         go false q = let n = eqb-false j i q in getD-set-other now i j value 0 n ∙ u .passed j (less j i p n)
+
+-- One class more is copied.
+pub copied-next : (from to : List ℕ) (i : ℕ) → i < length from → i < length to → take i to ≡ take i from
+    → take (i + 1) (set to i (getD from i 0)) ≡ take (i + 1) from
+copied-next from to i h k same = rw (add-one, take-suc-set to i (getD from i 0) k, same, take-suc from i 0 h)
+
+pub copied : (from to : List ℕ) (i : ℕ) → length from ≤ i → length to ≡ length from → take i to ≡ take i from → to ≡ from
+copied from to i h long same = sym (take-all i to (omega arith)) ∙ (same ∙ take-all i from h)

@@ -1,3 +1,3 @@
 pub mod Names
-pub mod Joining
 pub mod Growing
+pub mod Joining

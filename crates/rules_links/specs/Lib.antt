@@ -1,2 +1,1 @@
-pub mod Names
-pub mod Growing
+pub mod Classes

@@ -1,45 +1,37 @@
-// Links between names as classes: names of one class are linked. A class number stands at each name's owner code.
+// Links between names as classes: names of one class are linked. A class number stands at each name's owner's number, and is changed in
+// place. A caller is told whether a link was added: where one of an if's branches has added none, the links behind the if are those before
+// it, and no class need be looked at.
 ghost use mathlib.Core.Path.{_≡_};
-ghost use mathlib.Core.Bool.{true};
+ghost use Prim.Native.Nat.{_<_, _≤_};
 ghost use lib.Dec.{eqb};
 ghost use lib.ListN.{length, getD};
 ghost use Rattle.definitions.specs.Owners.{noLinks, withLinkOf};
-ghost use Rattle.definitions.specs.Numbers.{targetInTables};
-ghost use Rattle.rules_links.specs.Names.{linkedBy, nameWith, exchanged, Exchanged};
-ghost use Rattle.rules_links.specs.Growing.{Learnt};
+ghost use Rattle.rules_owners.specs.Numbering.{nameWith};
+ghost use Rattle.rules_links.specs.Classes.{Classed, linkedBy, exchanged, Exchanged, Learnt};
 
-// Links as classes of names: two names are linked when their codes have one class. A branch that adds no link says so: where one of
-// an if's branches has not grown, the links behind the if are those before it, and no class need be looked at.
-pub struct Classes {
-    pub of: [u8; 256],
-    pub grown: bool,
-}
-
-fn exchange(class: u8, old: u8, new: u8) -> u8
+fn exchange(class: u16, old: u16, new: u16) -> u16
     ensures { λ r. ⌜ r ≡ exchanged old new class ⌝ }
 {
     if class == old { new } else { class }
 }
 
 // A name is linked to itself alone.
-pub fn no_links() -> Classes
-    ensures { λ r. ⌜ linkedBy (r .of) ≡ noLinks ⌝ }
+pub fn no_links(classes: &mut [u16])
+    requires { ⌜ (10 ≤ length (now classes)) × (length (now classes) ≤ 74) ⌝ }
+    ensures { λ _. ⌜ (linkedBy (now (classes .exit)) ≡ noLinks) × (Classed (now (classes .exit)))
+        × (length (now (classes .exit)) ≡ length (now (classes .entry))) ⌝ }
 {
-    let mut classes = Classes {
-        of: [0; 256],
-        grown: false,
-    };
+    let count = classes.len();
     let mut i: usize = 0;
-    while i < 256 {
-        classes.of[i] = i as u8;
+    while i < count {
+        classes[i] = i as u16;
         i += 1;
     }
-    classes
 }
 
 // Whether two names are linked.
-pub fn same_class(classes: &[u8], a: u8, b: u8) -> bool
-    requires { ⌜ length (now classes) ≡ 256 ⌝ }
+pub fn same_class(classes: &[u16], a: u16, b: u16) -> bool
+    requires { ⌜ (a < length (now classes)) × (b < length (now classes)) ⌝ }
     ensures { λ r. ⌜ r ≡ eqb (getD (now (classes .entry)) a 0) (getD (now (classes .entry)) b 0) ⌝ }
 {
     let i = a as usize;
@@ -48,31 +40,53 @@ pub fn same_class(classes: &[u8], a: u8, b: u8) -> bool
 }
 
 // Each class number that is `old` becomes `new`.
-fn joined(classes: Classes, old: u8, new: u8) -> Classes
-    ensures { λ r. ⌜ (Exchanged old new (classes .of) (r .of)) × (r .grown ≡ true) ⌝ }
+fn join(classes: &mut [u16], old: u16, new: u16)
+    ensures { λ _. ⌜ Exchanged old new (now (classes .entry)) (now (classes .exit)) ⌝ }
 {
-    let mut next = classes;
-    next.grown = true;
+    let count = classes.len();
     let mut i: usize = 0;
-    while i < 256 {
-        next.of[i] = exchange(next.of[i], old, new);
+    while i < count {
+        classes[i] = exchange(classes[i], old, new);
         i += 1;
     }
-    next
 }
 
-// The names of two owner codes become linked; code 0 is no name.
-pub fn with_link(classes: Classes, a: u8, b: u8) -> Classes
-    requires { ⌜ (targetInTables a ≡ true) × (targetInTables b ≡ true) ⌝ }
-    ensures { λ r. ⌜ Learnt classes r (withLinkOf (nameWith a) (nameWith b) (linkedBy (classes .of))) ⌝ }
+// The names of two numbers become linked; 0 is no name. The answer is whether there was something to link.
+pub fn link(classes: &mut [u16], a: u16, b: u16) -> bool
+    requires { ⌜ (Classed (now classes)) × (a < length (now classes)) × (b < length (now classes)) ⌝ }
+    ensures { λ r. ⌜ Learnt (now (classes .entry)) (now (classes .exit)) r
+        (withLinkOf (nameWith a) (nameWith b) (linkedBy (now (classes .entry)))) ⌝ }
 {
     if a == 0 {
-        return classes;
+        return false;
     }
     if b == 0 {
-        return classes;
+        return false;
     }
     let i = a as usize;
     let j = b as usize;
-    joined(classes, classes.of[i], classes.of[j])
+    let old = classes[i];
+    let new = classes[j];
+    join(classes, old, new);
+    true
+}
+
+// The classes of one moment, kept while others change.
+pub fn copy_classes(from: &[u16], to: &mut [u16])
+    requires { ⌜ length (now from) ≡ length (now to) ⌝ }
+    ensures { λ _. ⌜ now (to .exit) ≡ now (from .entry) ⌝ }
+{
+    let count = to.len();
+    let mut i: usize = 0;
+    while i < count {
+        to[i] = from[i];
+        i += 1;
+    }
+}
+
+// Room for the classes of a contract with as many fields as number 2 lets pass.
+pub fn class_room() -> [u16; 74]
+    ensures { λ r. ⌜ 74 ≡ length r ⌝ }
+{
+    [0; 74]
 }

@@ -1,10 +1,10 @@
 -- Where one branch has added no link, what both have is what was there before.
 use mathlib.Core.Path.{_≡_, refl, sym, fun-ext}
 use mathlib.Core.Bool.{Bool, true, false, _&&_}
+use mathlib.Core.List.{List}
+use Prim.Native.Nat.{ℕ}
 use Rattle.definitions.specs.Owners.{linkedInBoth}
-use Rattle.rules_links.specs.Names.{linkedBy}
-use Rattle.rules_links.specs.Growing.{Learnt}
-use Rattle.rules_links.specs.declared.Classes.{Classes}
+use Rattle.rules_links.specs.Classes.{Classed, linkedBy, Learnt}
 use Rattle.rules_links.proofs.Growing.{nothing-learnt}
 use Rattle.rules_meet.specs.Branches.{GrownFrom}
 
@@ -17,13 +17,13 @@ both-of-more true more h = rw (h refl)
 both-of-more false true h = refl
 both-of-more false false h = refl
 
-module _ (before yes no : Classes) (inYes : GrownFrom before yes) (inNo : GrownFrom before no) where
-  pub yes-adds-nothing : yes .grown ≡ false → Learnt before before (linkedInBoth (linkedBy (yes .of)) (linkedBy (no .of)))
-  yes-adds-nothing h =
-      rw (← inYes .unlessGrown h)
-      (nothing-learnt before _ (fun-ext (λ a. fun-ext (λ b. both-of-less (linkedBy (before .of) a b) (linkedBy (no .of) a b) (inNo .kept a b)))))
+module _ (before one other : List ℕ) (a b : Bool) (inOne : GrownFrom before one a) (inOther : GrownFrom before other b) (whole : Classed before) where
+  pub one-adds-nothing : a ≡ false → Learnt before one false (linkedInBoth (linkedBy one) (linkedBy other))
+  one-adds-nothing h =
+      rw (← inOne .unlessAdded h)
+      (nothing-learnt before _ whole (fun-ext (λ x. fun-ext (λ y. both-of-less (linkedBy before x y) (linkedBy other x y) (inOther .kept x y)))))
 
-  pub no-adds-nothing : no .grown ≡ false → Learnt before before (linkedInBoth (linkedBy (yes .of)) (linkedBy (no .of)))
-  no-adds-nothing h =
-      rw (← inNo .unlessGrown h)
-      (nothing-learnt before _ (fun-ext (λ a. fun-ext (λ b. both-of-more (linkedBy (before .of) a b) (linkedBy (yes .of) a b) (inYes .kept a b)))))
+  pub other-adds-nothing : b ≡ false → Learnt before before false (linkedInBoth (linkedBy one) (linkedBy other))
+  other-adds-nothing h =
+      rw (← inOther .unlessAdded h)
+      (nothing-learnt before _ whole (fun-ext (λ x. fun-ext (λ y. both-of-more (linkedBy before x y) (linkedBy one x y) (inOne .kept x y)))))

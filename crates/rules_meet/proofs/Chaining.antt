@@ -1,33 +1,32 @@
--- The chains of the codes passed: each code's link back, and each class's last code so far.
+-- The chains of the numbers passed: each number's link back, and each class's last number so far.
 use mathlib.Core.Path.{_≡_, refl, sym, _∙_}
 use mathlib.Core.Bool.{Bool, true, false}
 use mathlib.Core.List.{List}
-use Prim.Native.Nat.{ℕ, _+_, _<_}
+use Prim.Native.Nat.{ℕ, _+_, _≤_, _<_}
 use native.Mathlib.Omega.{arith}
 use borrow.Author.Tests.{eqb-true, eqb-false}
-use mir.Syntax.{w8}
-use mir.Val.{Fits}
 use lib.Dec.{eqb}
 use lib.ListN.{length, getD, set, replicate, length-set, length-replicate, getD-replicate}
 use lib.Seq.{getD-set-same, getD-set-other}
+use Rattle.rules_links.specs.Classes.{Classed}
 use Rattle.rules_meet.specs.Chains.{Latest, ChainsOf}
 
-pub byte : (n : ℕ) → Fits w8 n → n < 256
-byte n h = h .fits
+pub few-classes : (classes : List ℕ) → Classed classes → (j : ℕ) → getD classes j 0 < 74
+few-classes classes whole j = let h = whole .bounded j in let few = whole .few in omega arith
 
--- The codes below i are in the chains.
+-- The numbers below i are in the chains.
 pub record Chaining (classes before last : List ℕ) (i : ℕ) : Type 0 where
-  pub links-size : length before ≡ 256
-  pub heads-size : length last ≡ 256
+  pub links-size : length before ≡ 74
+  pub heads-size : length last ≡ 74
   pub links : (m : ℕ) → 0 < m → m < i → Latest classes (getD classes m 0) m (getD before m 0)
-  pub heads : (class : ℕ) → class < 256 → Latest classes class i (getD last class 0)
+  pub heads : (class : ℕ) → class < length classes → Latest classes class i (getD last class 0)
 
-pub chaining-start : (classes : List ℕ) → Chaining classes (replicate 256 0) (replicate 256 0) 1
-chaining-start classes = record {
-  links-size = length-replicate {A = ℕ} 256 0;
-  heads-size = length-replicate {A = ℕ} 256 0;
+pub chaining-start : (classes : List ℕ) → length classes ≤ 74 → Chaining classes (replicate 74 0) (replicate 74 0) 1
+chaining-start classes few = record {
+  links-size = length-replicate {A = ℕ} 74 0;
+  heads-size = length-replicate {A = ℕ} 74 0;
   links = λ m p q. absurd (below-one m p q);
-  heads = λ class h. rw (getD-replicate {A = ℕ} 256 class 0 0 h) (nothing class);
+  heads = λ class h. rw (getD-replicate {A = ℕ} 74 class 0 0 (omega arith)) (nothing class);
 }
   where
     below-one : (m : ℕ) → 0 < m → m < 1 → ⊥
@@ -36,8 +35,11 @@ chaining-start classes = record {
     nothing : (class : ℕ) → Latest classes class 1 0
     nothing class = record { under = omega arith; member = λ p. absurd (below-one 0 p (omega arith)); between = λ j p q e. below-one j p q }
 
-module _ (classes before last : List ℕ) (i : ℕ) (some-code : 0 < i) (code : i < 256) (class : getD classes i 0 < 256) where
-  -- One more code: it is linked to the last of its class, and is now the last.
+module _ (classes before last : List ℕ) (i : ℕ) (whole : Classed classes) (inside : i < length classes) where
+  class : getD classes i 0 < length classes
+  class = whole .bounded i
+
+  -- One more number: it is linked to the last of its class, and is now the last.
   pub chaining-next : Chaining classes before last i
       → Chaining classes (set before i (getD last (getD classes i 0) 0)) (set last (getD classes i 0) i) (i + 1)
   chaining-next so-far = record {
@@ -58,16 +60,19 @@ module _ (classes before last : List ℕ) (i : ℕ) (some-code : 0 < i) (code : 
       link m p q true e =
           let z = eqb-true m i e in
           let s = so-far .links-size in
+          let t = whole .few in
           rw (z, getD-set-same before i (getD last (getD classes i 0) 0) 0 (omega arith)) (so-far .heads (getD classes i 0) class)
       link m p q false e =
           let n = eqb-false m i e in
           rw (getD-set-other before i m (getD last (getD classes i 0) 0) 0 n) (so-far .links m p (less m q n))
 
-      head : (c : ℕ) → c < 256 → (t : Bool) → eqb c (getD classes i 0) ≡ t
+      head : (c : ℕ) → c < length classes → (t : Bool) → eqb c (getD classes i 0) ≡ t
           → Latest classes c (i + 1) (getD (set last (getD classes i 0) i) c 0)
       head c h true e =
           let z = eqb-true c (getD classes i 0) e in
           let s = so-far .heads-size in
+          let t = whole .few in
+          let u = class in
           rw (z, getD-set-same last (getD classes i 0) i 0 (omega arith))
           (record { under = omega arith; member = λ p. refl; between = λ j p q w. none-after j p q })
       head c h false e =
@@ -76,15 +81,15 @@ module _ (classes before last : List ℕ) (i : ℕ) (some-code : 0 < i) (code : 
           n : c ≡ getD classes i 0 → ⊥
           n = eqb-false c (getD classes i 0) e
 
-          later : (code : ℕ) → Latest classes c i code → Latest classes c (i + 1) code
-          later code l = record { under = under; member = l .member; between = λ j p q w. between j p q w (eqb j i) refl }
+          later : (number : ℕ) → Latest classes c i number → Latest classes c (i + 1) number
+          later number l = record { under = under; member = l .member; between = λ j p q w. between j p q w (eqb j i) refl }
             where
-              under : code < i + 1
+              under : number < i + 1
               under = let u = l .under in omega arith
 
-              between : (j : ℕ) → code < j → j < i + 1 → getD classes j 0 ≡ c → (t : Bool) → eqb j i ≡ t → ⊥
+              between : (j : ℕ) → number < j → j < i + 1 → getD classes j 0 ≡ c → (t : Bool) → eqb j i ≡ t → ⊥
               between j p q w true x = let z = eqb-true j i x in n (sym (rw z at w))
               between j p q w false x = l .between j p (less j q (eqb-false j i x)) w
 
-pub chaining-end : (classes before last : List ℕ) (i : ℕ) → i ≡ 256 → Chaining classes before last i → ChainsOf classes before last
+pub chaining-end : (classes before last : List ℕ) (i : ℕ) → i ≡ length classes → Chaining classes before last i → ChainsOf classes before last
 chaining-end classes before last i e so-far = let all = rw e at so-far in record { previous = all .links; final = all .heads }

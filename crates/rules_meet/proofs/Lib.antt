@@ -1,3 +1,4 @@
 pub mod Chaining
 pub mod Meeting
+pub mod Room
 pub mod Branches

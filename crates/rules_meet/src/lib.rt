@@ -1,89 +1,111 @@
-// 02, Note 1: the links after an if. The codes are visited class by class of the one branch; within such a class, those that are
-// of one class in the other branch too get one number. Each code and each class is visited once.
-use rules_links::Classes;
+// 02, Note 1: the links after an if. The numbers are visited class by class of the one branch; within such a class, those that are
+// of one class in the other branch too get one number. Each number and each class is visited once.
+use rules_links::copy_classes;
 ghost use mathlib.Core.Path.{_≡_};
-ghost use mathlib.Core.Bool.{true};
-ghost use Rattle.definitions.specs.Owners.{linkedInBoth};
-ghost use Rattle.rules_links.specs.Names.{linkedBy};
+ghost use lib.ListN.{length, getD};
+ghost use Rattle.rules_links.specs.Classes.{Classed};
 ghost use Rattle.rules_meet.specs.Chains.{ChainsOf, standingFor};
-ghost use Rattle.rules_meet.specs.Branches.{LinksBehind};
+ghost use Rattle.rules_meet.specs.Branches.{Met, Behind};
 
-// The code before each code in its class, and the last code of each class. Code 0 is no name: 0 says that there is none.
+// The number before each in its class, and the last of each class. Number 0 is no name: 0 says that there is none.
 struct Chains {
-    before: [u8; 256],
-    last: [u8; 256],
+    before: [u16; 74],
+    last: [u16; 74],
 }
 
-// The codes of each class as a chain, from its last code back.
-fn chained(classes: Classes) -> Chains
-    ensures { λ r. ⌜ ChainsOf (classes .of) (r .before) (r .last) ⌝ }
+// The numbers of each class as a chain, from its last back.
+fn chained(classes: &[u16]) -> Chains
+    requires { ⌜ Classed (now classes) ⌝ }
+    ensures { λ r. ⌜ ChainsOf (now (classes .entry)) (r .before) (r .last) ⌝ }
 {
     let mut chains = Chains {
-        before: [0; 256],
-        last: [0; 256],
+        before: [0; 74],
+        last: [0; 74],
     };
+    let count = classes.len();
     let mut i: usize = 1;
-    while i < 256 {
-        let class = classes.of[i] as usize;
+    while i < count {
+        let class = classes[i] as usize;
         chains.before[i] = chains.last[class];
-        chains.last[class] = i as u8;
+        chains.last[class] = i as u16;
         i += 1;
     }
     chains
 }
 
-// The code held, when there is one and its class is this code's; otherwise this code.
-fn standing(held: u8, old: u8, code: u8, new: u8) -> u8
-    ensures { λ r. ⌜ r ≡ standingFor held old code new ⌝ }
+// The number held, when there is one and its class is this one's; otherwise this one.
+fn standing(held: u16, old: u16, number: u16, new: u16) -> u16
+    ensures { λ r. ⌜ r ≡ standingFor held old number new ⌝ }
 {
     if held == 0 {
-        return code;
+        return number;
     }
-    if old == new { held } else { code }
+    if old == new { held } else { number }
 }
 
 // 02, Note 1: "After an if, a pair of names is linked when it was linked at the end of both branches."
-fn meet(one: Classes, other: Classes) -> Classes
-    ensures { λ r. ⌜ (linkedBy (r .of) ≡ linkedInBoth (linkedBy (one .of)) (linkedBy (other .of))) × (r .grown ≡ true) ⌝ }
+fn meet_into(one: &[u16], other: &[u16], both: &mut [u16])
+    requires { ⌜ (Classed (now one)) × (Classed (now other)) × (length (now other) ≡ length (now one))
+        × (length (now both) ≡ length (now one)) × (getD (now both) 0 0 ≡ 0) ⌝ }
+    ensures { λ _. ⌜ Met (now (one .entry)) (now (other .entry)) (now (both .exit)) ⌝ }
 {
     let chains = chained(one);
-    let mut both = Classes {
-        of: [0; 256],
-        grown: true,
-    };
-    // The code that stands for each class of the other branch. One that was held for an earlier class of the one branch is of
+    // The number that stands for each class of the other branch. One that was held for an earlier class of the one branch is of
     // that class, so nothing is cleared when a class is begun.
-    let mut held = [0u8; 256];
+    let mut held = [0u16; 74];
+    let count = one.len();
     let mut begun: usize = 0;
-    let mut at: u8 = 0;
+    let mut at: u16 = 0;
     loop {
         if at == 0 {
-            if begun == 256 {
-                return both;
+            if begun == count {
+                return;
             }
             at = chains.last[begun];
             begun += 1;
             continue;
         }
         let i = at as usize;
-        let class = other.of[i] as usize;
+        let class = other[i] as usize;
         let k = held[class] as usize;
-        let code = standing(held[class], one.of[k], at, one.of[i]);
-        both.of[i] = code;
-        held[class] = code;
+        let number = standing(held[class], one[k], at, one[i]);
+        both[i] = number;
+        held[class] = number;
         at = chains.before[i];
     }
 }
 
-// The links behind an if, by those before it and at the end of each branch. Links only grow: where a branch has added none, the pairs
-// that are linked in both are those of before.
-pub fn behind(before: Classes, yes: Classes, no: Classes) -> Classes
-    ensures { λ r. ⌜ LinksBehind before yes no r ⌝ }
+// The same in place of the one branch's.
+fn meet(classes: &mut [u16], other: &[u16])
+    requires { ⌜ (Classed (now classes)) × (Classed (now other)) × (length (now other) ≡ length (now classes)) ⌝ }
+    ensures { λ _. ⌜ Met (now (classes .entry)) (now (other .entry)) (now (classes .exit)) ⌝ }
 {
-    if yes.grown {
-        if no.grown {
-            return meet(yes, no);
+    let mut both = [0u16; 74];
+    let count = classes.len();
+    meet_into(classes, other, &mut both[..count]);
+    copy_classes(&both[..count], classes);
+}
+
+// The links behind an if, in place of those at the end of the branch taken, by those before it and at the end of the other. Links only
+// grow: where a branch has added none, the pairs that are linked in both are those of before. The answer is whether any was added.
+pub fn behind(
+    classes: &mut [u16],
+    before: &[u16],
+    other: &[u16],
+    one_added: bool,
+    other_added: bool,
+) -> bool
+    requires { ⌜ (Classed (now classes)) × (Classed (now before)) × (Classed (now other))
+        × (length (now before) ≡ length (now classes)) × (length (now other) ≡ length (now classes)) ⌝ }
+    ensures { λ r. ⌜ Behind (now (before .entry)) (now (classes .entry)) «one_added» (now (other .entry)) «other_added»
+        (now (classes .exit)) r ⌝ }
+{
+    if one_added {
+        if other_added {
+            meet(classes, other);
+            return true;
         }
+        copy_classes(before, classes);
     }
-    before
+    false
 }

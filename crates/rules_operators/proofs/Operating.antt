@@ -1,21 +1,23 @@
 -- The judgement that code makes of an operator, not or reveal is right if those of its operands are.
 use mathlib.Core.Path.{_≡_, refl}
-use mathlib.Core.Bool.{Bool, true, not, _&&_, _||_}
-use Prim.Native.Nat.{ℕ}
+use mathlib.Core.Bool.{Bool, not, _&&_, _||_}
+use Prim.Native.Nat.{ℕ, _≤_, _<_}
+use native.Mathlib.Omega.{arith}
 use lib.Dec.{eqb}
-use Rattle.definitions.specs.ContractFile.{Expression, operator, negation, reveal, Scope, isDivision, ownerOfCode, operatorOf, typeOf}
+use Rattle.definitions.specs.ContractFile.{Expression, operator, negation, reveal, Scope, isDivision, operatorOf, typeOf}
 use Rattle.definitions.specs.Owners.{Links, ownerOf, nameOf}
-use Rattle.definitions.specs.Numbers.{targetInTables, expressionFaults, fault, ownerFits}
+use Rattle.definitions.specs.Numbers.{expressionFaults, fault, ownerFits}
 use Rattle.rules_faults.proofs.Faults.{least-append, least-one, counted-8, counted-9, counted-12, counted-13}
+use Rattle.rules_owners.specs.Numbering.{ownerWith}
 use Rattle.rules_codes.specs.Codes.{fitCodes}
 use Rattle.rules_codes.proofs.Codes.{fit-codes, public-code, parts-code, parts-listed}
 use Rattle.rules_judgements.specs.Judging.{JudgedAs}
 use Rattle.rules_judgements.specs.declared.Judged.{Judged}
 use Rattle.rules_operators.specs.Operating.{operatorJudged, negationJudged, revealJudged}
 
-module _ (scope : Scope) (linked : Links) where
-  pub operator-is : (code : ℕ) (e f : Expression) (left right : Judged) → JudgedAs scope linked e left → JudgedAs scope linked f right
-      → JudgedAs scope linked (operator (operatorOf code) e f) (operatorJudged linked code left right)
+module _ (scope : Scope) (linked : Links) (count : ℕ) (enough : 10 ≤ count) where
+  pub operator-is : (code : ℕ) (e f : Expression) (left right : Judged) → JudgedAs scope linked count e left → JudgedAs scope linked count f right
+      → JudgedAs scope linked count (operator (operatorOf code) e f) (operatorJudged linked code left right)
   unfolding typeOf ownerOf nameOf expressionFaults
   operator-is code e f left right h k =
       record {
@@ -36,11 +38,11 @@ module _ (scope : Scope) (linked : Links) where
               least-one (not (fitCodes (operatorOf code) (left .kind) (right .kind))) 9 counted-9,
               least-one (isDivision (operatorOf code) && (not (eqb (left .owner) 0) || not (eqb (right .owner) 0))) 12 counted-12,
             ));
-        ownerListed = parts-listed (left .owner) (right .owner);
-        nameListed = refl;
+        ownerListed = parts-listed count enough (left .owner) (right .owner);
+        nameListed = omega arith;
       }
 
-  pub negation-is : (e : Expression) (part : Judged) → JudgedAs scope linked e part → JudgedAs scope linked (negation e) (negationJudged linked part)
+  pub negation-is : (e : Expression) (part : Judged) → JudgedAs scope linked count e part → JudgedAs scope linked count (negation e) (negationJudged linked part)
   unfolding typeOf ownerOf nameOf expressionFaults
   negation-is e part h =
       record {
@@ -49,12 +51,12 @@ module _ (scope : Scope) (linked : Links) where
         name = refl;
         fault = simp least-append
             (rw (h .type, h .owner, h .fault, least-one (not (eqb (part .kind) 0)) 9 counted-9));
-        ownerListed = parts-listed (part .owner) 0;
-        nameListed = refl;
+        ownerListed = parts-listed count enough (part .owner) 0;
+        nameListed = omega arith;
       }
 
-  pub reveal-is : (target : ℕ) (fits : Bool) (e : Expression) (part : Judged) → targetInTables target ≡ true → ownerFits scope (ownerOfCode target) ≡ fits
-      → JudgedAs scope linked e part → JudgedAs scope linked (reveal e (ownerOfCode target)) (revealJudged linked target fits part)
+  pub reveal-is : (target : ℕ) (fits : Bool) (e : Expression) (part : Judged) → target < count → ownerFits scope (ownerWith target) ≡ fits
+      → JudgedAs scope linked count e part → JudgedAs scope linked count (reveal e (ownerWith target)) (revealJudged linked target fits part)
   unfolding typeOf ownerOf nameOf expressionFaults
   reveal-is target fits e part t o h =
       record {
@@ -64,5 +66,5 @@ module _ (scope : Scope) (linked : Links) where
         fault = simp least-append
             (rw (o, h .owner, h .fault, public-code (part .owner), least-one (not fits) 8 counted-8, least-one (eqb (part .owner) 0) 13 counted-13));
         ownerListed = t;
-        nameListed = refl;
+        nameListed = omega arith;
       }

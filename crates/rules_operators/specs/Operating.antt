@@ -4,7 +4,7 @@ use Prim.Native.Nat.{ℕ, min}
 use lib.Dec.{eqb}
 use Rattle.definitions.specs.ContractFile.{dataTypeCode, isDivision, operatorOf, resultType}
 use Rattle.definitions.specs.Owners.{Links}
-use Rattle.rules_codes.specs.Codes.{fitCodes, partsCode}
+use Rattle.rules_codes.specs.Codes.{fitCodes, partsNumber}
 use Rattle.rules_judgements.specs.Judging.{unreadFault}
 use Rattle.rules_judgements.specs.declared.Judged.{Judged}
 
@@ -21,7 +21,7 @@ module _ (linked : Links) where
   operatorJudged code left right =
       record {
         kind = dataTypeCode (resultType (operatorOf code));
-        owner = partsCode (left .owner) (right .owner);
+        owner = partsNumber (left .owner) (right .owner);
         name = 0;
         fault = operatorFault code left right;
       }
@@ -30,7 +30,7 @@ module _ (linked : Links) where
   negationJudged part =
       record {
         kind = 0;
-        owner = partsCode (part .owner) 0;
+        owner = partsNumber (part .owner) 0;
         name = 0;
         fault = min (min (part .fault) (cond (not (eqb (part .kind) 0)) 9 16)) (unreadFault linked (part .owner));
       }

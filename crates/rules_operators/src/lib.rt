@@ -10,15 +10,13 @@ use rules_faults::least;
 use rules_faults::number_if;
 use rules_judgements::Judged;
 ghost use mathlib.Core.Path.{_≡_};
-ghost use mathlib.Core.Bool.{true};
-ghost use lib.ListN.{length};
-ghost use Rattle.definitions.specs.Numbers.{targetInTables};
-ghost use Rattle.rules_links.specs.Names.{linkedBy};
+ghost use Rattle.rules_links.specs.Classes.{linkedBy};
+ghost use Rattle.rules_codes.specs.Codes.{HasClass};
 ghost use Rattle.rules_operators.specs.Operating.{operatorFault, operatorJudged};
 
 // "9. A data type doesn't fit"; "12. Operator 3 or 4 has a private operand."
-fn operator_fault(classes: &[u8], code: u8, left: Judged, right: Judged) -> u8
-    requires { ⌜ (targetInTables (left .owner) ≡ true) × (targetInTables (right .owner) ≡ true) × (length (now classes) ≡ 256) ⌝ }
+fn operator_fault(classes: &[u16], code: u16, left: Judged, right: Judged) -> u8
+    requires { ⌜ (HasClass (now classes) (left .owner)) × (HasClass (now classes) (right .owner)) ⌝ }
     ensures { λ r. ⌜ r ≡ operatorFault (linkedBy (now (classes .entry))) code left right ⌝ }
 {
     let kind = number_if(!operands_fit(code, left.kind, right.kind), 9);
@@ -35,8 +33,8 @@ fn operator_fault(classes: &[u8], code: u8, left: Judged, right: Judged) -> u8
 }
 
 // An operator on two judged operands.
-pub fn operator_judged(classes: &[u8], code: u8, left: Judged, right: Judged) -> Judged
-    requires { ⌜ (targetInTables (left .owner) ≡ true) × (targetInTables (right .owner) ≡ true) × (length (now classes) ≡ 256) ⌝ }
+pub fn operator_judged(classes: &[u16], code: u16, left: Judged, right: Judged) -> Judged
+    requires { ⌜ (HasClass (now classes) (left .owner)) × (HasClass (now classes) (right .owner)) ⌝ }
     ensures { λ r. ⌜ r ≡ operatorJudged (linkedBy (now (classes .entry))) code left right ⌝ }
 {
     let fault = operator_fault(classes, code, left, right);

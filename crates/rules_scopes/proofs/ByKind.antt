@@ -1,20 +1,25 @@
--- The tree of a node by its kind, and that the numbers of its parts are below its own.
+-- The tree of an expression's node by its kind; the numbers of its parts are below its own, and what it names is there.
 use mathlib.Core.Path.{_≡_, refl, ap, sym, _∙_}
-use mathlib.Core.Bool.{Bool, true, false, cond}
+use mathlib.Core.Bool.{Bool, true, false, cond, _&&_}
 use mathlib.Core.List.{List, [], _∷_}
-use Prim.Native.Nat.{ℕ, _+_, _*_, _<_}
-use borrow.Author.Tests.{ne-eqb}
+use Prim.Native.Nat.{ℕ, _+_, _*_, _/_, _<_, _≤_}
+use borrow.Author.Tests.{leb-true, ne-eqb}
 use lib.Dec.{eqb, leb}
-use lib.ListN.{length, getD}
-use Rattle.definitions.specs.Basics.{any}
-use Rattle.definitions.specs.ContractFile.{Expression, Statement, Scope, NodeRecord, nodeRecord, sectionsOf, nodesAt, nodeCount, dataTypeOf, operatorOf, ownerOfCode, constantKind, meKind, fieldKind, entryKind, parameterKind, operatorKind, negationKind, revealKind, skipKind, sequenceKind, assignFieldKind, assignEntryKind, requireKind, conditionalKind, noKind, kindOf, unknownNode, nodeOf, nodeOfKind, nodeAt, constantValue, children, expressionParts, statementParts, expressionOf, statementOf}
+use lib.ListN.{length}
+use Rattle.definitions.specs.Basics.{any, isZero}
+use Rattle.definitions.specs.ContractFile.{Expression, Scope, NodeRecord, dataTypeOf, operatorOf, ownerOfCode, fieldOfOwner, isOfType, constantKind, meKind, fieldKind, entryKind, parameterKind, operatorKind, negationKind, revealKind, skipKind, sequenceKind, assignFieldKind, assignEntryKind, requireKind, conditionalKind, noKind, kindOf, nodeOf, nodeOfKind, constantValue, children, fieldsNamed, expressionParts, statementParts, expressionOf}
+use Rattle.definitions.specs.Numbers.{nodeInTables, kindInTables, targetInTables}
 use Rattle.definitions.specs.Owners.{Links, linksOfCondition}
-use Rattle.file_bytes.proofs.Sections.{node-of, count-of-nodes}
-use Rattle.theory_accepted.specs.Settled.{Settled}
-use Rattle.rules_scopes.specs.Trees.{nodesOf, expressionOn}
-use Rattle.rules_scopes.proofs.Lists.{getD-map, first-below, rest-below}
-use Rattle.rules_scopes.proofs.Levels.{expression-unfolds}
-use Rattle.rules_scopes.proofs.Settling.{noNode, falling}
+use Rattle.theory_laws.proofs.TruthValues.{and-left}
+use Rattle.theory_trees.specs.Trees.{expressionIn}
+use Rattle.theory_trees.proofs.Unfolding.{expression-unfolds}
+use Rattle.file_decoded.specs.Slices.{nodeFrom}
+use Rattle.rules_owners.specs.Numbering.{numberOfOwner}
+use Rattle.rules_owners.proofs.Numbering.{target-below}
+use Rattle.rules_scopes.specs.Trees.{nodesIn}
+use Rattle.rules_scopes.specs.Scopes.{NodesReady}
+use Rattle.rules_scopes.proofs.Lists.{first-below, rest-below}
+use Rattle.rules_scopes.proofs.Nodes.{node-named, falling}
 
 module _ (r : NodeRecord) (below : ℕ → Expression) where
   other-kinds : (b2 b16 b17 b18 b19 b20 b21 : Bool) → expressionOf
@@ -35,7 +40,7 @@ module _ (r : NodeRecord) (below : ℕ → Expression) where
   other-kinds false false false false false false true = refl
   other-kinds false false false false false false false = refl
 
-  pub other-expression : (r .kind ≡ 1 → ⊥) → (r .kind ≡ 3 → ⊥) → (r .kind ≡ 4 → ⊥) → (r .kind ≡ 5 → ⊥) → (r .kind ≡ 6 → ⊥) → (r .kind ≡ 7 → ⊥) →
+  other-expression : (r .kind ≡ 1 → ⊥) → (r .kind ≡ 3 → ⊥) → (r .kind ≡ 4 → ⊥) → (r .kind ≡ 5 → ⊥) → (r .kind ≡ 6 → ⊥) → (r .kind ≡ 7 → ⊥) →
       (r .kind ≡ 8 → ⊥) → expressionOf (nodeOf r) below ≡ Expression.me
   unfolding kindOf
   other-expression h1 h3 h4 h5 h6 h7 h8 = rw (
@@ -74,92 +79,62 @@ module _ (r : NodeRecord) (below : ℕ → Expression) where
     no-operator false false false false false false false false false false false false true = refl
     no-operator false false false false false false false false false false false false false = refl
 
-    pub other-condition : (r .kind ≡ 6 → ⊥) → linksOfCondition scope (expressionOf (nodeOf r) below) linked ≡ linked
+    other-condition : (r .kind ≡ 6 → ⊥) → linksOfCondition scope (expressionOf (nodeOf r) below) linked ≡ linked
     unfolding kindOf
     other-condition h = rw (ne-eqb _ _ h) (no-operator (eqb (r .kind) 1) (eqb (r .kind) 2) (eqb (r .kind) 3) (eqb (r .kind) 4) (eqb (r .kind) 5)
         (eqb (r .kind) 7) (eqb (r .kind) 8) (eqb (r .kind) 16) (eqb (r .kind) 17) (eqb (r .kind) 18) (eqb (r .kind) 19) (eqb (r .kind) 20)
         (eqb (r .kind) 21))
 
-  module _ (beneath : ℕ → Statement) where
-    other-statements : (b1 b2 b3 b4 b5 b6 b7 b8 b16 : Bool) → statementOf
-        (nodeOfKind (cond b1 constantKind (cond b2 meKind
-        (cond b3 fieldKind (cond b4 entryKind (cond b5 parameterKind
-        (cond b6 operatorKind (cond b7 negationKind
-        (cond b8 revealKind (cond b16 skipKind (cond false sequenceKind
-        (cond false assignFieldKind (cond false assignEntryKind
-        (cond false requireKind (cond false conditionalKind noKind)))))))))))))) r) below beneath ≡ Statement.skip
-    unfolding nodeOfKind statementOf
-    other-statements true b2 b3 b4 b5 b6 b7 b8 b16 = refl
-    other-statements false true b3 b4 b5 b6 b7 b8 b16 = refl
-    other-statements false false true b4 b5 b6 b7 b8 b16 = refl
-    other-statements false false false true b5 b6 b7 b8 b16 = refl
-    other-statements false false false false true b6 b7 b8 b16 = refl
-    other-statements false false false false false true b7 b8 b16 = refl
-    other-statements false false false false false false true b8 b16 = refl
-    other-statements false false false false false false false true b16 = refl
-    other-statements false false false false false false false false true = refl
-    other-statements false false false false false false false false false = refl
-
-    pub other-statement : (r .kind ≡ 17 → ⊥) → (r .kind ≡ 18 → ⊥) → (r .kind ≡ 19 → ⊥) → (r .kind ≡ 20 → ⊥) → (r .kind ≡ 21 → ⊥) → statementOf
-        (nodeOf r) below beneath ≡ Statement.skip
-    unfolding kindOf
-    other-statement h17 h18 h19 h20 h21 = rw (ne-eqb _ _ h17, ne-eqb _ _ h18, ne-eqb _ _ h19, ne-eqb _ _ h20, ne-eqb _ _ h21)
-        (other-statements (eqb (r .kind) 1) (eqb (r .kind) 2) (eqb (r .kind) 3) (eqb (r .kind) 4) (eqb (r .kind) 5) (eqb (r .kind) 6)
-        (eqb (r .kind) 7) (eqb (r .kind) 8) (eqb (r .kind) 16))
-
--- The node that stands in the file is the one that the number names.
-module _ (file : List ℕ) (start n : ℕ) (r : NodeRecord) (where-nodes : start ≡ nodesAt file) (inside : n < nodeCount file)
-    (same : r ≡ nodeRecord file (start + 2 + 8 * n)) where
-  pub node-read : getD ((sectionsOf file) .nodes) n noNode ≡ r
-  node-read = node-of file n noNode inside ∙ (ap (λ m. nodeRecord file (m + 2 + 8 * n)) (sym where-nodes) ∙ sym same)
-
-  pub node-named : nodeAt (nodesOf file) n ≡ nodeOf r
-  node-named =
-      let here : n < length ((sectionsOf file) .nodes) = rw (count-of-nodes file) inside in
-      getD-map nodeOf ((sectionsOf file) .nodes) n noNode unknownNode here ∙ ap nodeOf node-read
-
-module _ (file : List ℕ) (s : Settled file) (n : ℕ) (r : NodeRecord) (at : nodeAt (nodesOf file) n ≡ nodeOf r) where
-  tree : expressionOn (nodesOf file) n ≡ expressionOf (nodeOf r) (expressionOn (nodesOf file))
-  tree = expression-unfolds file s n ∙ ap (λ x. expressionOf x (expressionOn (nodesOf file))) at
+module _ (fields nodes : List ℕ) (ready : NodesReady fields nodes) (n : ℕ) (inside : n < length nodes / 5) (r : NodeRecord) (same : r ≡ nodeFrom nodes (5 * n)) where
+  tree : expressionIn (nodesIn nodes) n ≡ expressionOf (nodeOf r) (expressionIn (nodesIn nodes))
+  tree =
+      expression-unfolds (nodesIn nodes) (falling fields nodes ready) n
+      ∙ ap (λ x. expressionOf x (expressionIn (nodesIn nodes))) (node-named nodes n inside ∙ ap nodeOf (sym same))
 
   parts-below : any (leb n) (children (nodeOf r)) ≡ false
-  parts-below = ap (λ x. any (leb n) (children x)) (sym at) ∙ falling file s n
+  parts-below = rw same (ready .falling n inside)
 
-  pub constant-tree : r .kind ≡ 1 → expressionOn (nodesOf file) n ≡ Expression.constant (dataTypeOf (r .arg)) (constantValue r)
+  field-below : any (leb (length fields / 3)) (fieldsNamed (nodeOf r)) ≡ false
+  field-below = rw same (ready .named n inside)
+
+  in-tables : nodeInTables r ≡ true
+  in-tables = rw same (ready .listed n inside)
+
+  pub constant-tree : r .kind ≡ 1 → expressionIn (nodesIn nodes) n ≡ Expression.constant (dataTypeOf (r .arg)) (constantValue r)
   unfolding kindOf nodeOfKind expressionOf
   constant-tree e = tree ∙ rw e
 
-  pub field-tree : r .kind ≡ 3 → expressionOn (nodesOf file) n ≡ Expression.field (r .arg)
+  pub field-tree : r .kind ≡ 3 → expressionIn (nodesIn nodes) n ≡ Expression.field (r .arg)
   unfolding kindOf nodeOfKind expressionOf
   field-tree e = tree ∙ rw e
 
-  pub entry-tree : r .kind ≡ 4 → expressionOn (nodesOf file) n ≡ Expression.entry (r .arg) (expressionOn (nodesOf file) (r .first))
+  pub entry-tree : r .kind ≡ 4 → expressionIn (nodesIn nodes) n ≡ Expression.entry (r .arg) (expressionIn (nodesIn nodes) (r .first))
   unfolding kindOf nodeOfKind expressionOf
   entry-tree e = tree ∙ rw e
 
-  pub parameter-tree : r .kind ≡ 5 → expressionOn (nodesOf file) n ≡ Expression.parameter (r .arg)
+  pub parameter-tree : r .kind ≡ 5 → expressionIn (nodesIn nodes) n ≡ Expression.parameter (r .arg)
   unfolding kindOf nodeOfKind expressionOf
   parameter-tree e = tree ∙ rw e
 
   pub operator-tree : r .kind ≡ 6
-      → expressionOn (nodesOf file) n ≡ Expression.operator (operatorOf (r .arg)) (expressionOn (nodesOf file) (r .first)) (expressionOn (nodesOf file) (r .second))
+      → expressionIn (nodesIn nodes) n ≡ Expression.operator (operatorOf (r .arg)) (expressionIn (nodesIn nodes) (r .first)) (expressionIn (nodesIn nodes) (r .second))
   unfolding kindOf nodeOfKind expressionOf
   operator-tree e = tree ∙ rw e
 
-  pub negation-tree : r .kind ≡ 7 → expressionOn (nodesOf file) n ≡ Expression.negation (expressionOn (nodesOf file) (r .first))
+  pub negation-tree : r .kind ≡ 7 → expressionIn (nodesIn nodes) n ≡ Expression.negation (expressionIn (nodesIn nodes) (r .first))
   unfolding kindOf nodeOfKind expressionOf
   negation-tree e = tree ∙ rw e
 
-  pub reveal-tree : r .kind ≡ 8 → expressionOn (nodesOf file) n ≡ Expression.reveal (expressionOn (nodesOf file) (r .first)) (ownerOfCode (r .arg))
+  pub reveal-tree : r .kind ≡ 8 → expressionIn (nodesIn nodes) n ≡ Expression.reveal (expressionIn (nodesIn nodes) (r .first)) (ownerOfCode (r .arg))
   unfolding kindOf nodeOfKind expressionOf
   reveal-tree e = tree ∙ rw e
 
   pub me-tree : (r .kind ≡ 1 → ⊥) → (r .kind ≡ 3 → ⊥) → (r .kind ≡ 4 → ⊥) → (r .kind ≡ 5 → ⊥) → (r .kind ≡ 6 → ⊥) → (r .kind ≡ 7 → ⊥) → (r .kind ≡ 8 → ⊥)
-      → expressionOn (nodesOf file) n ≡ Expression.me
-  me-tree h1 h3 h4 h5 h6 h7 h8 = tree ∙ other-expression r (expressionOn (nodesOf file)) h1 h3 h4 h5 h6 h7 h8
+      → expressionIn (nodesIn nodes) n ≡ Expression.me
+  me-tree h1 h3 h4 h5 h6 h7 h8 = tree ∙ other-expression r (expressionIn (nodesIn nodes)) h1 h3 h4 h5 h6 h7 h8
 
-  pub no-links-learnt : (scope : Scope) (linked : Links) → (r .kind ≡ 6 → ⊥) → linksOfCondition scope (expressionOn (nodesOf file) n) linked ≡ linked
-  no-links-learnt scope linked h = ap (λ e. linksOfCondition scope e linked) tree ∙ other-condition r (expressionOn (nodesOf file)) scope linked h
+  pub no-links-learnt : (scope : Scope) (linked : Links) → (r .kind ≡ 6 → ⊥) → linksOfCondition scope (expressionIn (nodesIn nodes) n) linked ≡ linked
+  no-links-learnt scope linked h = ap (λ e. linksOfCondition scope e linked) tree ∙ other-condition r (expressionIn (nodesIn nodes)) scope linked h
 
   pub key-below : r .kind ≡ 4 → r .first < n
   unfolding kindOf nodeOfKind expressionParts statementParts
@@ -180,3 +155,30 @@ module _ (file : List ℕ) (s : Settled file) (n : ℕ) (r : NodeRecord) (at : n
   pub revealed-below : r .kind ≡ 8 → r .first < n
   unfolding kindOf nodeOfKind expressionParts statementParts
   revealed-below e = first-below n (r .first) [] (rw e at parts-below)
+
+  pub field-there : r .kind ≡ 3 → r .arg < length fields / 3
+  unfolding kindOf nodeOfKind fieldsNamed
+  field-there e = first-below (length fields / 3) (r .arg) [] (rw e at field-below)
+
+  pub mapping-there : r .kind ≡ 4 → r .arg < length fields / 3
+  unfolding kindOf nodeOfKind fieldsNamed
+  mapping-there e = first-below (length fields / 3) (r .arg) [] (rw e at field-below)
+
+  pub constant-listed : r .kind ≡ 1 → r .arg ≤ 2
+  unfolding kindOf kindInTables
+  constant-listed e =
+      let here : kindInTables (kindOf 1) r ≡ true = rw e at in-tables in
+      leb-true (r .arg) 2 (and-left (leb (r .arg) 2) (isOfType (dataTypeOf (r .arg)) (constantValue r))
+      (and-left (leb (r .arg) 2 && isOfType (dataTypeOf (r .arg)) (constantValue r)) (isZero (r .third)) here))
+
+  pub target-listed : r .kind ≡ 8 → targetInTables (r .arg) ≡ true
+  unfolding kindOf kindInTables
+  target-listed e =
+      let here : kindInTables (kindOf 8) r ≡ true = rw e at in-tables in
+      and-left (targetInTables (r .arg)) (isZero (r .second)) (and-left (targetInTables (r .arg) && isZero (r .second)) (isZero (r .third)) here)
+
+  pub target-there : r .kind ≡ 8 → numberOfOwner (ownerOfCode (r .arg)) < 10 + length fields / 3
+  unfolding kindOf nodeOfKind fieldsNamed
+  target-there e =
+      let none : any (leb (length fields / 3)) (fieldOfOwner (ownerOfCode (r .arg))) ≡ false = rw e at field-below in
+      target-below (r .arg) (target-listed e) (length fields / 3) none

@@ -1,4 +1,5 @@
 pub mod Lists
-pub mod Levels
-pub mod Settling
+pub mod Nodes
+pub mod Statements
 pub mod ByKind
+pub mod Tables

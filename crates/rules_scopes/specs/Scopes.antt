@@ -1,33 +1,65 @@
--- A function's scope as it is read from a file, and what is known where a function's nodes are judged.
+-- A function's scope as the decoded slices hold it, and what numbers 2 to 4 leave of them: all that judging relies on.
 use mathlib.Core.Path.{_≡_}
+use mathlib.Core.Bool.{true, false, not}
 use mathlib.Core.List.{List, map}
-use Prim.Native.Nat.{ℕ, _≤_}
-use Rattle.definitions.specs.ContractFile.{Scope, fieldAt, parameterAt, sectionsOf, fieldOf, parameterOf, parameterRecords, nodesAt}
-use Rattle.definitions.specs.ContractFile.{nodeCount}
-use Rattle.rules_judgements.specs.Judging.{IsField, IsParameter, Present, Final}
-use Rattle.rules_judgements.specs.declared.Declared.{Declared}
-use Rattle.rules_judgements.specs.declared.Given.{Given}
-use Rattle.theory_accepted.specs.Settled.{Settled}
-use Rattle.rules_scopes.specs.declared.Parameters.{Parameters}
+use Prim.Native.Nat.{ℕ, _+_, _*_, _/_, _<_, _≤_}
+use lib.Dec.{eqb, leb}
+use lib.ListN.{length}
+use Rattle.definitions.specs.Basics.{any}
+use Rattle.definitions.specs.ContractFile.{Field, Parameter, Scope, fieldAt, parameterAt, dataTypeCode, shapeCode, fieldOf, parameterOf}
+use Rattle.definitions.specs.ContractFile.{nodeOf, children, fieldsNamed}
+use Rattle.definitions.specs.Numbers.{fieldInTables, parameterInTables, nodeInTables, fieldOfDeclaredOwner}
+use Rattle.file_decoded.specs.Slices.{fieldFrom, fieldsFrom, parameterFrom, parametersFrom, nodeFrom}
+use Rattle.rules_owners.specs.Numbering.{declaredOwner}
+use Rattle.rules_scopes.specs.declared.Declared.{Declared}
+use Rattle.rules_scopes.specs.declared.Given.{Given}
 
-abbrev pub scopeAt : List ℕ → Parameters → Scope
-scopeAt file p = record {
-  fields = map fieldOf ((sectionsOf file) .fields);
-  parameters = map parameterOf (parameterRecords (p .count) file (p .at));
+-- The contract's fields, and the parameters of one function.
+abbrev pub scopeFrom : List ℕ → List ℕ → Scope
+scopeFrom fields parameters = record {
+  fields = map fieldOf (fieldsFrom (length fields / 3) fields 0);
+  parameters = map parameterOf (parametersFrom (length parameters / 2) parameters 0);
 }
 
-pub record FieldAt (file : List ℕ) (f : ℕ) (r : Declared) : Type 0 where
-  pub same : IsField (fieldAt (map fieldOf ((sectionsOf file) .fields)) f) r
-  pub final : Final f r
+abbrev pub fieldOn : List ℕ → ℕ → Field
+fieldOn fields f = fieldAt (map fieldOf (fieldsFrom (length fields / 3) fields 0)) f
 
-pub record ParameterAt (file : List ℕ) (p : Parameters) (k : ℕ) (r : Given) : Type 0 where
-  pub same : IsParameter (parameterAt (map parameterOf (parameterRecords (p .count) file (p .at))) k) r
-  pub present : Present k r
+abbrev pub parameterOn : List ℕ → ℕ → Parameter
+parameterOn parameters k = parameterAt (map parameterOf (parametersFrom (length parameters / 2) parameters 0)) k
 
-pub record Ready (file : List ℕ) (nodesStart : ℕ) (p : Parameters) : Type 0 where
-  pub settled : Settled file
-  pub nodes : nodesStart ≡ nodesAt file
-  pub near : nodesStart ≤ 200000
-  pub fewNodes : nodeCount file ≤ 65535
-  pub fewParameters : p .count ≤ 8
-  pub nearParameters : p .at ≤ 200000
+-- A field as code holds it, in a contract of so many fields. An owner that is a final is one of them.
+pub record IsField (fields : ℕ) (d : Field) (r : Declared) : Type 0 where
+  pub shape : shapeCode (d .shape) ≡ r .shape
+  pub type : dataTypeCode (d .type) ≡ r .kind
+  pub owner : d .owner ≡ declaredOwner (r .owner) (r .tagged)
+  pub listed : r .owner < 10 + fields
+  pub final : 0 < r .owner → 10 ≤ r .owner
+
+-- A parameter as code holds it. A public one is there, and then its number is below 8.
+pub record IsParameter (k : ℕ) (p : Parameter) (r : Given) : Type 0 where
+  pub type : dataTypeCode (p .type) ≡ r .kind
+  pub private : p .private ≡ not (eqb (r .owner) 0)
+  pub present : r .owner ≡ 0 → k < 8
+
+pub record FieldsReady (fields : List ℕ) : Type 0 where
+  pub few : length fields ≤ 192
+  pub listed : (f : ℕ) → f < length fields / 3 → fieldInTables (fieldFrom fields (3 * f)) ≡ true
+  pub named : (f : ℕ) → f < length fields / 3
+      → any (leb (length fields / 3)) (fieldOfDeclaredOwner ((fieldOf (fieldFrom fields (3 * f))) .owner)) ≡ false
+
+pub record ParametersReady (parameters : List ℕ) : Type 0 where
+  pub few : length parameters ≤ 16
+  pub listed : (k : ℕ) → k < length parameters / 2 → parameterInTables (parameterFrom parameters (2 * k)) ≡ true
+
+pub record NodesReady (fields nodes : List ℕ) : Type 0 where
+  pub few : length nodes ≤ 2560
+  pub listed : (n : ℕ) → n < length nodes / 5 → nodeInTables (nodeFrom nodes (5 * n)) ≡ true
+  pub named : (n : ℕ) → n < length nodes / 5 → any (leb (length fields / 3)) (fieldsNamed (nodeOf (nodeFrom nodes (5 * n)))) ≡ false
+  pub falling : (n : ℕ) → n < length nodes / 5 → any (leb n) (children (nodeOf (nodeFrom nodes (5 * n)))) ≡ false
+
+-- Where a function's nodes are judged: the slices, and as many classes of names as there are owners' numbers.
+pub record Ready (fields parameters nodes : List ℕ) (classes : ℕ) : Type 0 where
+  pub declared : FieldsReady fields
+  pub given : ParametersReady parameters
+  pub bodies : NodesReady fields nodes
+  pub numbered : classes ≡ 10 + length fields / 3

@@ -1,13 +1,9 @@
--- The nodes of a file, and the tree of a node: n + 1 levels hold the whole of node n's.
+-- The trees of the decoded nodes: n + 1 levels hold the whole of node n's.
 use mathlib.Core.List.{List, map}
-use Prim.Native.Nat.{ℕ, suc}
-use Rattle.definitions.specs.ContractFile.{Expression, Statement, sectionsOf, Node, nodeOf, expressionAt, statementAt}
+use Prim.Native.Nat.{ℕ, _/_}
+use lib.ListN.{length}
+use Rattle.definitions.specs.ContractFile.{Node, nodeOf}
+use Rattle.file_decoded.specs.Slices.{nodesFrom}
 
-abbrev pub nodesOf : List ℕ → List Node
-nodesOf file = map nodeOf ((sectionsOf file) .nodes)
-
-unfoldable pub expressionOn : List Node → ℕ → Expression
-expressionOn nodes n = expressionAt (suc n) nodes n
-
-unfoldable pub statementOn : List Node → ℕ → Statement
-statementOn nodes n = statementAt (suc n) nodes n
+abbrev pub nodesIn : List ℕ → List Node
+nodesIn nodes = map nodeOf (nodesFrom (length nodes / 5) nodes 0)

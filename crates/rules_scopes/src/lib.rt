@@ -1,78 +1,78 @@
-// The fields and parameters that a function's nodes name, as they stand in a file that numbers 1 to 7 let pass.
-use file_bytes::byte_at;
-use rules_codes::data_type;
+// The fields and parameters that a function's nodes name, as the decoded slices hold them.
+use file_kinds::ADDRESS_SHORT;
+use file_kinds::BOOL_SHORT;
+use file_kinds::FINAL_SHORT;
 use rules_faults::both;
-use rules_judgements::Declared;
-use rules_judgements::Given;
+use rules_owners::FINALS;
+use rules_owners::PARAMETERS;
+use rules_owners::declared_number;
 ghost use mathlib.Core.Path.{_≡_};
-ghost use mathlib.Core.Bool.{true};
-ghost use Prim.Native.Nat.{_≤_};
-ghost use Rattle.definitions.specs.ContractFile.{ownerOfCode};
-ghost use Rattle.definitions.specs.Numbers.{targetInTables, ownerFits};
-ghost use Rattle.theory_accepted.specs.Settled.{Settled};
-ghost use Rattle.rules_scopes.specs.Scopes.{FieldAt, ParameterAt, scopeAt};
+ghost use Prim.Native.Nat.{_+_, _/_, _<_};
+ghost use lib.ListN.{length};
+ghost use Rattle.definitions.specs.Numbers.{ownerFits};
+ghost use Rattle.rules_owners.specs.Numbering.{ownerWith};
+ghost use Rattle.rules_scopes.specs.Scopes.{fieldOn, parameterOn, scopeFrom, IsField, IsParameter, FieldsReady, ParametersReady};
 
-// Where a function's parameters begin, and how many there are.
-pub struct Parameters {
-    pub at: usize,
-    pub count: u8,
+// A field's shape, data type and owner: the number of the final that owns it, 0 for all; or the tag, "the mapping's key".
+pub struct Declared {
+    pub shape: u16,
+    pub kind: u16,
+    pub owner: u16,
+    pub tagged: bool,
 }
 
-// Field f; one that is not there reads as a plain public bool.
-pub fn field_at(file: &[u8], f: u8) -> Declared
-    requires { ⌜ Settled (now file) ⌝ }
-    ensures { λ r. ⌜ FieldAt (now (file .entry)) f r ⌝ }
+// A parameter's data type and owner, 0 all or 1 the caller.
+pub struct Given {
+    pub kind: u16,
+    pub owner: u16,
+}
+
+// Field f, which is there.
+pub fn field_from(fields: &[u16], f: u16) -> Declared
+    requires { ⌜ (FieldsReady (now fields)) × (f < length (now fields) / 3) ⌝ }
+    ensures { λ r. ⌜ IsField (length (now (fields .entry)) / 3) (fieldOn (now (fields .entry)) f) r ⌝ }
 {
-    let n = f as usize;
-    if n < byte_at(file, 0) {
-        let at = 1 + 3 * n;
-        let shape = byte_at(file, at) as u8;
-        let kind = byte_at(file, at + 1) as u8;
-        let owner = byte_at(file, at + 2) as u8;
-        Declared {
-            shape: shape,
-            kind: kind,
-            owner: owner,
-        }
-    } else {
-        Declared {
-            shape: 0,
-            kind: 0,
-            owner: 0,
-        }
+    let at = 3 * (f as usize);
+    let code = fields[at + 2];
+    Declared {
+        shape: fields[at],
+        kind: fields[at + 1],
+        owner: declared_number(code),
+        tagged: code == 2,
     }
 }
 
 // Parameter k; one that is missing reads as a private bool.
-pub fn parameter_at(file: &[u8], p: Parameters, k: u8) -> Given
-    requires { ⌜ (p .count ≤ 8) × (p .at ≤ 200000) ⌝ }
-    ensures { λ r. ⌜ ParameterAt (now (file .entry)) p k r ⌝ }
+pub fn parameter_from(parameters: &[u16], k: u16) -> Given
+    requires { ⌜ ParametersReady (now parameters) ⌝ }
+    ensures { λ r. ⌜ IsParameter k (parameterOn (now (parameters .entry)) k) r ⌝ }
 {
-    if k < p.count {
-        let at = p.at + 2 * (k as usize);
-        let kind = byte_at(file, at) as u8;
-        let owner = byte_at(file, at + 1) as u8;
+    let at = 2 * (k as usize);
+    if at + 1 < parameters.len() {
         Given {
-            kind: data_type(kind),
-            owner: owner,
+            kind: parameters[at],
+            owner: parameters[at + 1],
         }
     } else {
-        Given { kind: 0, owner: 1 }
+        Given {
+            kind: BOOL_SHORT,
+            owner: 1,
+        }
     }
 }
 
 // "8. .. an owner code's field isn't final, .. or an owner code's parameter isn't a public address."
-pub fn target_fits(file: &[u8], p: Parameters, target: u8) -> bool
-    requires { ⌜ (Settled (now file)) × (p .count ≤ 8) × (p .at ≤ 200000) × (targetInTables target ≡ true) ⌝ }
-    ensures { λ r. ⌜ ownerFits (scopeAt (now (file .entry)) p) (ownerOfCode target) ≡ r ⌝ }
+pub fn target_fits(fields: &[u16], parameters: &[u16], target: u16) -> bool
+    requires { ⌜ (FieldsReady (now fields)) × (ParametersReady (now parameters)) × (target < 10 + length (now fields) / 3) ⌝ }
+    ensures { λ r. ⌜ ownerFits (scopeFrom (now (fields .entry)) (now (parameters .entry))) (ownerWith target) ≡ r ⌝ }
 {
-    if target < 16 {
+    if target < PARAMETERS {
         return true;
     }
-    if target < 80 {
-        let d = field_at(file, target - 16);
-        return d.shape == 1;
+    if target < FINALS {
+        let given = parameter_from(parameters, target - PARAMETERS);
+        return both(given.kind == ADDRESS_SHORT, given.owner == 0);
     }
-    let given = parameter_at(file, p, target - 128);
-    both(given.kind == 2, given.owner == 0)
+    let declared = field_from(fields, target - FINALS);
+    declared.shape == FINAL_SHORT
 }

@@ -1,7 +1,7 @@
 -- What is found of each kind of statement is right if what is found of its parts is.
 use mathlib.Core.Path.{_≡_, refl, ap, ap₂, sym, _∙_}
-use mathlib.Core.Bool.{false}
-use mathlib.Core.List.{_++_}
+use mathlib.Core.Bool.{Bool, false, _||_}
+use mathlib.Core.List.{List, _++_}
 use Prim.Native.Nat.{ℕ, min}
 use Rattle.definitions.specs.ContractFile.{Expression, Statement, Scope}
 use Rattle.definitions.specs.Owners.{Links, linkedInBoth, linksAfter, linksOfCondition}
@@ -9,98 +9,88 @@ use Rattle.definitions.specs.Numbers.{statementFaults, conditionFaults}
 use Rattle.theory_laws.proofs.GrowingLinks.{within-chain, condition-grows, links-grow}
 use Rattle.rules_faults.specs.Faults.{leastFault}
 use Rattle.rules_faults.proofs.Faults.{least-append, least-none}
-use Rattle.rules_links.specs.Names.{linkedBy}
-use Rattle.rules_links.specs.Growing.{Learnt}
-use Rattle.rules_links.specs.declared.Classes.{Classes}
+use Rattle.rules_links.specs.Classes.{Classed, linkedBy, Learnt}
 use Rattle.rules_links.proofs.Growing.{nothing-learnt, learnt-as, learnt-both}
-use Rattle.rules_meet.specs.Branches.{GrownFrom}
-use Rattle.rules_statements.specs.Checking.{CheckedAs, AfterIf}
+use Rattle.rules_meet.specs.Branches.{GrownFrom, Behind}
+use Rattle.rules_statements.specs.Checking.{CheckedAs}
 use Rattle.rules_statements.specs.declared.Checked.{Checked}
 
-module _ (scope : Scope) (classes : Classes) (statement : Statement) (r : Checked) where
+module _ (scope : Scope) (before : List ℕ) (classed : Classed before) (statement : Statement) (r : Checked) where
   abbrev linked : Links
-  linked = linkedBy (classes .of)
+  linked = linkedBy before
 
-  pub skip-is : statement ≡ Statement.skip → r ≡ record { fault = 16; classes = classes } → CheckedAs scope classes statement r
+  pub skip-is : statement ≡ Statement.skip → r ≡ record { fault = 16; added = false } → CheckedAs scope before before statement r
   unfolding statementFaults linksAfter
-  skip-is e is = rw (e, is) (record { fault = least-none; learnt = nothing-learnt classes linked refl })
+  skip-is e is = rw (e, is) (record { fault = least-none; learnt = nothing-learnt before linked classed refl })
 
-  pub sequence-is : (first second : Statement) (one two : Checked) (fault : ℕ) → statement ≡ Statement.sequence first second
-      → r ≡ record { fault = fault; classes = two .classes }
-      → CheckedAs scope classes first one → CheckedAs scope (one .classes) second two → fault ≡ min (one .fault) (two .fault)
-      → CheckedAs scope classes statement r
+  pub assign-field-is : (f : ℕ) (value : Expression) (fault : ℕ) → statement ≡ Statement.assignField f value → r ≡ record { fault = fault; added = false }
+      → leastFault (statementFaults scope linked (Statement.assignField f value)) ≡ fault → CheckedAs scope before before statement r
+  unfolding linksAfter
+  assign-field-is f value fault e is h = rw (e, is) (record { fault = h; learnt = nothing-learnt before linked classed refl })
+
+  pub assign-entry-is : (f : ℕ) (key value : Expression) (fault : ℕ) → statement ≡ Statement.assignEntry f key value
+      → r ≡ record { fault = fault; added = false }
+      → leastFault (statementFaults scope linked (Statement.assignEntry f key value)) ≡ fault → CheckedAs scope before before statement r
+  unfolding linksAfter
+  assign-entry-is f key value fault e is h = rw (e, is) (record { fault = h; learnt = nothing-learnt before linked classed refl })
+
+module _ (scope : Scope) (before after : List ℕ) (statement : Statement) (r : Checked) where
+  pub require-is : (condition : Expression) (fault : ℕ) (added : Bool) → statement ≡ Statement.require condition → r ≡ record { fault = fault; added = added }
+      → leastFault (conditionFaults scope (linkedBy before) condition) ≡ fault
+      → Learnt before after added (linksOfCondition scope condition (linkedBy before)) → CheckedAs scope before after statement r
   unfolding statementFaults linksAfter
-  sequence-is first second one two fault e is h k f =
-      rw (e, is)
+  require-is condition fault added e is h l = rw (e, is) (record { fault = h; learnt = l })
+
+  pub sequence-is : (between : List ℕ) (first second : Statement) (one two : Checked) (fault : ℕ) (added : Bool)
+      → statement ≡ Statement.sequence first second → r ≡ record { fault = fault; added = added }
+      → CheckedAs scope before between first one → CheckedAs scope between after second two
+      → fault ≡ min (one .fault) (two .fault) → added ≡ (one .added || two .added) → CheckedAs scope before after statement r
+  unfolding statementFaults linksAfter
+  sequence-is between first second one two fault added e is h k f a =
+      rw (e, is, a)
       (record {
-        fault = least-append (statementFaults scope linked first) (statementFaults scope (linksAfter scope first linked) second)
+        fault = least-append (statementFaults scope (linkedBy before) first) (statementFaults scope (linksAfter scope first (linkedBy before)) second)
             ∙ rw (← h .learnt .links, h .fault, k .fault, f);
         learnt = learnt-both (h .learnt) (learnt-as (k .learnt) (ap (linksAfter scope second) (h .learnt .links)));
       })
 
-  pub assign-field-is : (f : ℕ) (value : Expression) (fault : ℕ) → statement ≡ Statement.assignField f value → r ≡ record { fault = fault; classes = classes }
-      → leastFault (statementFaults scope linked (Statement.assignField f value)) ≡ fault → CheckedAs scope classes statement r
-  unfolding linksAfter
-  assign-field-is f value fault e is h = rw (e, is) (record { fault = h; learnt = nothing-learnt classes linked refl })
-
-  pub assign-entry-is : (f : ℕ) (key value : Expression) (fault : ℕ) → statement ≡ Statement.assignEntry f key value → r ≡ record { fault = fault; classes = classes }
-      → leastFault (statementFaults scope linked (Statement.assignEntry f key value)) ≡ fault → CheckedAs scope classes statement r
-  unfolding linksAfter
-  assign-entry-is f key value fault e is h = rw (e, is) (record { fault = h; learnt = nothing-learnt classes linked refl })
-
-  pub require-is : (condition : Expression) (after : Classes) (fault : ℕ) → statement ≡ Statement.require condition → r ≡ record { fault = fault; classes = after }
-      → leastFault (conditionFaults scope linked condition) ≡ fault → Learnt classes after (linksOfCondition scope condition linked)
-      → CheckedAs scope classes statement r
-  unfolding statementFaults linksAfter
-  require-is condition after fault e is h l = rw (e, is) (record { fault = h; learnt = l })
-
--- An if gives its branches the links before it, marked as having added none; the then-branch learns from the condition.
-module _ (scope : Scope) (classes : Classes) (condition : Expression) (then else : Statement) (given learnt : Classes) (one two : Checked)
-    (marked : given ≡ record { of = classes .of; grown = false })
-    (learns : Learnt given learnt (linksOfCondition scope condition (linkedBy (given .of))))
-    (inThen : CheckedAs scope learnt then one) (inElse : CheckedAs scope given else two) where
-  abbrev before : Links
-  before = linkedBy (classes .of)
+-- The then-branch begins with what the condition states, the else-branch with the links before the if.
+module _ (scope : Scope) (before learnt yes no : List ℕ) (condition : Expression) (then else : Statement) (states : Bool) (one two : Checked)
+    (learns : Learnt before learnt states (linksOfCondition scope condition (linkedBy before)))
+    (inThen : CheckedAs scope learnt yes then one) (inElse : CheckedAs scope before no else two) where
+  abbrev links : Links
+  links = linkedBy before
 
   abbrev known : Links
-  known = linksOfCondition scope condition before
+  known = linksOfCondition scope condition links
 
-  given-of : given .of ≡ classes .of
-  given-of = ap (λ g. g .of) marked
+  then-links : linkedBy yes ≡ linksAfter scope then known
+  then-links = inThen .learnt .links ∙ ap (linksAfter scope then) (learns .links)
 
-  learnt-links : linkedBy (learnt .of) ≡ known
-  learnt-links = learns .links ∙ ap (λ l. linksOfCondition scope condition (linkedBy l)) given-of
-
-  then-links : linkedBy (one .classes .of) ≡ linksAfter scope then known
-  then-links = inThen .learnt .links ∙ ap (linksAfter scope then) learnt-links
-
-  else-links : linkedBy (two .classes .of) ≡ linksAfter scope else before
-  else-links = inElse .learnt .links ∙ ap (λ l. linksAfter scope else (linkedBy l)) given-of
-
-  then-grown : GrownFrom classes (one .classes)
+  then-grown : GrownFrom before yes (states || one .added)
   then-grown =
       record {
         kept = λ a b h.
-            ap (λ (l : Links). l a b) then-links ∙ (within-chain (condition-grows scope condition before) (links-grow scope then known)) .each a b h;
-        unlessGrown = λ h.
-            let later = inThen .learnt .unlessGrown h in
-            sym given-of ∙ (learns .unlessGrown (later .1)) .0 ∙ later .0;
+            ap (λ (l : Links). l a b) then-links ∙ (within-chain (condition-grows scope condition links) (links-grow scope then known)) .each a b h;
+        unlessAdded = (learnt-both learns (inThen .learnt)) .unlessAdded;
       }
 
-  else-grown : GrownFrom classes (two .classes)
+  else-grown : GrownFrom before no (two .added)
   else-grown =
       record {
-        kept = λ a b h. ap (λ (l : Links). l a b) else-links ∙ (links-grow scope else before) .each a b h;
-        unlessGrown = λ h. sym given-of ∙ (inElse .learnt .unlessGrown h) .0;
+        kept = λ a b h. ap (λ (l : Links). l a b) (inElse .learnt .links) ∙ (links-grow scope else links) .each a b h;
+        unlessAdded = inElse .learnt .unlessAdded;
       }
 
-  pub conditional-is : (statement : Statement) (r : Checked) (c : ℕ) → statement ≡ Statement.conditional condition then else → AfterIf c classes one two r
-      → leastFault (conditionFaults scope before condition) ≡ c → CheckedAs scope classes statement r
+  pub conditional-is : (statement : Statement) (r : Checked) (after : List ℕ) (c fault : ℕ) (grown added : Bool)
+      → statement ≡ Statement.conditional condition then else → r ≡ record { fault = fault; added = added }
+      → grown ≡ (states || one .added) → Behind before yes grown no (two .added) after added
+      → fault ≡ min (min c (one .fault)) (two .fault) → leastFault (conditionFaults scope links condition) ≡ c → CheckedAs scope before after statement r
   unfolding statementFaults linksAfter
-  conditional-is statement r c e is h =
-      rw e
+  conditional-is statement r after c fault grown added e is g behind f h =
+      rw (e, is)
       (record {
-        fault = least-append (conditionFaults scope before condition ++ statementFaults scope known then) (statementFaults scope before else)
-            ∙ rw (least-append (conditionFaults scope before condition) (statementFaults scope known then), h, ← learnt-links, inThen .fault, ← given-of, inElse .fault, is .fault);
-        learnt = learnt-as (is .behind .learnt then-grown else-grown) (ap₂ linkedInBoth then-links else-links);
+        fault = least-append (conditionFaults scope links condition ++ statementFaults scope known then) (statementFaults scope links else)
+            ∙ rw (least-append (conditionFaults scope links condition) (statementFaults scope known then), h, ← learns .links, inThen .fault, inElse .fault, f);
+        learnt = learnt-as (behind .learnt (rw g then-grown) else-grown) (ap₂ linkedInBoth then-links (inElse .learnt .links));
       })

@@ -1,2 +1,2 @@
-pub mod Trees
 pub mod Checking
+pub mod Judged

@@ -1,162 +1,179 @@
-// The faults of a statement's node and the links after it, by recursion over its parts.
-use file_bytes::node_at;
+// The faults of a statement's node, the links after it, and the owners of its expressions, by recursion over its parts.
+use file_decoded::number_from;
+use file_decoded::short_from;
+use file_kinds::ENTRY_TAKES_SHORT;
+use file_kinds::FIELD_TAKES_SHORT;
+use file_kinds::IF_SHORT;
+use file_kinds::REQUIRE_SHORT;
+use file_kinds::SEQUENCE_SHORT;
 use rules_assignments::entry_put_fault;
 use rules_assignments::field_fault;
 use rules_conditions::condition_fault;
 use rules_expressions::judge;
 use rules_expressions::learn;
+use rules_faults::either;
 use rules_faults::least;
-use rules_links::Classes;
+use rules_links::class_room;
+use rules_links::copy_classes;
 use rules_meet::behind;
-use rules_scopes::Parameters;
-use rules_scopes::field_at;
+use rules_scopes::field_from;
 ghost use mathlib.Core.Path.{_≡_};
-ghost use mathlib.Core.Bool.{false};
-ghost use Prim.Native.Nat.{_<_};
+ghost use Prim.Native.Nat.{_/_, _<_, _≤_};
 ghost use lib.ListN.{length};
-ghost use Rattle.definitions.specs.ContractFile.{nodeCount, assignField, assignEntry};
+ghost use Rattle.definitions.specs.ContractFile.{assignField, assignEntry};
 ghost use Rattle.definitions.specs.Numbers.{statementFaults, conditionFaults};
+ghost use Rattle.theory_trees.specs.Trees.{expressionIn};
 ghost use Rattle.rules_faults.specs.Faults.{leastFault};
-ghost use Rattle.rules_links.specs.Names.{linkedBy};
-ghost use Rattle.rules_scopes.specs.Trees.{nodesOf, expressionOn, statementOn};
-ghost use Rattle.rules_scopes.specs.Scopes.{Ready, scopeAt};
-ghost use Rattle.rules_statements.specs.Checking.{CheckedAs, AfterIf};
+ghost use Rattle.rules_links.specs.Classes.{Classed, linkedBy};
+ghost use Rattle.rules_scopes.specs.Trees.{nodesIn};
+ghost use Rattle.rules_scopes.specs.Scopes.{Ready, scopeFrom};
+ghost use Rattle.rules_statements.specs.Checking.{markedUnder, JudgedStatement};
 
-// Least fault, 16 for none, and the links for what follows.
+// Least fault, 16 for none, and whether a link was added.
 pub struct Checked {
     pub fault: u8,
-    pub classes: Classes,
+    pub added: bool,
 }
 
-fn outcome(fault: u8, classes: Classes) -> Checked
-    ensures { λ r. ⌜ r ≡ record { fault = fault; classes = classes } ⌝ }
+fn outcome(fault: u8, added: bool) -> Checked
+    ensures { λ r. ⌜ r ≡ record { fault = fault; added = added } ⌝ }
 {
     Checked {
         fault: fault,
-        classes: classes,
+        added: added,
     }
-}
-
-// The links that an if gives its branches. These have added none yet.
-fn handed_on(classes: Classes) -> Classes
-    ensures { λ r. ⌜ r ≡ record { of = classes .of; grown = false } ⌝ }
-{
-    let mut given = classes;
-    given.grown = false;
-    given
-}
-
-// Behind an if: the least of three faults, and the links that both branches end with.
-fn after_if(condition: u8, before: Classes, yes: Checked, no: Checked) -> Checked
-    ensures { λ r. ⌜ AfterIf condition before yes no r ⌝ }
-{
-    let yes_classes = yes.classes;
-    let no_classes = no.classes;
-    let fault = least(least(condition, yes.fault), no.fault);
-    outcome(fault, behind(before, yes_classes, no_classes))
 }
 
 // Field `arg` takes the value of node `first`.
 fn field_takes(
-    file: &[u8],
-    nodes_at: usize,
-    p: Parameters,
-    classes: &[u8],
-    arg: u8,
+    fields: &[u16],
+    parameters: &[u16],
+    nodes: &[u16],
+    classes: &[u16],
+    owners: &mut [u16],
+    arg: u16,
     first: usize,
 ) -> u8
-    requires { ⌜ (first < nodeCount (now file)) × (Ready (now file) «nodes_at» p) × (length (now classes) ≡ 256) ⌝ }
-    ensures { λ r. ⌜ leastFault (statementFaults (scopeAt (now (file .entry)) p) (linkedBy (now (classes .entry)))
-        (assignField arg (expressionOn (nodesOf (now (file .entry))) first))) ≡ r ⌝ }
+    requires { ⌜ (first < length (now nodes) / 5) × (arg < length (now fields) / 3)
+        × (Ready (now fields) (now parameters) (now nodes) (length (now classes))) × (length (now nodes) / 5 ≤ length (now owners)) ⌝ }
+    ensures { λ r. ⌜ leastFault (statementFaults (scopeFrom (now (fields .entry)) (now (parameters .entry)))
+        (linkedBy (now (classes .entry)))
+        (assignField arg (expressionIn (nodesIn (now (nodes .entry))) first))) ≡ r ⌝ }
+    ensures { λ _. ⌜ now (owners .exit)
+        ≡ markedUnder (now (fields .entry)) (now (parameters .entry)) (now (nodes .entry)) first (now (owners .entry)) ⌝ }
 {
-    let value = judge(file, nodes_at, p, classes, first);
-    field_fault(classes, field_at(file, arg), value)
+    let value = judge(fields, parameters, nodes, classes, owners, first);
+    field_fault(classes, field_from(fields, arg), value)
 }
 
 // The entry of mapping `arg` at the key of node `first` takes the value of node `second`.
 fn entry_takes(
-    file: &[u8],
-    nodes_at: usize,
-    p: Parameters,
-    classes: &[u8],
-    arg: u8,
+    fields: &[u16],
+    parameters: &[u16],
+    nodes: &[u16],
+    classes: &[u16],
+    owners: &mut [u16],
+    arg: u16,
     first: usize,
     second: usize,
 ) -> u8
-    requires { ⌜ (first < nodeCount (now file)) × (second < nodeCount (now file)) × (Ready (now file) «nodes_at» p)
-        × (length (now classes) ≡ 256) ⌝ }
-    ensures { λ r. ⌜ leastFault (statementFaults (scopeAt (now (file .entry)) p) (linkedBy (now (classes .entry)))
+    requires { ⌜ (first < length (now nodes) / 5) × (second < length (now nodes) / 5) × (arg < length (now fields) / 3)
+        × (Ready (now fields) (now parameters) (now nodes) (length (now classes))) × (length (now nodes) / 5 ≤ length (now owners)) ⌝ }
+    ensures { λ r. ⌜ leastFault (statementFaults (scopeFrom (now (fields .entry)) (now (parameters .entry)))
+        (linkedBy (now (classes .entry)))
         (assignEntry arg
-        (expressionOn (nodesOf (now (file .entry))) first)
-        (expressionOn (nodesOf (now (file .entry))) second))) ≡ r ⌝ }
+        (expressionIn (nodesIn (now (nodes .entry))) first)
+        (expressionIn (nodesIn (now (nodes .entry))) second))) ≡ r ⌝ }
+    ensures { λ _. ⌜ now (owners .exit)
+        ≡ markedUnder (now (fields .entry)) (now (parameters .entry)) (now (nodes .entry)) second
+        (markedUnder (now (fields .entry)) (now (parameters .entry)) (now (nodes .entry)) first (now (owners .entry))) ⌝ }
 {
-    let key = judge(file, nodes_at, p, classes, first);
-    let value = judge(file, nodes_at, p, classes, second);
-    entry_put_fault(classes, field_at(file, arg), key, value)
+    let key = judge(fields, parameters, nodes, classes, owners, first);
+    let value = judge(fields, parameters, nodes, classes, owners, second);
+    entry_put_fault(classes, field_from(fields, arg), key, value)
 }
 
 // The condition of node `first`.
-fn condition_is(file: &[u8], nodes_at: usize, p: Parameters, classes: &[u8], first: usize) -> u8
-    requires { ⌜ (first < nodeCount (now file)) × (Ready (now file) «nodes_at» p) × (length (now classes) ≡ 256) ⌝ }
-    ensures { λ r. ⌜ leastFault (conditionFaults (scopeAt (now (file .entry)) p) (linkedBy (now (classes .entry)))
-        (expressionOn (nodesOf (now (file .entry))) first)) ≡ r ⌝ }
+fn condition_is(
+    fields: &[u16],
+    parameters: &[u16],
+    nodes: &[u16],
+    classes: &[u16],
+    owners: &mut [u16],
+    first: usize,
+) -> u8
+    requires { ⌜ (first < length (now nodes) / 5)
+        × (Ready (now fields) (now parameters) (now nodes) (length (now classes))) × (length (now nodes) / 5 ≤ length (now owners)) ⌝ }
+    ensures { λ r. ⌜ leastFault (conditionFaults (scopeFrom (now (fields .entry)) (now (parameters .entry)))
+        (linkedBy (now (classes .entry)))
+        (expressionIn (nodesIn (now (nodes .entry))) first)) ≡ r ⌝ }
+    ensures { λ _. ⌜ now (owners .exit)
+        ≡ markedUnder (now (fields .entry)) (now (parameters .entry)) (now (nodes .entry)) first (now (owners .entry)) ⌝ }
 {
-    condition_fault(judge(file, nodes_at, p, classes, first))
+    condition_fault(judge(fields, parameters, nodes, classes, owners, first))
 }
 
-// The least fault of statement n, and the links in force behind it. An expression is lent a copy of the classes, made where there is one
-// to judge: a parameter that is itself lent is copied at every entry.
+// The least fault of statement n; the classes stand for the links behind it afterwards. An if keeps the links before it, for the
+// else-branch and for what is behind it.
 pub fn judge_statement(
-    file: &[u8],
-    nodes_at: usize,
-    p: Parameters,
-    classes: Classes,
+    fields: &[u16],
+    parameters: &[u16],
+    nodes: &[u16],
+    classes: &mut [u16],
+    owners: &mut [u16],
     n: usize,
 ) -> Checked
-    requires { ⌜ (n < nodeCount (now file)) × (Ready (now file) «nodes_at» p) ⌝ }
-    ensures { λ r. ⌜ CheckedAs (scopeAt (now (file .entry)) p) classes (statementOn (nodesOf (now (file .entry))) n) r ⌝ }
+    requires { ⌜ (n < length (now nodes) / 5) × (Ready (now fields) (now parameters) (now nodes) (length (now classes)))
+        × (Classed (now classes)) × (length (now nodes) / 5 ≤ length (now owners)) ⌝ }
+    ensures { λ r. ⌜ JudgedStatement (now (fields .entry)) (now (parameters .entry)) (now (nodes .entry)) n
+        (now (classes .entry)) (now (classes .exit)) (now (owners .entry)) (now (owners .exit)) r ⌝ }
 {
-    let node = node_at(file, nodes_at, n);
-    let kind = node.kind;
-    let arg = node.arg as u8;
-    let first = node.first;
-    let second = node.second;
-    let third = node.third;
+    let at = 5 * n;
+    let kind = short_from(nodes, at);
+    let arg = short_from(nodes, at + 1);
+    let first = number_from(nodes, at + 2);
+    let second = number_from(nodes, at + 3);
     match kind {
-        17 => {
-            let one = judge_statement(file, nodes_at, p, classes, first);
-            let between = one.classes;
-            let two = judge_statement(file, nodes_at, p, between, second);
-            let after = two.classes;
-            outcome(least(one.fault, two.fault), after)
+        SEQUENCE_SHORT => {
+            let one = judge_statement(fields, parameters, nodes, classes, owners, first);
+            let two = judge_statement(fields, parameters, nodes, classes, owners, second);
+            outcome(least(one.fault, two.fault), either(one.added, two.added))
         }
-        18 => {
-            let of = classes.of;
-            outcome(field_takes(file, nodes_at, p, &of, arg, first), classes)
+        FIELD_TAKES_SHORT => {
+            let put = field_takes(fields, parameters, nodes, classes, owners, arg, first);
+            outcome(put, false)
         }
-        19 => {
-            let of = classes.of;
-            outcome(
-                entry_takes(file, nodes_at, p, &of, arg, first, second),
+        ENTRY_TAKES_SHORT => {
+            let put = entry_takes(
+                fields,
+                parameters,
+                nodes,
                 classes,
-            )
+                owners,
+                arg,
+                first,
+                second,
+            );
+            outcome(put, false)
         }
-        20 => {
-            let of = classes.of;
-            outcome(
-                condition_is(file, nodes_at, p, &of, first),
-                learn(file, nodes_at, p, classes, first),
-            )
+        REQUIRE_SHORT => {
+            let fault = condition_is(fields, parameters, nodes, classes, owners, first);
+            outcome(fault, learn(fields, parameters, nodes, classes, first))
         }
-        21 => {
-            let given = handed_on(classes);
-            let learnt = learn(file, nodes_at, p, given, first);
-            let so_far = classes.of;
-            let condition = condition_is(file, nodes_at, p, &so_far, first);
-            let yes = judge_statement(file, nodes_at, p, learnt, second);
-            let no = judge_statement(file, nodes_at, p, given, third);
-            after_if(condition, classes, yes, no)
+        IF_SHORT => {
+            let condition = condition_is(fields, parameters, nodes, classes, owners, first);
+            let third = number_from(nodes, at + 4);
+            let all = classes.len();
+            let mut before = class_room();
+            copy_classes(classes, &mut before[..all]);
+            let mut other = before;
+            let learnt = learn(fields, parameters, nodes, classes, first);
+            let yes = judge_statement(fields, parameters, nodes, classes, owners, second);
+            let no = judge_statement(fields, parameters, nodes, &mut other[..all], owners, third);
+            let grown = either(learnt, yes.added);
+            let added = behind(classes, &before[..all], &other[..all], grown, no.added);
+            outcome(least(least(condition, yes.fault), no.fault), added)
         }
-        _ => outcome(16, classes),
+        _ => outcome(16, false),
     }
 }

@@ -2,26 +2,26 @@
 use mathlib.Core.Bool.{not, cond}
 use Prim.Native.Nat.{ℕ, min}
 use lib.Dec.{eqb}
-use Rattle.definitions.specs.ContractFile.{ownerOfCode}
 use Rattle.definitions.specs.Owners.{Links}
 use Rattle.definitions.specs.Numbers.{fault, mayBePut}
 use Rattle.rules_faults.specs.Faults.{leastFault}
-use Rattle.rules_codes.specs.Codes.{placeCode}
+use Rattle.rules_owners.specs.Numbering.{ownerWith}
+use Rattle.rules_codes.specs.Codes.{placeNumber}
 use Rattle.rules_judgements.specs.Judging.{entryFault}
 use Rattle.rules_judgements.specs.declared.Judged.{Judged}
-use Rattle.rules_judgements.specs.declared.Declared.{Declared}
+use Rattle.rules_scopes.specs.declared.Declared.{Declared}
 
 module _ (linked : Links) where
   abbrev pub valueFault : Declared → ℕ → Judged → ℕ
   valueFault d place value =
       min (min (value .fault) (cond (not (eqb (value .kind) (d .kind))) 9 16))
-      (leastFault (fault (not (mayBePut linked (ownerOfCode (value .owner)) (ownerOfCode place))) 15))
+      (leastFault (fault (not (mayBePut linked (ownerWith (value .owner)) (ownerWith place))) 15))
 
   abbrev pub fieldFault : Declared → Judged → ℕ
-  fieldFault d value = min (cond (not (eqb (d .shape) 0)) 8 16) (valueFault d (placeCode (d .owner) 0) value)
+  fieldFault d value = min (cond (not (eqb (d .shape) 0)) 8 16) (valueFault d (placeNumber d 0) value)
 
   abbrev pub entryPutFault : Declared → Judged → Judged → ℕ
-  entryPutFault d key value = min (min (key .fault) (entryFault d key)) (valueFault d (placeCode (d .owner) (key .name)) value)
+  entryPutFault d key value = min (min (key .fault) (entryFault d key)) (valueFault d (placeNumber d (key .name)) value)
 
 abbrev pub conditionFault : Judged → ℕ
 conditionFault condition =

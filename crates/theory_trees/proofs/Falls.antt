@@ -14,7 +14,7 @@ use Rattle.theory_laws.proofs.TruthValues.{or-left, or-right}
 use Rattle.theory_trees.specs.Trees.{Falling}
 use Rattle.theory_trees.proofs.Unfolding.{nodes-read}
 
-none-above : (n : ℕ) (xs : List ℕ) → any (leb n) xs ≡ false → all (λ x. ltb x n) xs ≡ true
+pub none-above : (n : ℕ) (xs : List ℕ) → any (leb n) xs ≡ false → all (λ x. ltb x n) xs ≡ true
 unfolding any all
 none-above n [] h = refl
 none-above n (x ∷ xs) h =

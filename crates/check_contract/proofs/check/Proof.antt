@@ -1,15 +1,22 @@
--- `check_contract::check` gives the first number that holds.
-use mathlib.Core.Path.{_≡_, sym, _∙_}
-use native.Mathlib.Omega.{arith}
-use Rattle.check_contract.proofs.Order.{refused-by-shape, left-to-rules}
-use Rattle.check_01_to_07.proofs.Shape.{settled}
+-- Numbers 1 and 2, then 3 to 15 of the decoded file.
+use mathlib.Core.Path.{sym, _∙_}
+use Rattle.definitions.specs.Basics.{firstThatHolds}
+use Rattle.definitions.specs.Numbers.{checkNumber}
+use Rattle.check_contract.proofs.Order.{check-after-counts}
 use borrow.Author.Needs.{needs}
 use Rattle.check_contract.proofs.check.Statement.{statement}
 use Rattle.check_contract.proofs.check.Tie as tie
 
 pub check-spec : {M : Type 1} → statement M
-check-spec = tie.close (tie.spec (λ c κs. search needs) (λ c. refused-by-shape _ _ (c .before .shape-number .ensures) (omega (arith, c .if1 .taken))) (λ c κs. let shape-number = c .before .shape-number in
-    let none : (shape-number .result) ≡ 0 = omega arith in
-    settled _ (sym (shape-number .ensures) ∙ none)) (λ c. let shape-number = c .before .before .shape-number in
-    let none : (shape-number .result) ≡ 0 = omega arith in
-    left-to-rules _ _ _ (shape-number .ensures) none (c .rules-number .ensures)))
+unfolding checkNumber firstThatHolds
+check-spec =
+    tie.close (tie.spec
+    (λ c κs. search needs)
+    (λ c κs. search needs)
+    (λ c. rw (← c .before .ends-wrongly .ensures, c .if1 .taken))
+    (λ c κs. search needs)
+    (λ c. rw (← c .before .before .before .ends-wrongly .ensures, c .before .before .if1 .left, ← c .before .count-off-limits .ensures, c .if2 .taken))
+    (λ c κs. let ends = sym (c .before .before .before .before .before .ends-wrongly .ensures) ∙ c .before .before .before .before .if1 .left in let counts = sym (c .before .before .before .count-off-limits .ensures) ∙ c .before .before .if2 .left in (record { layout = c .before .before .before .before .before .before .read-layout .ensures; ends = ends; counts = counts }, c .if3 .taken))
+    (λ c κs. let ends = sym (c .before .before .before .before .before .ends-wrongly .ensures) ∙ c .before .before .before .before .if1 .left in let counts = sym (c .before .before .before .count-off-limits .ensures) ∙ c .before .before .if2 .left in record { layout = c .before .before .before .before .before .before .read-layout .ensures; ends = ends; counts = counts })
+    (λ c. let ends = sym (c .before .before .before .before .before .before .ends-wrongly .ensures) ∙ c .before .before .before .before .before .if1 .left in let counts = sym (c .before .before .before .before .count-off-limits .ensures) ∙ c .before .before .before .if2 .left in c .number-of-short .ensures ∙ sym (check-after-counts _ ends counts))
+    (λ c. let ends = sym (c .before .before .before .before .before .before .ends-wrongly .ensures) ∙ c .before .before .before .before .before .if1 .left in let counts = sym (c .before .before .before .before .count-off-limits .ensures) ∙ c .before .before .before .if2 .left in c .number-of-long .ensures ∙ sym (check-after-counts _ ends counts)))

@@ -1,9 +1,11 @@
-use Rattle.theory_laws.proofs.Records.{parameters-length}
-use Rattle.rules_contract.proofs.Functions.{root-is, function-fault-is}
-use Rattle.definitions.specs.ContractFile.{byteAt}
-use Prim.Native.Nat.{_+_}
+-- No links at the start, in room for as many classes as there are owners' numbers.
+use mathlib.Core.Path.{ap, sym, _∙_}
+use Prim.Native.Nat.{_+_, _/_}
 use native.Mathlib.Omega.{arith}
-use mathlib.Core.Path.{sym}
+use lib.ListN.{length, drop}
+use lib.Seq.{length-take-le}
+use Rattle.rules_statements.proofs.Judged.{array-long, array-front, classed-as, column-long}
+use Rattle.rules_contract.proofs.Functions.{function-judged}
 use borrow.Author.Needs.{needs}
 use Rattle.rules_contract.proofs.function_fault.Statement.{statement}
 use Rattle.rules_contract.proofs.function_fault.Tie as tie
@@ -11,21 +13,13 @@ use Rattle.rules_contract.proofs.function_fault.Tie as tie
 pub function-fault-spec : {M : Type 1} → statement M
 function-fault-spec =
     tie.close (tie.spec
-    (λ c κs. search needs) (λ c. search needs) (λ c. search needs) (λ c. search needs) (λ c κs. search needs) (λ c. search needs)
-    (λ c. search needs) (λ c κs. search needs)
-    (λ c κs. let byte-at = c .before .before .byte-at in let two-bytes-at = c .before .two-bytes-at in
-    let s = c .before .before .before .before in
-    let ready = s .pre in
-    let few = sym (parameters-length (byteAt (s .args .file .now) (s .args .at)) (s .args .file .now) (s .args .at + 1)) in
-    let root = root-is (s .args .file .now) (s .args .at) (byte-at .result) (two-bytes-at .result)
-    (byte-at .ensures .0) (two-bytes-at .ensures .0) in
-    let h = ready .root in
-    let k = ready .fewParameters in
-    let e = byte-at .ensures .0 in
-    let a = ready .nearFunction in
-    (omega arith, record { settled = ready .settled; nodes = ready .nodes; near = ready .near; fewNodes = ready .fewNodes; fewParameters = omega arith; nearParameters = omega arith }))
-    (λ c. let byte-at = c .before .before .before .byte-at in let two-bytes-at = c .before .before .two-bytes-at in
-    let s = c .before .before .before .before .before in
-    function-fault-is (s .args .file .now) (s .args .at) (byte-at .result) (two-bytes-at .result)
-    (byte-at .ensures .0) (two-bytes-at .ensures .0) _ _ (c .before .no-links .ensures)
-    (c .judge-statement .ensures .fault)))
+    (λ c. let few = c .before .before .before .before .pre .1 .few in omega (arith, few))
+    (λ c κs. search needs)
+    (λ c. let s = c .before .before .before .before .before in let room = c .class-room .ensures in let few = s .pre .1 .few in let count = 10 + length (s .args .fields .now) / 3 in omega (arith, few, room))
+    (λ c. let s = c .before .before .before .before .before .before in let room = c .before .class-room .ensures in let few = s .pre .1 .few in let count = 10 + length (s .args .fields .now) / 3 in sym (length-take-le count (c .before .class-room .result) (omega (arith, few, room))))
+    (λ c κs. let s = c .before .before .before .before .before .before in let room = c .before .class-room .ensures in let few = s .pre .1 .few in let count = 10 + length (s .args .fields .now) / 3 in let long = length-take-le count (c .before .class-room .result) (omega (arith, few, room)) in (omega (arith, long), omega (arith, long, few)))
+    (λ c. let s = c .before .before .before .before .before .before .before .before in let room = c .before .before .before .class-room .ensures in let few = s .pre .1 .few in let count = 10 + length (s .args .fields .now) / 3 in let links = c .before .no-links .ensures in let own = links .2 ∙ length-take-le count (c .before .before .before .class-room .result) (omega (arith, few, room)) in let long = array-long (c .before .no-links .last .0) (c .before .before .before .class-room .result) count own (omega (arith, few, room)) in omega (arith, long, few, room))
+    (λ c. let s = c .before .before .before .before .before .before .before .before .before in let room = c .before .before .before .before .class-room .ensures in let few = s .pre .1 .few in let count = 10 + length (s .args .fields .now) / 3 in let links = c .before .before .no-links .ensures in let own = links .2 ∙ length-take-le count (c .before .before .before .before .class-room .result) (omega (arith, few, room)) in sym (ap length (array-front (c .before .before .no-links .last .0) (drop count (c .before .before .before .before .class-room .result)) count own) ∙ own))
+    (λ c κs. let s = c .before .before .before .before .before .before .before .before .before .before in let room = c .before .before .before .before .before .class-room .ensures in let few = s .pre .1 .few in let count = 10 + length (s .args .fields .now) / 3 in let links = c .before .before .before .no-links .ensures in let own = links .2 ∙ length-take-le count (c .before .before .before .before .before .class-room .result) (omega (arith, few, room)) in let front = array-front (c .before .before .before .no-links .last .0) (drop count (c .before .before .before .before .before .class-room .result)) count own in (s .pre .0, record { declared = s .pre .1; given = s .pre .2; bodies = s .pre .3; numbered = ap length front ∙ own }, classed-as front (links .1), s .pre .4))
+    (λ c. column-long (c .before .before .before .judge-statement .ensures))
+    (λ c. let s = c .before .before .before .before .before .before .before .before .before .before .before .before .before .before in let room = c .before .before .before .before .before .before .before .before .before .class-room .ensures in let few = s .pre .1 .few in let count = 10 + length (s .args .fields .now) / 3 in let links = c .before .before .before .before .before .before .before .no-links .ensures in let own = links .2 ∙ length-take-le count (c .before .before .before .before .before .before .before .before .before .class-room .result) (omega (arith, few, room)) in let front = array-front (c .before .before .before .before .before .before .before .no-links .last .0) (drop count (c .before .before .before .before .before .before .before .before .before .class-room .result)) count own in let judged = c .before .before .before .judge-statement .ensures in function-judged _ _ _ _ _ _ _ _ _ _ front (links .0) judged))

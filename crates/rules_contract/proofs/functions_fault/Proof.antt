@@ -1,54 +1,42 @@
--- `rules_contract::functions_fault` meets its contract: the least so far, and the faults of the functions left, make the least of all.
-use Rattle.rules_contract.proofs.Functions.{Upcoming, functionsLeft, upcoming-start, functions-start, functions-next, upcoming-next, function-ready, functions-done}
-use Rattle.rules_contract.specs.Sections.{allFunctionsFault}
-use Prim.Native.Nat.{_≤_, min}
-use borrow.Author.Needs.{needs}
+-- The least fault and the column so far, with those of the functions ahead.
+use mathlib.Core.Path.{_≡_, ap, sym, _∙_}
+use Prim.Native.Nat.{_+_, _*_, _-_, _/_, _≤_, min}
 use native.Mathlib.Omega.{arith}
-use mathlib.Core.Path.{_≡_, ap, _∙_}
+use lib.ListN.{length}
+use Rattle.file_decoded.specs.Slices.{numberAt, parametersFrom}
+use Rattle.rules_contract.proofs.Functions.{FunctionsSo, functions-start, functions-more, functions-done, own-parameters, own-ready}
+use borrow.Author.Needs.{needs}
 use Rattle.rules_contract.proofs.functions_fault.Statement.{statement}
 use Rattle.rules_contract.proofs.functions_fault.Tie as tie
 
 abbrev Inv-loop : tie.InvT-loop
-Inv-loop file layout fault₀ at₀ left₀ fault at left = (fault ≤ 16) × (Upcoming file left at) × (min fault (functionsLeft file left at) ≡ allFunctionsFault file)
+Inv-loop fields functions parameters nodes owners₀ count fault₀ f₀ owners fault f = (f ≤ count) × FunctionsSo fields functions parameters nodes owners₀ f fault owners
 
 abbrev μ-loop : tie.MeasureT-loop
-μ-loop file layout fault₀ at₀ left₀ fault at left = left
+μ-loop fields functions parameters nodes owners₀ count fault₀ f₀ owners fault f = count - f
 
 pub functions-fault-spec : {M : Type 1} → statement M
 functions-fault-spec =
     tie.close (tie.spec Inv-loop μ-loop
-    (λ c. let (_, is-layout) = c .before .before .pre in
-    let i = is-layout in
-    let a = i .functionsStart in
-    let b = i .fields in
-    let d = i .fewFields in
-    omega arith)
-    (λ c. let s = c .before .before in
-    let file = s .args .file .now in
-    (omega arith, upcoming-start file (s .pre .0) (s .args .layout) (s .pre .1), functions-start file (s .pre .0) (s .args .layout) (s .pre .1)))
-    (λ c κs. let loop = c .before .loop in let (_, upcoming, _) = c .before .loop .inv in
-    let s = c .before .before .before .before in
-    let i = s .pre .1 in
-    function-ready (s .args .file .now) (loop .left) (loop .at) (c .loop-test .taken) (s .args .layout .«nodes_at») (s .pre .0)
-    (i .nodesStart) (i .nearNodes) (rw (i .nodes) at (i .fewNodes)) upcoming)
+    (λ c. let s = c .before .before .before .before .before in (omega arith, functions-start _ _ _ _ (s .args .owners .now)))
+    (λ c. let s = c .before .before .before .before .before .before .before in let ready = s .pre in let loop = c .before .loop in let here = c .loop-test .taken in let few = ready .few in omega (arith, here, few))
+    (λ c κs. let s = c .before .before .before .before .before .before .before in let ready = s .pre in let loop = c .before .loop in let here = c .loop-test .taken in let few = ready .few in omega (arith, here))
+    (λ c. let s = c .before .before .before .before .before .before .before .before in let ready = s .pre in let loop = c .before .before .loop in let here = c .before .loop-test .taken in let few = ready .few in omega (arith, here, few))
+    (λ c. let s = c .before .before .before .before .before .before .before .before in let ready = s .pre in let loop = c .before .before .loop in let here = c .before .loop-test .taken in let few = ready .few in omega (arith, here, few))
+    (λ c κs. let s = c .before .before .before .before .before .before .before .before in let ready = s .pre in let loop = c .before .before .loop in let here = c .before .loop-test .taken in let few = ready .few in omega (arith, here))
+    (λ c. let s = c .before .before .before .before .before .before .before .before .before in let ready = s .pre in let loop = c .before .before .before .loop in let here = c .before .before .loop-test .taken in let few = ready .few in let small = c .number-from2 .ensures .1 in omega (arith, small))
+    (λ c. let s = c .before .before .before .before .before .before .before .before .before in let ready = s .pre in let loop = c .before .before .before .loop in let here = c .before .before .loop-test .taken in let few = ready .few in let small = c .number-from2 .ensures .1 in let less = c .before .number-from .ensures .1 in omega (arith, small, less))
+    (λ c. let s = c .before .before .before .before .before .before .before .before .before in let ready = s .pre in let loop = c .before .before .before .loop in let here = c .before .before .loop-test .taken in let few = ready .few in omega (arith, here, few))
+    (λ c. let s = c .before .before .before .before .before .before .before .before .before in let ready = s .pre in let loop = c .before .before .before .loop in let here = c .before .before .loop-test .taken in let few = ready .few in omega (arith, here, few))
+    (λ c κs. let s = c .before .before .before .before .before .before .before .before .before in let ready = s .pre in let loop = c .before .before .before .loop in let here = c .before .before .loop-test .taken in let few = ready .few in omega (arith, here))
+    (λ c. let s = c .before .before .before .before .before .before .before .before .before .before in let ready = s .pre in let loop = c .before .before .before .before .loop in let here = c .before .before .before .loop-test .taken in let few = ready .few in let from = c .before .before .number-from .ensures .0 in let own = c .before .number-from2 .ensures .0 in let inside : numberAt (s .args .functions .now) (3 * loop .f) + 2 * numberAt (s .args .functions .now) (3 * loop .f + 1) ≤ length (s .args .parameters .now) = ready .inside .each (loop .f) (omega (arith, here)) in omega (arith, inside, from, own))
+    (λ c. let s = c .before .before .before .before .before .before .before .before .before .before in let ready = s .pre in let loop = c .before .before .before .before .loop in let here = c .before .before .before .loop-test .taken in let few = ready .few in let from = c .before .before .number-from .ensures .0 in let own = c .before .number-from2 .ensures .0 in let inside : numberAt (s .args .functions .now) (3 * loop .f) + 2 * numberAt (s .args .functions .now) (3 * loop .f + 1) ≤ length (s .args .parameters .now) = ready .inside .each (loop .f) (omega (arith, here)) in omega (arith, inside, from, own))
+    (λ c. let s = c .before .before .before .before .before .before .before .before .before .before in let ready = s .pre in let loop = c .before .before .before .before .loop in let here = c .before .before .before .loop-test .taken in let few = ready .few in let from = c .before .before .number-from .ensures .0 in let own = c .before .number-from2 .ensures .0 in let inside : numberAt (s .args .functions .now) (3 * loop .f) + 2 * numberAt (s .args .functions .now) (3 * loop .f + 1) ≤ length (s .args .parameters .now) = ready .inside .each (loop .f) (omega (arith, here)) in omega (arith, inside, from, own))
+    (λ c. let s = c .before .before .before .before .before .before .before .before .before .before in let ready = s .pre in let loop = c .before .before .before .before .loop in let here = c .before .before .before .loop-test .taken in let few = ready .few in let from = c .before .before .number-from .ensures .0 in let own = c .before .number-from2 .ensures .0 in let inside : numberAt (s .args .functions .now) (3 * loop .f) + 2 * numberAt (s .args .functions .now) (3 * loop .f + 1) ≤ length (s .args .parameters .now) = ready .inside .each (loop .f) (omega (arith, here)) in omega (arith, inside, from, own))
+    (λ c κs. let s = c .before .before .before .before .before .before .before .before .before .before .before .before in let ready = s .pre in let loop = c .before .before .before .before .before .before .loop in let here = c .before .before .before .before .before .loop-test .taken in let few = ready .few in let from = c .before .before .before .before .number-from .ensures .0 in let own = c .before .before .before .number-from2 .ensures .0 in let inside : numberAt (s .args .functions .now) (3 * loop .f) + 2 * numberAt (s .args .functions .now) (3 * loop .f + 1) ≤ length (s .args .parameters .now) = ready .inside .each (loop .f) (omega (arith, here)) in let fits : c .before .before .before .before .number-from .result + 2 * c .before .before .before .number-from2 .result ≤ length (s .args .parameters .now) = omega (arith, inside, from, own) in let so = loop .inv .1 in let some = ready .fewParameters (loop .f) here in (rw (c .before .before .number-from3 .ensures .0) (ready .roots (loop .f) here), ready .declared, own-ready (s .args .parameters .now) (c .before .before .before .before .number-from .result) (c .before .before .before .number-from2 .result) fits (omega (arith, some, own)) (rw (own, from) (ready .listed (loop .f) here)), ready .bodies, omega (arith, ready .column, so .long)))
     (λ c κs. search needs)
-    (λ c κs. let (_, upcoming, _) = c .before .before .before .loop .inv in
-    let n = upcoming .near in
-    omega arith)
-    (λ c. search needs) (λ c. search needs)
-    (λ c. let loop = c .before .before .before .before .loop in
-    let s = c .before .before .before .before .before .before .before in
-    let file = s .args .file .now in
-    let inv = c .before .before .before .before .loop .inv in
-    let left = loop .left in
-    let at = loop .at in
-    let more = c .before .before .before .loop-test .taken in
-    let l = c .before .least .ensures in (
-      omega arith,
-      upcoming-next file left at more _ (inv .1) (c .function-end .ensures .0) (c .function-end .ensures .1),
-      functions-next file left at more _ _ _ _ (inv .2) (l ∙ ap (min (loop .fault))
-          (c .before .before .function-fault .ensures)) (c .function-end .ensures .0),
-    ))
-    (λ c. let loop = c .before .loop in let (fault-bound, _, min-is) = c .before .loop .inv in
-    let s = c .before .before .before .before in
-    functions-done (s .args .file .now) (loop .left) (loop .at) _ _ (omega arith) fault-bound min-is))
+    (λ c. search needs)
+    (λ c. search needs)
+    (λ c. let s = c .before .before .before .before .before .before .before .before .before .before .before .before .before .before .before .before in let ready = s .pre in let loop = c .before .before .before .before .before .before .before .before .before .before .loop in let here = c .before .before .before .before .before .before .before .before .before .loop-test .taken in let few = ready .few in let from = c .before .before .before .before .before .before .before .before .number-from .ensures .0 in let own = c .before .before .before .before .before .before .before .number-from2 .ensures .0 in let inside : numberAt (s .args .functions .now) (3 * loop .f) + 2 * numberAt (s .args .functions .now) (3 * loop .f + 1) ≤ length (s .args .parameters .now) = ready .inside .each (loop .f) (omega (arith, here)) in let fits : c .before .before .before .before .before .before .before .before .number-from .result + 2 * c .before .before .before .before .before .before .before .number-from2 .result ≤ length (s .args .parameters .now) = omega (arith, inside, from, own) in let so = loop .inv .1 in let some = ready .fewParameters (loop .f) here in (omega (arith, here), functions-more _ _ _ _ _ _ _ _ so _ _ _ _ here (own-parameters (s .args .parameters .now) (c .before .before .before .before .before .before .before .before .number-from .result) (c .before .before .before .before .before .before .before .number-from2 .result) fits ∙ λ i. parametersFrom (own i) (s .args .parameters .now) (from i)) (rw (c .before .before .before .before .before .before .number-from3 .ensures .0) at (c .before .before .before .function-fault .ensures)) (c .least .ensures)))
+    (λ c. search needs)
+    (λ c. let s = c .before .before .before .before .before .before .before in let done = c .loop-test .left in functions-done _ _ _ _ _ _ _ _ (c .before .loop .inv .1) (omega (arith, done))))

@@ -1,5 +1,3 @@
-use Rattle.definitions.specs.Numbers.{targetInTables}
-use mathlib.Core.Path.{ap, _∙_}
 use lib.Dec.{eqb}
 use mathlib.Core.Bool.{not}
 use Rattle.rules_codes.proofs.Codes.{caller-listed}
@@ -12,6 +10,6 @@ parameter-judged-spec =
     tie.close (tie.spec
     (λ c κs. search needs) (λ c κs. search needs) (λ c κs. search needs)
     (λ c κs. let s = c .before .before .before .before .before in
-    (ap targetInTables (c .before .before .code-if .ensures) ∙ caller-listed (not (eqb (s .args .p .owner) 0)), s .pre .1))
+    rw (c .before .before .given-if .ensures) (record { enough = s .pre .1; there = caller-listed _ (s .pre .1) (not (eqb (s .args .p .owner) 0)) }))
     (λ c κs. search needs)
     (λ c. cc))

@@ -4,25 +4,31 @@ use Prim.Native.Nat.{ℕ, _≤_, _<_, _-_}
 use native.Mathlib.Omega.{arith}
 use borrow.Author.Needs.{needs}
 use lib.ListN.{length, getD, length-set}
-use Rattle.rules_links.proofs.Joining.{own-next, alone}
+use Rattle.rules_links.proofs.Joining.{own-next, alone, own-classed}
 use Rattle.rules_links.proofs.no_links.Statement.{statement}
 use Rattle.rules_links.proofs.no_links.Tie as tie
 
 abbrev Inv-loop : tie.InvT-loop
-Inv-loop classes₀ i₀ classes i = (i ≤ 256) × (length (classes .of) ≡ 256) × ((j : ℕ) → j < i → getD (classes .of) j 0 ≡ j)
+Inv-loop classes₀ count i₀ classes i =
+    (i ≤ length classes) × (length classes ≡ length classes₀) × ((j : ℕ) → j < i → getD classes j 0 ≡ j)
 
 abbrev μ-loop : tie.MeasureT-loop
-μ-loop classes₀ i₀ classes i = 256 - i
+μ-loop classes₀ count i₀ classes i = count - i
 
 pub no-links-spec : {M : Type 1} → statement M
 no-links-spec =
     tie.close (tie.spec Inv-loop μ-loop
     (λ c. (omega arith, refl, λ j h. absurd (omega arith)))
-    (λ c. search needs) (λ c. search needs) (λ c. search needs) (λ c. search needs)
-    (λ c. let loop = c .before .loop in
-    let inv = c .before .loop .inv in
-    let h : loop .i < length (loop .classes .of) = omega arith in
-    let l = loop .classes .of in
-    let i = loop .i in
-    (omega arith, length-set l i i ∙ inv .1, own-next l i h (inv .2)))
-    (λ c. let (_, _, j-bound) = c .before .loop .inv in alone _ (λ j h. j-bound j (omega arith))))
+    (λ c. search needs) (λ c. search needs) (λ c. search needs) (λ c. search needs) (λ c. search needs)
+    (λ c. let (_, long, own) = c .before .loop .inv in
+    let loop = c .before .loop in
+    let size = length-set (loop .classes) (loop .i) (loop .i) in
+    (omega arith, size ∙ long, own-next (loop .classes) (loop .i) (omega arith) own))
+    (λ c. c .before .loop .inv .1)
+    (λ c. let (_, long, own) = c .before .loop .inv in
+    let (enough, few) = c .before .before .pre in
+    let end : length (c .before .loop .classes) ≤ c .before .loop .i = omega arith in (
+      alone _ (rw long enough) (λ j h. own j (omega arith)),
+      own-classed _ (rw long enough) (rw long few) (λ j h. own j (omega arith)),
+      long,
+    )))

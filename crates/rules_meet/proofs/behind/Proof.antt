@@ -1,12 +1,30 @@
-use Rattle.rules_links.proofs.Growing.{link-learnt}
-use Rattle.rules_meet.proofs.Branches.{yes-adds-nothing, no-adds-nothing}
+use mathlib.Core.Path.{sym, _∙_}
 use borrow.Author.Needs.{needs}
+use Rattle.rules_links.proofs.Growing.{link-learnt}
+use Rattle.rules_meet.proofs.Branches.{one-adds-nothing, other-adds-nothing}
 use Rattle.rules_meet.proofs.behind.Statement.{statement}
 use Rattle.rules_meet.proofs.behind.Tie as tie
 
+returns : tie.Need-returns
+returns c =
+    let call = c .before .before in
+    let s = call .before .before .before .before .before .before .before in
+    let met = call .meet .ensures in
+    record { learnt = λ inOne inOther. link-learnt _ _ _ (met .classed) (met .long ∙ sym (s .pre .3)) (met .links) }
+
+returns-2 : tie.Need-returns-2
+returns-2 c =
+    let call = c .before .before in
+    let s = call .before .before .before .before .before .before .before in
+    rw (call .copy-classes .ensures)
+    (record { learnt = λ inOne inOther. other-adds-nothing _ _ _ _ _ inOne inOther (s .pre .1) (call .before .before .if2 .left) })
+
 pub behind-spec : {M : Type 1} → statement M
 behind-spec =
-    tie.close (tie.spec (λ c κs. search needs)
-    (λ c. record { learnt = λ inYes inNo. link-learnt _ _ _ (c .meet .ensures .1) (c .meet .ensures .0) })
-    (λ c. record { learnt = λ inYes inNo. no-adds-nothing _ _ _ inYes inNo (c .if2 .left) })
-    (λ c. record { learnt = λ inYes inNo. yes-adds-nothing _ _ _ inYes inNo (c .if1 .left) }))
+    tie.close (tie.spec
+    (λ c κs. search needs) (λ c. search needs)
+    returns
+    (λ c κs. search needs) (λ c. search needs)
+    returns-2
+    (λ c. let s = c .before .before .before .before in
+    record { learnt = λ inOne inOther. one-adds-nothing _ _ _ _ _ inOne inOther (s .pre .1) (c .if1 .left) }))

@@ -1,0 +1,2 @@
+pub mod NamingLoops
+pub mod Order

@@ -1,0 +1,52 @@
+-- The node that a number names among the decoded ones, and that the numbers of the nodes fall from parent to child.
+use mathlib.Core.Path.{_≡_, refl}
+use mathlib.Core.Bool.{Bool, true, false}
+use mathlib.Core.List.{List}
+use Prim.Native.Nat.{ℕ, _+_, _*_, _/_, _<_}
+use native.Mathlib.Omega.{arith}
+use borrow.Author.Tests.{ltb-false, ltb-true}
+use lib.Dec.{ltb}
+use lib.ListN.{length}
+use Rattle.definitions.specs.Basics.{all}
+use Rattle.definitions.specs.ContractFile.{node, unknownNode, nodeOf, nodeAt, children, expressionParts, statementParts}
+use Rattle.theory_trees.specs.Trees.{Falling}
+use Rattle.theory_trees.proofs.Unfolding.{nodes-read}
+use Rattle.theory_trees.proofs.Falls.{none-above}
+use Rattle.file_decoded.specs.Slices.{numberAt, nodeFrom, nodesFrom}
+use Rattle.file_decoded.proofs.Records.{node-within, node-past}
+use Rattle.rules_scopes.specs.Trees.{nodesIn}
+use Rattle.rules_scopes.specs.Scopes.{NodesReady}
+
+module _ (nodes : List ℕ) (n : ℕ) where
+  pub node-named : n < length nodes / 5 → nodeAt (nodesIn nodes) n ≡ nodeOf (nodeFrom nodes (5 * n))
+  node-named inside =
+      let e : 0 + 5 * n ≡ 5 * n = omega arith in
+      rw e at (node-within (length nodes / 5) nodes 0 n inside)
+
+  -- A node of which a function has read the first numbers.
+  pub read-three : (kind arg first : ℕ) → kind ≡ numberAt nodes (5 * n) → arg ≡ numberAt nodes (5 * n + 1) → first ≡ numberAt nodes (5 * n + 2)
+      → node kind arg first (numberAt nodes (5 * n + 3)) (numberAt nodes (5 * n + 4)) ≡ nodeFrom nodes (5 * n)
+  read-three kind arg first a b c = rw (a, b, c)
+
+  pub read-four : (kind arg first second : ℕ) → kind ≡ numberAt nodes (5 * n) → arg ≡ numberAt nodes (5 * n + 1) → first ≡ numberAt nodes (5 * n + 2)
+      → second ≡ numberAt nodes (5 * n + 3) → node kind arg first second (numberAt nodes (5 * n + 4)) ≡ nodeFrom nodes (5 * n)
+  read-four kind arg first second a b c d = rw (a, b, c, d)
+
+  pub read-five : (kind arg first second third : ℕ) → kind ≡ numberAt nodes (5 * n) → arg ≡ numberAt nodes (5 * n + 1) → first ≡ numberAt nodes (5 * n + 2)
+      → second ≡ numberAt nodes (5 * n + 3) → third ≡ numberAt nodes (5 * n + 4) → node kind arg first second third ≡ nodeFrom nodes (5 * n)
+  read-five kind arg first second third a b c d e = rw (a, b, c, d, e)
+
+no-children : (n : ℕ) (x : _) → x ≡ unknownNode → all (λ child. ltb child n) (children x) ≡ true
+unfolding expressionParts statementParts all
+no-children n x e = rw e
+
+module _ (fields nodes : List ℕ) (ready : NodesReady fields nodes) where
+  -- A child's number is below its parent's.
+  pub falling : Falling (nodesIn nodes)
+  falling = record { read = nodes-read (nodesFrom (length nodes / 5) nodes 0); below = λ n. go n (ltb n (length nodes / 5)) refl }
+    where
+      go : (n : ℕ) (b : Bool) → ltb n (length nodes / 5) ≡ b → all (λ child. ltb child n) (children (nodeAt (nodesIn nodes) n)) ≡ true
+      go n true e =
+          let inside = ltb-true n (length nodes / 5) e in
+          rw (node-named nodes n inside) (none-above n (children (nodeOf (nodeFrom nodes (5 * n)))) (ready .falling n inside))
+      go n false e = no-children n (nodeAt (nodesIn nodes) n) (node-past (length nodes / 5) nodes 0 n (ltb-false n (length nodes / 5) e))
