@@ -1,7 +1,10 @@
 // Reads a contract file and writes the rewritten file, byte for byte, or prints `refused` and its number. The first argument names the
 // file to read in place of standard input, a second one the file to write in place of standard output.
+use program_input::Beginning;
+use program_input::begin_input;
 use program_input::contract_room;
-use program_input::read_input;
+use program_input::read_rest;
+use program_input::short_contract_room;
 use program_output::deliver;
 use program_output::print_refused;
 use write_output::Answer;
@@ -27,18 +30,34 @@ fn rewrite(file: &[u8], out: &mut [u8]) -> Answer
     write_contract::write(file, out)
 }
 
-fn main() {
+fn answer(file: &[u8]) {
+    let mut out = output_room();
+    let answer = rewrite(file, &mut out);
+    let end = answer.length;
+    if answer.number == 0 {
+        deliver(b"compile", &out[..end]);
+    } else {
+        print_refused(b"compile", answer.number);
+    }
+}
+
+// A function of its own, so that the large room is cleared for an input that fills the short one alone.
+fn answer_long(beginning: Beginning, start: &[u8]) {
     let mut file = contract_room();
-    let input = read_input(b"compile", 2, &mut file);
+    let input = read_rest(b"compile", beginning, start, &mut file);
     let length = input.length;
     if input.ready {
-        let mut out = output_room();
-        let answer = rewrite(&file[..length], &mut out);
-        let end = answer.length;
-        if answer.number == 0 {
-            deliver(b"compile", &out[..end]);
-        } else {
-            print_refused(b"compile", answer.number);
-        }
+        answer(&file[..length]);
+    }
+}
+
+fn main() {
+    let mut file = short_contract_room();
+    let beginning = begin_input(b"compile", 2, &mut file);
+    let length = beginning.length;
+    if beginning.full {
+        answer_long(beginning, &file);
+    } else if beginning.ready {
+        answer(&file[..length]);
     }
 }
