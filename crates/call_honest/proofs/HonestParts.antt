@@ -7,14 +7,15 @@ use lib.ListN.{length, take}
 use Rattle.definitions.specs.ContractFile.{Function, byteAt, functionCount, nodesAt}
 use Rattle.definitions.specs.Numbers.{checkNumber}
 use Rattle.definitions.specs.Original.{addressIn}
-use Rattle.definitions.specs.Ledger.{Content, Ledger, openedNumber, callWith, honestParameters, honestParametersOf, honestVariablesOf}
+use Rattle.definitions.specs.Ledger.{Content, Ledger, openedNumber, callNumber, callWith, honestParameters, honestParametersOf, honestVariablesOf}
 use Rattle.memory_buffer.proofs.Storing.{front-stored}
 use Rattle.file_accepted.proofs.Declarations.{parameters-count}
 use Rattle.theory_typing.proofs.WellFormed.{ledger-accepted}
 use Rattle.theory_typing.proofs.CallEnvironment.{calls-left, call-well-formed, function-exists, argument-count}
-use Rattle.file_accepted.specs.Context.{nodesIn, parametersIn, scopeIn}
+use Rattle.file_accepted.specs.Context.{nodesIn, parametersIn, scopeIn, Source}
 use Rattle.file_accepted.specs.Functions.{functionStart, rootAt}
 use Rattle.file_accepted.proofs.Functions.{functions-count, function-in}
+use Rattle.file_accepted.proofs.Sources.{context-with}
 use Rattle.ledger_contents.specs.Contents.{contentsOf}
 use Rattle.rewrite_log.specs.declared.Position.{Position}
 use Rattle.rewrite_log.specs.Entries.{Entries}
@@ -42,14 +43,19 @@ pub places-opened : (flat before after : List ℕ) (many : ℕ) (places : List C
 places-opened flat before after many places long short same numbered =
     numbers-whole openedNumber flat before after (omega arith) numbered ∙ ap (map openedNumber) same
 
+-- A call that nothing refuses is made on an accepted file.
+pub called-accepted : (l : Ledger) (function caller : ℕ) (arguments : List ℕ) → callNumber l function caller arguments ≡ 0 → (file : List ℕ) → file ≡ l .file
+    → checkNumber file ≡ 0
+called-accepted l function caller arguments clear file same = ap checkNumber same ∙ ledger-accepted l (call-well-formed l function caller arguments clear)
+
 -- The log of a body.
-module _ (file : List ℕ) (at nodesStart private : ℕ) (log : List ℕ) (room : LogRoom file at nodesStart private log) where
-  pub log-ready : Ready file at nodesStart (rootAt file at) log (startingAt private) (statementOf file at 0 (rootAt file at))
+module _ (file : List ℕ) (at : ℕ) (source : List ℕ) (private : ℕ) (log : List ℕ) (room : LogRoom file at source private log) where
+  pub log-ready : Ready file at source (rootAt file at) log (startingAt private) (statementOf file at 0 (rootAt file at))
   log-ready =
       rw (room .privateIs)
       (record {
         inside = room .room .root;
-        context = rw (room .place) (room .room .context);
+        context = context-with file at source (room .room .context) (room .held);
         room = record { space = omega (arith, room .room .events, room .space); few = omega (arith, room .room .variables) };
       })
 
@@ -102,22 +108,22 @@ module _ (l : Ledger) (function caller : ℕ) (arguments file : List ℕ) (at : 
       let context = room-here .context in
       record { place = record { near = context .nearFunction; few = context .fewParameters }; count = arguments-counted; room = long }
 
-  module _ (nodesStart : ℕ) (place : nodesStart ≡ nodesAt file) where
-    pub log-room : (private : ℕ) (log : List ℕ) → private ≡ privateIn file at → 7680 ≤ length log → LogRoom file at nodesStart private log
-    log-room private log counted space = record { place = place; room = room-here; privateIs = counted; space = space }
+  module _ (source : List ℕ) (held : Source file source) where
+    pub log-room : (private : ℕ) (log : List ℕ) → private ≡ privateIn file at → 7680 ≤ length log → LogRoom file at source private log
+    log-room private log counted space = record { held = held; room = room-here; privateIs = counted; space = space }
 
-    pub slots-room : (slots : List ℕ) → 1024 ≤ length slots → SlotsRoom file at nodesStart slots
+    pub slots-room : (slots : List ℕ) → 1024 ≤ length slots → SlotsRoom file at source slots
     slots-room slots space =
-        record { context = rw place (room-here .context); root = room-here .root; room = omega (arith, room-here .variables) }
+        record { context = context-with file at source (room-here .context) held; root = room-here .root; room = omega (arith, room-here .variables) }
 
   pub slots-few : (numbers before after : List ℕ) (made : ℕ) → SlotsPut file at arguments caller numbers before after made → made ≤ 1024
   slots-few numbers before after made put = omega (arith, put .count, room-here .variables)
 
 -- The numbers that are told on opened places are those worked out.
-pub worked-out : (l : Ledger) (function caller : ℕ) (arguments file : List ℕ) (at nodesStart : ℕ) (numbers log : List ℕ) (private : ℕ) (addresses : List ℕ)
-    → Told l function caller arguments file at nodesStart numbers log private addresses → (before slots : List ℕ) (made : ℕ)
+pub worked-out : (l : Ledger) (function caller : ℕ) (arguments file : List ℕ) (at : ℕ) (source : List ℕ) (numbers log : List ℕ) (private : ℕ) (addresses : List ℕ)
+    → Told l function caller arguments file at source numbers log private addresses → (before slots : List ℕ) (made : ℕ)
     → SlotsPut file at arguments caller numbers before slots made → WorkedOut l function caller arguments file at log private (take made slots) addresses
-worked-out l function caller arguments file at nodesStart numbers log private addresses told before slots made put =
+worked-out l function caller arguments file at source numbers log private addresses told before slots made put =
     let opened = told .known .opened in
     record {
       called = told .known .called;

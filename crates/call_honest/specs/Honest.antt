@@ -6,7 +6,7 @@ use lib.ListN.{length, take}
 use Rattle.definitions.specs.ContractFile.{nodesAt}
 use Rattle.definitions.specs.Original.{addressIn}
 use Rattle.definitions.specs.Ledger.{Ledger, openedNumber, callNumber}
-use Rattle.file_accepted.specs.Context.{nodesIn, scopeIn}
+use Rattle.file_accepted.specs.Context.{nodesIn, scopeIn, Source}
 use Rattle.file_accepted.specs.Functions.{functionStart}
 use Rattle.rewrite_log.specs.Entries.{Entries}
 use Rattle.ledger_circuits.specs.Circuits.{addressFrom}
@@ -21,14 +21,14 @@ pub record Called (l : Ledger) (function caller : ℕ) (arguments file : List �
   pub begins : at ≡ functionStart file function
 
 -- The places' numbers are those of their contents opened.
-pub record Opened (l : Ledger) (function caller : ℕ) (arguments file : List ℕ) (at nodesStart : ℕ) (numbers : List ℕ) : Type 0 where
+pub record Opened (l : Ledger) (function caller : ℕ) (arguments file : List ℕ) (at : ℕ) (source : List ℕ) (numbers : List ℕ) : Type 0 where
   pub called : Called l function caller arguments file at
-  pub place : nodesStart ≡ nodesAt file
+  pub held : Source file source
   pub opened : numbers ≡ map openedNumber (l .places)
 
 -- The log of a function's body fits.
-pub record LogRoom (file : List ℕ) (at nodesStart private : ℕ) (log : List ℕ) : Type 0 where
-  pub place : nodesStart ≡ nodesAt file
+pub record LogRoom (file : List ℕ) (at : ℕ) (source : List ℕ) (private : ℕ) (log : List ℕ) : Type 0 where
+  pub held : Source file source
   pub room : FunctionRoom file at 0 0
   pub privateIs : private ≡ privateIn file at
   pub space : 7680 ≤ length log
@@ -39,9 +39,9 @@ pub record LogPut (file : List ℕ) (at : ℕ) (log : List ℕ) (r : ℕ) : Type
   pub fits : r ≤ 7680
 
 -- On opened places: the entries of the body's events, and the address of each name.
-pub record Told (l : Ledger) (function caller : ℕ) (arguments file : List ℕ) (at nodesStart : ℕ) (numbers log : List ℕ)
+pub record Told (l : Ledger) (function caller : ℕ) (arguments file : List ℕ) (at : ℕ) (source : List ℕ) (numbers log : List ℕ)
     (private : ℕ) (addresses : List ℕ) : Type 0 where
-  pub known : Opened l function caller arguments file at nodesStart numbers
+  pub known : Opened l function caller arguments file at source numbers
   pub entries : Entries (nodesIn file) (eventsIn file at) log
   pub privateIs : private ≡ privateIn file at
   pub addressed : Addressed file at caller arguments numbers addresses

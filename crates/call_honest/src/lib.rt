@@ -3,8 +3,9 @@
 use call_numbers::serial_call;
 use call_with::call_with;
 use file_bytes::byte_at;
-use file_bytes::read_layout;
+use file_decoded::node_room;
 use file_functions::function_start;
+use file_source::decode_source;
 use file_kinds::PARAMETER_CODES_END;
 use honest_parameters::put_parameters;
 use honest_variables::honest_slots;
@@ -37,14 +38,14 @@ pub fn opened_places(l: Ledger, flat: &mut [u32], numbers: &mut [u32])
 fn log_body(
     file: &[u8],
     function_at: usize,
-    nodes_at: usize,
+    source: &[u16],
     private: usize,
     log: &mut [u16],
 ) -> usize
-    requires { ⌜ LogRoom (now file) «function_at» «nodes_at» private (now log) ⌝ }
+    requires { ⌜ LogRoom (now file) «function_at» (now source) private (now log) ⌝ }
     ensures { λ r. ⌜ LogPut (now (file .entry)) «function_at» (now (log .exit)) r ⌝ }
 {
-    let end = function_log(file, function_at, nodes_at, private, log);
+    let end = function_log(file, function_at, source, private, log);
     end.at
 }
 
@@ -120,7 +121,7 @@ fn call_worked_out(
     l: Ledger,
     file: &[u8],
     function_at: usize,
-    nodes_at: usize,
+    source: &[u16],
     function: u8,
     caller: u8,
     arguments: &[u32],
@@ -130,7 +131,7 @@ fn call_worked_out(
     addresses: &[u32],
 ) -> Ledger
     requires { ⌜ Told (ledgerOf l) function caller (now arguments)
-        (now file) «function_at» «nodes_at» (now numbers) (now log) private (now addresses) ⌝ }
+        (now file) «function_at» (now source) (now numbers) (now log) private (now addresses) ⌝ }
     ensures { λ r. ⌜ ledgerOf r ≡ callWith (ledgerOf l) function caller
         (honestParametersOf (ledgerOf l) function caller (now (arguments .entry)))
         (honestVariablesOf (ledgerOf l) function caller (now (arguments .entry))) ⌝ }
@@ -139,7 +140,7 @@ fn call_worked_out(
     let made = honest_slots(
         file,
         function_at,
-        nodes_at,
+        source,
         numbers,
         arguments,
         caller,
@@ -164,13 +165,13 @@ fn call_opened(
     l: Ledger,
     file: &[u8],
     function_at: usize,
-    nodes_at: usize,
+    source: &[u16],
     function: u8,
     caller: u8,
     arguments: &[u32],
     numbers: &mut [u32],
 ) -> Ledger
-    requires { ⌜ Opened (ledgerOf l) function caller (now arguments) (now file) «function_at» «nodes_at» (now numbers) ⌝ }
+    requires { ⌜ Opened (ledgerOf l) function caller (now arguments) (now file) «function_at» (now source) (now numbers) ⌝ }
     ensures { λ r. ⌜ ledgerOf r ≡ callWith (ledgerOf l) function caller
         (honestParametersOf (ledgerOf l) function caller (now (arguments .entry)))
         (honestVariablesOf (ledgerOf l) function caller (now (arguments .entry))) ⌝ }
@@ -187,12 +188,12 @@ fn call_opened(
     let count = byte_at(file, function_at);
     let private = count_private(file, function_at + 1, count);
     let mut log = [0u16; 7680];
-    let logged = log_body(file, function_at, nodes_at, private, &mut log[..]);
+    let logged = log_body(file, function_at, source, private, &mut log[..]);
     call_worked_out(
         l,
         file,
         function_at,
-        nodes_at,
+        source,
         function,
         caller,
         arguments,
@@ -221,13 +222,13 @@ fn call_on(
 {
     opened_places(l, flat, numbers);
     let function_at = function_start(file, function);
-    let layout = read_layout(file);
-    let nodes_at = layout.nodes_at;
+    let mut room = node_room();
+    let count = decode_source(file, &mut room[..]);
     call_opened(
         l,
         file,
         function_at,
-        nodes_at,
+        &room[..count],
         function,
         caller,
         arguments,

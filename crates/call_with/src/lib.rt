@@ -1,8 +1,9 @@
 // 01, Runs and views: a call with given parameters and supplied values: the written body walked, and the ledger after it.
 use call_ledgers::done_ledger;
 use call_ledgers::failed_ledger;
-use file_bytes::read_layout;
+use file_decoded::node_room;
 use file_functions::function_start;
+use file_source::decode_source;
 use file_kinds::PARAMETER_CODES_END;
 use honest_parameters::put_public;
 use ledger_addresses::put_addresses;
@@ -19,8 +20,7 @@ ghost use Rattle.definitions.specs.Ledger.{plainNumber, publicOf, callWith};
 ghost use Rattle.ledger_contents.specs.Contents.{contentsOf};
 ghost use Rattle.ledger_addresses.specs.Addresses.{AddressRoom, Addressed};
 ghost use Rattle.ledger_struct.specs.Ledgers.{ledgerOf};
-ghost use Rattle.definitions.specs.ContractFile.{nodesAt};
-ghost use Rattle.file_accepted.specs.Context.{parametersIn};
+ghost use Rattle.file_accepted.specs.Context.{parametersIn, Source};
 ghost use Rattle.walk_expressions.specs.Evaluation.{stateOf};
 ghost use Rattle.write_function_room.specs.Functions.{FunctionRoom};
 ghost use Rattle.honest_parameters.specs.Parameters.{PublicRoom};
@@ -61,13 +61,13 @@ fn call_addresses(
 fn walk_called(
     file: &[u8],
     function_at: usize,
-    nodes_at: usize,
+    source: &[u16],
     addresses: &[u32],
     parameters: &[u32],
     places: &mut [u32],
     variables: &mut [u32],
 ) -> bool
-    requires { ⌜ («nodes_at» ≡ nodesAt (now file)) × (FunctionRoom (now file) «function_at» 0 0) ⌝ }
+    requires { ⌜ (Source (now file) (now source)) × (FunctionRoom (now file) «function_at» 0 0) ⌝ }
     ensures { λ r. ⌜ Walked (now (file .entry)) «function_at» (now (addresses .entry)) (now (parameters .entry))
         (stateOf (now (places .entry)) (now (variables .entry))) (stateOf (now (places .exit)) (now (variables .exit))) r ⌝ }
 {
@@ -79,7 +79,7 @@ fn walk_called(
     walk_function(
         file,
         function_at,
-        nodes_at,
+        source,
         addresses,
         &mut log[..],
         &mut numbers[..],
@@ -127,8 +127,8 @@ fn call_on(
         (contentsOf (now (variables .entry))) ⌝ }
 {
     let function_at = function_start(file, function);
-    let layout = read_layout(file);
-    let nodes_at = layout.nodes_at;
+    let mut room = node_room();
+    let count = decode_source(file, &mut room[..]);
     flat_places(l, places);
     let mut addresses = [0u32; PARAMETER_CODES_END];
     call_addresses(
@@ -142,7 +142,7 @@ fn call_on(
     if walk_called(
         file,
         function_at,
-        nodes_at,
+        &room[..count],
         &addresses[..],
         parameters,
         places,

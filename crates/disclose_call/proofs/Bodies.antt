@@ -4,16 +4,17 @@ use mathlib.Core.List.{List, [], _∷_, map}
 use Prim.Native.Nat.{ℕ, zero, suc, _<_, _≤_}
 use native.Mathlib.Omega.{arith}
 use lib.ListN.{length}
-use Rattle.definitions.specs.ContractFile.{Name, meName, Field, Function, functionAt, nodesAt, sectionsOf, contractOf}
+use Rattle.definitions.specs.ContractFile.{Name, meName, Field, Function, functionAt, sectionsOf, contractOf}
 use Rattle.definitions.specs.Original.{addressIn, disclosedBy, originalDiscloses, callAddress}
 use Rattle.definitions.specs.Ledger.{Ledger, openedNumber, callNumber}
 use Rattle.definitions.specs.View.{disclosedOn}
 use Rattle.theory_trees.specs.Trees.{statementIn}
 use Rattle.memory_append.specs.Append.{Appended}
 use Rattle.file_bytes.proofs.Sections.{count-of-nodes}
-use Rattle.file_accepted.specs.Context.{nodesIn, fieldsIn}
+use Rattle.file_accepted.specs.Context.{Source, nodesIn, fieldsIn}
 use Rattle.file_accepted.specs.Functions.{functionStart, rootAt}
 use Rattle.file_accepted.proofs.Functions.{functions-count, function-in}
+use Rattle.file_accepted.proofs.Sources.{context-with}
 use Rattle.ledger_addresses.specs.Addresses.{AddressRoom, Addressed}
 use Rattle.write_room.specs.Sizes.{bodiesSize}
 use Rattle.write_room.proofs.Room.{nodes-suffice}
@@ -49,13 +50,13 @@ module _ (file : List ℕ) (at caller : ℕ) (arguments numbers : List ℕ) (par
     body-is =
         ap (λ (address : Name → ℕ). disclosedBy (fieldsIn file) address arguments party numbers (statementIn (nodesIn file) (rootAt file at))) (put .addresses)
 
-    pub body-ready : (asked : Asked) (root : ℕ) → asked .«function_at» ≡ at → asked .«nodes_at» ≡ nodesAt file → asked .caller ≡ caller → asked .party ≡ party
-        → root ≡ rootAt file at → StatementReady file arguments addresses numbers asked root values 0
-    body-ready asked root begins nodes called told first =
+    pub body-ready : (source : List ℕ) (asked : Asked) (root : ℕ) → Source file source → asked .«function_at» ≡ at → asked .caller ≡ caller → asked .party ≡ party
+        → root ≡ rootAt file at → StatementReady file arguments addresses numbers source asked root values 0
+    body-ready source asked root held begins called told first =
         rw first
         (record {
           inside = ready .root;
-          context = rw (begins, nodes) (ready .context);
+          context = rw begins (context-with file at source (ready .context) held);
           called = ap (λ (address : Name → ℕ). address meName) (put .addresses) ∙ sym called;
           room = rw (told, body-is) (omega (arith, ready .room));
         })
@@ -102,6 +103,7 @@ module _ (l : Ledger) (function caller : ℕ) (arguments file : List ℕ) (at : 
       let accepted = file-accepted l function caller arguments file at called in
       let there = function-there l function caller arguments file at called in
       record {
+        accepted = rw (called .sameFile) accepted;
         context = rw (called .begins, called .sameFile) (function-context (l .file) accepted function there);
         root = rw (called .begins, called .sameFile) (function-root (l .file) accepted function there);
         room = rw (opened, called-discloses) (omega (arith, called-few));

@@ -3,12 +3,13 @@ use mathlib.Core.Path.{_≡_}
 use mathlib.Core.List.{List}
 use Prim.Native.Nat.{ℕ, _<_, _≤_}
 use lib.ListN.{length}
-use Rattle.definitions.specs.ContractFile.{nodesAt, nodeCount}
+use Rattle.definitions.specs.ContractFile.{nodeCount}
+use Rattle.definitions.specs.Numbers.{checkNumber}
 use Rattle.definitions.specs.Original.{addressIn, disclosedBy}
 use Rattle.definitions.specs.Ledger as ledger
 use Rattle.definitions.specs.View.{disclosedNumber, disclosedLength, outputAfterDisclosing}
 use Rattle.theory_trees.specs.Trees.{statementIn}
-use Rattle.file_accepted.specs.Context.{Context, nodesIn, fieldsIn, scopeIn}
+use Rattle.file_accepted.specs.Context.{Known, nodesIn, fieldsIn, scopeIn}
 use Rattle.file_accepted.specs.Functions.{rootAt}
 use Rattle.disclose_output.specs.declared.Answer.{Answer}
 
@@ -20,7 +21,8 @@ bodyDiscloses file at caller arguments numbers party =
 
 -- The function that begins at a place can be worked out, and there is room for all that its body discloses.
 pub record BodyReady (file : List ℕ) (at caller : ℕ) (arguments numbers : List ℕ) (party : ℕ) (values : List ℕ) : Type 0 where
-  pub context : Context file at (nodesAt file)
+  pub accepted : checkNumber file ≡ 0
+  pub context : Known file at
   pub root : rootAt file at < nodeCount file
   pub room : length (bodyDiscloses file at caller arguments numbers party) ≤ length values
 

@@ -7,9 +7,10 @@ use disclose_output::Answer;
 use disclose_output::hand_over;
 use disclose_output::refusal;
 use disclose_statements::disclose_statement;
-use file_bytes::read_layout;
+use file_decoded::node_room;
 use file_functions::function_start;
 use file_kinds::PARAMETER_CODES_END;
+use file_source::decode_source;
 use honest_variables::root_at;
 use ledger_addresses::put_addresses;
 use ledger_struct::Ledger;
@@ -53,17 +54,18 @@ fn disclose_body(
         numbers,
         &mut addresses[..],
     );
-    let layout = read_layout(file);
-    let asked = Asked {
+    let mut room = node_room();
+    let count = decode_source(file, &mut room[..]);
+    let who = Asked {
         function_at: function_at,
-        nodes_at: layout.nodes_at,
         caller: question.caller,
         party: question.party,
     };
     let root = root_at(file, function_at);
     let told = disclose_statement(
         file,
-        asked,
+        &room[..count],
+        who,
         numbers,
         arguments,
         &addresses[..],

@@ -2,16 +2,17 @@
 use mathlib.Core.Path.{_≡_, refl, ap, sym, _∙_}
 use mathlib.Core.Bool.{Bool, true, false, cond, _&&_}
 use mathlib.Core.List.{List, [], _∷_, _++_}
-use Prim.Native.Nat.{ℕ, _+_, _*_, _<_, _≤_}
+use Prim.Native.Nat.{ℕ, _+_, _<_, _≤_}
 use native.Mathlib.Omega.{arith}
 use borrow.Author.Tests.{eqb-true, eqb-false}
 use lib.Dec.{eqb}
 use lib.ListN.{length}
-use Rattle.definitions.specs.ContractFile.{meName, Owner, Operator, Expression, NodeRecord, nodeCount, nodeRecord}
+use Rattle.definitions.specs.ContractFile.{meName, Owner, Operator, Expression, NodeRecord, nodeCount}
 use Rattle.definitions.specs.Original.{isWorkedOut, operates, mayRead, readerOf, disclosed}
 use Rattle.theory_trees.specs.Trees.{expressionIn}
 use Rattle.memory_append.specs.Append.{Appended}
 use Rattle.memory_append.proofs.Appending.{appended-nothing}
+use Rattle.file_decoded.specs.Slices.{recordAt}
 use Rattle.file_accepted.specs.Context.{Context, nodesIn}
 use Rattle.file_accepted.proofs.Nodes.{constant-is, field-is, parameter-is, other-is}
 use Rattle.ledger_circuits.specs.Circuits.{addressFrom}
@@ -30,10 +31,10 @@ module _ (file arguments addresses numbers : List ℕ) where
   value-here caller v e same worked = worked ∙ sym (value-is file (addressFrom addresses) arguments caller same numbers e)
 
   -- A part of a node that can be worked out can be too.
-  pub ready-part : (asked : Asked) (n m : ℕ) (out held : List ℕ) (at place : ℕ) → ExpressionReady file arguments addresses numbers asked n out at → m < n
+  pub ready-part : (source : List ℕ) (asked : Asked) (n m : ℕ) (out held : List ℕ) (at place : ℕ) → ExpressionReady file arguments addresses numbers source asked n out at → m < n
       → place + length (disclosedIn file arguments addresses numbers (asked .party) (expressionIn (nodesIn file) m)) ≤ length held
-      → ExpressionReady file arguments addresses numbers asked m held place
-  ready-part asked n m out held at place ready less room =
+      → ExpressionReady file arguments addresses numbers source asked m held place
+  ready-part source asked n m out held at place ready less room =
       record { inside = omega (arith, ready .inside); context = ready .context; called = ready .called; room = room }
 
   module _ (party : ℕ) where
@@ -81,8 +82,8 @@ module _ (file arguments addresses numbers : List ℕ) where
     silent-disclosed e before at r place done silent =
         record { values = rw (place, silent .values) (appended-nothing before at); end = done ∙ sym (silent .end) }
 
-    module _ (functionStart nodesStart : ℕ) (context : Context file functionStart nodesStart) (n : ℕ) (inside : n < nodeCount file) (r : NodeRecord)
-        (same : r ≡ nodeRecord file (nodesStart + 2 + 8 * n)) (entry : r .kind ≡ 4 → ⊥) (operator : r .kind ≡ 6 → ⊥) (negation : r .kind ≡ 7 → ⊥)
+    module _ (functionStart : ℕ) (source : List ℕ) (context : Context file functionStart source) (n : ℕ) (inside : n < nodeCount file) (r : NodeRecord)
+        (same : r ≡ recordAt source n) (entry : r .kind ≡ 4 → ⊥) (operator : r .kind ≡ 6 → ⊥) (negation : r .kind ≡ 7 → ⊥)
         (reveal : r .kind ≡ 8 → ⊥) where
       abbrev here : Expression
       here = expressionIn (nodesIn file) n
@@ -92,10 +93,10 @@ module _ (file arguments addresses numbers : List ℕ) where
       silent-is = first (eqb (r .kind) 1) refl
         where
           third : (eqb (r .kind) 1 ≡ false) → (eqb (r .kind) 3 ≡ false) → (test : Bool) → eqb (r .kind) 5 ≡ test → Silent here
-          third a b true e = constant-silent here _ (parameter-is file functionStart nodesStart context n inside r same (eqb-true (r .kind) 5 e)) refl refl
+          third a b true e = constant-silent here _ (parameter-is file functionStart source context n inside r same (eqb-true (r .kind) 5 e)) refl refl
           third a b false e =
               constant-silent here _
-              (other-is file functionStart nodesStart context n inside r same
+              (other-is file functionStart source context n inside r same
               (record {
                 constant = eqb-false (r .kind) 1 a;
                 field = eqb-false (r .kind) 3 b;
@@ -107,11 +108,11 @@ module _ (file arguments addresses numbers : List ℕ) where
               })) refl refl
 
           second : (eqb (r .kind) 1 ≡ false) → (test : Bool) → eqb (r .kind) 3 ≡ test → Silent here
-          second a true e = constant-silent here _ (field-is file functionStart nodesStart context n inside r same (eqb-true (r .kind) 3 e)) refl refl
+          second a true e = constant-silent here _ (field-is file functionStart source context n inside r same (eqb-true (r .kind) 3 e)) refl refl
           second a false e = third a e (eqb (r .kind) 5) refl
 
           first : (test : Bool) → eqb (r .kind) 1 ≡ test → Silent here
-          first true e = constant-silent here _ (constant-is file functionStart nodesStart context n inside r same (eqb-true (r .kind) 1 e)) refl refl
+          first true e = constant-silent here _ (constant-is file functionStart source context n inside r same (eqb-true (r .kind) 1 e)) refl refl
           first false e = second e (eqb (r .kind) 3) refl
 
     -- "Both operands are always worked out, left first."

@@ -1,7 +1,7 @@
 // 01, Runs and views: "Each reveal to all or to the party's address, once worked out, adds its value to what the call discloses to the
 // party, up to a failure." The expressions of the original, on numbers in all places.
 use disclose_readers::may_read;
-use file_bytes::node_at;
+use file_decoded::node_at;
 use file_kinds::ENTRY;
 use file_kinds::NOT;
 use file_kinds::OPERATOR;
@@ -22,7 +22,6 @@ ghost use Rattle.disclose_expressions.specs.Expressions.{ExpressionReady
 // Which function is worked out, for which caller, and the party that is told.
 pub struct Asked {
     pub function_at: usize,
-    pub nodes_at: usize,
     pub caller: u8,
     pub party: u8,
 }
@@ -43,18 +42,25 @@ fn append_value(value: u32, out: &mut [u32], at: usize) -> usize
 }
 
 // The value of node n for the caller.
-pub fn value_asked(file: &[u8], asked: Asked, numbers: &[u32], arguments: &[u32], n: usize) -> u32
-    requires { ⌜ (n < nodeCount (now file)) × (Context (now file) (asked .«function_at») (asked .«nodes_at»)) ⌝ }
-    ensures { λ r. ⌜ r ≡ valueOf (now (file .entry)) (now (arguments .entry)) (asked .caller) (now (numbers .entry))
+pub fn value_asked(
+    file: &[u8],
+    source: &[u16],
+    who: Asked,
+    numbers: &[u32],
+    arguments: &[u32],
+    n: usize,
+) -> u32
+    requires { ⌜ (n < nodeCount (now file)) × (Context (now file) (who .«function_at») (now source)) ⌝ }
+    ensures { λ r. ⌜ r ≡ valueOf (now (file .entry)) (now (arguments .entry)) (who .caller) (now (numbers .entry))
         (expressionIn (nodesIn (now (file .entry))) n) ⌝ }
 {
     value(
         file,
-        asked.function_at,
-        asked.nodes_at,
+        who.function_at,
+        source,
         numbers,
         arguments,
-        asked.caller,
+        who.caller,
         n,
     )
 }
@@ -62,7 +68,8 @@ pub fn value_asked(file: &[u8], asked: Asked, numbers: &[u32], arguments: &[u32]
 // What node n discloses, appended.
 pub fn disclose_expression(
     file: &[u8],
-    asked: Asked,
+    source: &[u16],
+    who: Asked,
     numbers: &[u32],
     arguments: &[u32],
     addresses: &[u32],
@@ -70,16 +77,17 @@ pub fn disclose_expression(
     out: &mut [u32],
     at: usize,
 ) -> Told
-    requires { ⌜ ExpressionReady (now file) (now arguments) (now addresses) (now numbers) asked n (now out) at ⌝ }
+    requires { ⌜ ExpressionReady (now file) (now arguments) (now addresses) (now numbers) (now source) who n (now out) at ⌝ }
     ensures { λ r. ⌜ ExpressionDisclosed (now (file .entry)) (now (arguments .entry)) (now (addresses .entry)) (now (numbers .entry))
-        (asked .party) (expressionIn (nodesIn (now (file .entry))) n) (now (out .entry)) (now (out .exit)) at r ⌝ }
+        (who .party) (expressionIn (nodesIn (now (file .entry))) n) (now (out .entry)) (now (out .exit)) at r ⌝ }
 {
-    let node = node_at(file, asked.nodes_at, n);
+    let node = node_at(source, n);
     let kind = node.kind;
     match kind {
         ENTRY => disclose_expression(
             file,
-            asked,
+            source,
+            who,
             numbers,
             arguments,
             addresses,
@@ -87,10 +95,11 @@ pub fn disclose_expression(
             out,
             at,
         ),
-        OPERATOR => disclose_operator(file, asked, numbers, arguments, addresses, n, out, at),
+        OPERATOR => disclose_operator(file, source, who, numbers, arguments, addresses, n, out, at),
         NOT => disclose_expression(
             file,
-            asked,
+            source,
+            who,
             numbers,
             arguments,
             addresses,
@@ -98,7 +107,7 @@ pub fn disclose_expression(
             out,
             at,
         ),
-        REVEAL => disclose_reveal(file, asked, numbers, arguments, addresses, n, out, at),
+        REVEAL => disclose_reveal(file, source, who, numbers, arguments, addresses, n, out, at),
         _ => Told {
             at: at,
             finished: true,
@@ -109,7 +118,8 @@ pub fn disclose_expression(
 // The left operand first; the right one discloses nothing where the left one fails.
 fn disclose_operator(
     file: &[u8],
-    asked: Asked,
+    source: &[u16],
+    who: Asked,
     numbers: &[u32],
     arguments: &[u32],
     addresses: &[u32],
@@ -117,15 +127,16 @@ fn disclose_operator(
     out: &mut [u32],
     at: usize,
 ) -> Told
-    requires { ⌜ (kindAt (now file) (asked .«nodes_at») n ≡ 6)
-        × (ExpressionReady (now file) (now arguments) (now addresses) (now numbers) asked n (now out) at) ⌝ }
+    requires { ⌜ (kindAt (now source) n ≡ 6)
+        × (ExpressionReady (now file) (now arguments) (now addresses) (now numbers) (now source) who n (now out) at) ⌝ }
     ensures { λ r. ⌜ ExpressionDisclosed (now (file .entry)) (now (arguments .entry)) (now (addresses .entry)) (now (numbers .entry))
-        (asked .party) (expressionIn (nodesIn (now (file .entry))) n) (now (out .entry)) (now (out .exit)) at r ⌝ }
+        (who .party) (expressionIn (nodesIn (now (file .entry))) n) (now (out .entry)) (now (out .exit)) at r ⌝ }
 {
-    let node = node_at(file, asked.nodes_at, n);
+    let node = node_at(source, n);
     let left = disclose_expression(
         file,
-        asked,
+        source,
+        who,
         numbers,
         arguments,
         addresses,
@@ -138,7 +149,8 @@ fn disclose_operator(
     }
     let right = disclose_expression(
         file,
-        asked,
+        source,
+        who,
         numbers,
         arguments,
         addresses,
@@ -149,7 +161,7 @@ fn disclose_operator(
     if !right.finished {
         return right;
     }
-    let divisor = value_asked(file, asked, numbers, arguments, node.second);
+    let divisor = value_asked(file, source, who, numbers, arguments, node.second);
     Told {
         at: right.at,
         finished: divides(node.arg, divisor),
@@ -159,7 +171,8 @@ fn disclose_operator(
 // A reveal's part first, and then its own value.
 fn disclose_reveal(
     file: &[u8],
-    asked: Asked,
+    source: &[u16],
+    who: Asked,
     numbers: &[u32],
     arguments: &[u32],
     addresses: &[u32],
@@ -167,15 +180,16 @@ fn disclose_reveal(
     out: &mut [u32],
     at: usize,
 ) -> Told
-    requires { ⌜ (kindAt (now file) (asked .«nodes_at») n ≡ 8)
-        × (ExpressionReady (now file) (now arguments) (now addresses) (now numbers) asked n (now out) at) ⌝ }
+    requires { ⌜ (kindAt (now source) n ≡ 8)
+        × (ExpressionReady (now file) (now arguments) (now addresses) (now numbers) (now source) who n (now out) at) ⌝ }
     ensures { λ r. ⌜ ExpressionDisclosed (now (file .entry)) (now (arguments .entry)) (now (addresses .entry)) (now (numbers .entry))
-        (asked .party) (expressionIn (nodesIn (now (file .entry))) n) (now (out .entry)) (now (out .exit)) at r ⌝ }
+        (who .party) (expressionIn (nodesIn (now (file .entry))) n) (now (out .entry)) (now (out .exit)) at r ⌝ }
 {
-    let node = node_at(file, asked.nodes_at, n);
+    let node = node_at(source, n);
     let part = disclose_expression(
         file,
-        asked,
+        source,
+        who,
         numbers,
         arguments,
         addresses,
@@ -186,10 +200,10 @@ fn disclose_reveal(
     if !part.finished {
         return part;
     }
-    if !may_read(addresses, node.arg, asked.party) {
+    if !may_read(addresses, node.arg, who.party) {
         return part;
     }
-    let shown = value_asked(file, asked, numbers, arguments, node.first);
+    let shown = value_asked(file, source, who, numbers, arguments, node.first);
     let next = append_value(shown, out, part.at);
     Told {
         at: next,

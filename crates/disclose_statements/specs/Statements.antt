@@ -24,9 +24,9 @@ module _ (file arguments addresses numbers : List ℕ) where
   disclosedByIn party s = disclosedBy (fieldsIn file) (addressFrom addresses) arguments party numbers s
 
   -- Statement n can be worked out, and there is room for what it discloses.
-  pub record StatementReady (asked : Asked) (n : ℕ) (out : List ℕ) (at : ℕ) : Type 0 where
+  pub record StatementReady (source : List ℕ) (asked : Asked) (n : ℕ) (out : List ℕ) (at : ℕ) : Type 0 where
     pub inside : n < nodeCount file
-    pub context : Context file (asked .«function_at») (asked .«nodes_at»)
+    pub context : Context file (asked .«function_at») source
     pub called : addressFrom addresses meName ≡ asked .caller
     pub room : at + length (disclosedByIn (asked .party) (statementIn (nodesIn file) n)) ≤ length out
 

@@ -6,7 +6,7 @@ use disclose_expressions::Asked;
 use disclose_expressions::Told;
 use disclose_expressions::disclose_expression;
 use disclose_expressions::value_asked;
-use file_bytes::node_at;
+use file_decoded::node_at;
 use file_kinds::ENTRY_TAKES;
 use file_kinds::FIELD_TAKES;
 use file_kinds::IF;
@@ -23,7 +23,8 @@ ghost use Rattle.disclose_statements.specs.Statements.{StatementReady, S
 // A field takes a value.
 fn disclose_field(
     file: &[u8],
-    asked: Asked,
+    source: &[u16],
+    who: Asked,
     numbers: &mut [u32],
     arguments: &[u32],
     addresses: &[u32],
@@ -31,15 +32,16 @@ fn disclose_field(
     out: &mut [u32],
     at: usize,
 ) -> Told
-    requires { ⌜ (kindAt (now file) (asked .«nodes_at») n ≡ 18)
-        × (StatementReady (now file) (now arguments) (now addresses) (now numbers) asked n (now out) at) ⌝ }
+    requires { ⌜ (kindAt (now source) n ≡ 18)
+        × (StatementReady (now file) (now arguments) (now addresses) (now numbers) (now source) who n (now out) at) ⌝ }
     ensures { λ r. ⌜ StatementDisclosed (now (file .entry)) (now (arguments .entry)) (now (addresses .entry)) (now (numbers .entry))
-        (asked .party) (statementIn (nodesIn (now (file .entry))) n) (now (numbers .exit)) (now (out .entry)) (now (out .exit)) at r ⌝ }
+        (who .party) (statementIn (nodesIn (now (file .entry))) n) (now (numbers .exit)) (now (out .entry)) (now (out .exit)) at r ⌝ }
 {
-    let node = node_at(file, asked.nodes_at, n);
+    let node = node_at(source, n);
     let told = disclose_expression(
         file,
-        asked,
+        source,
+        who,
         numbers,
         arguments,
         addresses,
@@ -47,7 +49,7 @@ fn disclose_field(
         out,
         at,
     );
-    let v = value_asked(file, asked, numbers, arguments, node.first);
+    let v = value_asked(file, source, who, numbers, arguments, node.first);
     let p = position(file, node.arg, 0);
     put_number(numbers, p, v);
     told
@@ -56,7 +58,8 @@ fn disclose_field(
 // A mapping's entry takes a value; its key is worked out first.
 fn disclose_entry(
     file: &[u8],
-    asked: Asked,
+    source: &[u16],
+    who: Asked,
     numbers: &mut [u32],
     arguments: &[u32],
     addresses: &[u32],
@@ -64,15 +67,16 @@ fn disclose_entry(
     out: &mut [u32],
     at: usize,
 ) -> Told
-    requires { ⌜ (kindAt (now file) (asked .«nodes_at») n ≡ 19)
-        × (StatementReady (now file) (now arguments) (now addresses) (now numbers) asked n (now out) at) ⌝ }
+    requires { ⌜ (kindAt (now source) n ≡ 19)
+        × (StatementReady (now file) (now arguments) (now addresses) (now numbers) (now source) who n (now out) at) ⌝ }
     ensures { λ r. ⌜ StatementDisclosed (now (file .entry)) (now (arguments .entry)) (now (addresses .entry)) (now (numbers .entry))
-        (asked .party) (statementIn (nodesIn (now (file .entry))) n) (now (numbers .exit)) (now (out .entry)) (now (out .exit)) at r ⌝ }
+        (who .party) (statementIn (nodesIn (now (file .entry))) n) (now (numbers .exit)) (now (out .entry)) (now (out .exit)) at r ⌝ }
 {
-    let node = node_at(file, asked.nodes_at, n);
+    let node = node_at(source, n);
     let key = disclose_expression(
         file,
-        asked,
+        source,
+        who,
         numbers,
         arguments,
         addresses,
@@ -85,7 +89,8 @@ fn disclose_entry(
     }
     let told = disclose_expression(
         file,
-        asked,
+        source,
+        who,
         numbers,
         arguments,
         addresses,
@@ -93,8 +98,8 @@ fn disclose_entry(
         out,
         key.at,
     );
-    let k = value_asked(file, asked, numbers, arguments, node.first);
-    let v = value_asked(file, asked, numbers, arguments, node.second);
+    let k = value_asked(file, source, who, numbers, arguments, node.first);
+    let v = value_asked(file, source, who, numbers, arguments, node.second);
     let p = position(file, node.arg, k as usize);
     put_number(numbers, p, v);
     told
@@ -103,7 +108,8 @@ fn disclose_entry(
 // What a condition discloses is disclosed even where it is false.
 fn disclose_require(
     file: &[u8],
-    asked: Asked,
+    source: &[u16],
+    who: Asked,
     numbers: &[u32],
     arguments: &[u32],
     addresses: &[u32],
@@ -111,15 +117,16 @@ fn disclose_require(
     out: &mut [u32],
     at: usize,
 ) -> Told
-    requires { ⌜ (kindAt (now file) (asked .«nodes_at») n ≡ 20)
-        × (StatementReady (now file) (now arguments) (now addresses) (now numbers) asked n (now out) at) ⌝ }
+    requires { ⌜ (kindAt (now source) n ≡ 20)
+        × (StatementReady (now file) (now arguments) (now addresses) (now numbers) (now source) who n (now out) at) ⌝ }
     ensures { λ r. ⌜ StatementDisclosed (now (file .entry)) (now (arguments .entry)) (now (addresses .entry)) (now (numbers .entry))
-        (asked .party) (statementIn (nodesIn (now (file .entry))) n) (now (numbers .entry)) (now (out .entry)) (now (out .exit)) at r ⌝ }
+        (who .party) (statementIn (nodesIn (now (file .entry))) n) (now (numbers .entry)) (now (out .entry)) (now (out .exit)) at r ⌝ }
 {
-    let node = node_at(file, asked.nodes_at, n);
+    let node = node_at(source, n);
     let told = disclose_expression(
         file,
-        asked,
+        source,
+        who,
         numbers,
         arguments,
         addresses,
@@ -127,7 +134,7 @@ fn disclose_require(
         out,
         at,
     );
-    let condition = value_asked(file, asked, numbers, arguments, node.first);
+    let condition = value_asked(file, source, who, numbers, arguments, node.first);
     Told {
         at: told.at,
         finished: holds(told.finished, condition),
@@ -137,7 +144,8 @@ fn disclose_require(
 // What node n discloses, appended, and the numbers that it leaves where it completes.
 pub fn disclose_statement(
     file: &[u8],
-    asked: Asked,
+    source: &[u16],
+    who: Asked,
     numbers: &mut [u32],
     arguments: &[u32],
     addresses: &[u32],
@@ -145,18 +153,18 @@ pub fn disclose_statement(
     out: &mut [u32],
     at: usize,
 ) -> Told
-    requires { ⌜ StatementReady (now file) (now arguments) (now addresses) (now numbers) asked n (now out) at ⌝ }
+    requires { ⌜ StatementReady (now file) (now arguments) (now addresses) (now numbers) (now source) who n (now out) at ⌝ }
     ensures { λ r. ⌜ StatementDisclosed (now (file .entry)) (now (arguments .entry)) (now (addresses .entry)) (now (numbers .entry))
-        (asked .party) (statementIn (nodesIn (now (file .entry))) n) (now (numbers .exit)) (now (out .entry)) (now (out .exit)) at r ⌝ }
+        (who .party) (statementIn (nodesIn (now (file .entry))) n) (now (numbers .exit)) (now (out .entry)) (now (out .exit)) at r ⌝ }
 {
-    let node = node_at(file, asked.nodes_at, n);
+    let node = node_at(source, n);
     let kind = node.kind;
     match kind {
-        SEQUENCE => disclose_sequence(file, asked, numbers, arguments, addresses, n, out, at),
-        FIELD_TAKES => disclose_field(file, asked, numbers, arguments, addresses, n, out, at),
-        ENTRY_TAKES => disclose_entry(file, asked, numbers, arguments, addresses, n, out, at),
-        REQUIRE => disclose_require(file, asked, numbers, arguments, addresses, n, out, at),
-        IF => disclose_conditional(file, asked, numbers, arguments, addresses, n, out, at),
+        SEQUENCE => disclose_sequence(file, source, who, numbers, arguments, addresses, n, out, at),
+        FIELD_TAKES => disclose_field(file, source, who, numbers, arguments, addresses, n, out, at),
+        ENTRY_TAKES => disclose_entry(file, source, who, numbers, arguments, addresses, n, out, at),
+        REQUIRE => disclose_require(file, source, who, numbers, arguments, addresses, n, out, at),
+        IF => disclose_conditional(file, source, who, numbers, arguments, addresses, n, out, at),
         _ => Told {
             at: at,
             finished: true,
@@ -167,7 +175,8 @@ pub fn disclose_statement(
 // The second of two statements discloses nothing where the first one fails.
 fn disclose_sequence(
     file: &[u8],
-    asked: Asked,
+    source: &[u16],
+    who: Asked,
     numbers: &mut [u32],
     arguments: &[u32],
     addresses: &[u32],
@@ -175,15 +184,16 @@ fn disclose_sequence(
     out: &mut [u32],
     at: usize,
 ) -> Told
-    requires { ⌜ (kindAt (now file) (asked .«nodes_at») n ≡ 17)
-        × (StatementReady (now file) (now arguments) (now addresses) (now numbers) asked n (now out) at) ⌝ }
+    requires { ⌜ (kindAt (now source) n ≡ 17)
+        × (StatementReady (now file) (now arguments) (now addresses) (now numbers) (now source) who n (now out) at) ⌝ }
     ensures { λ r. ⌜ StatementDisclosed (now (file .entry)) (now (arguments .entry)) (now (addresses .entry)) (now (numbers .entry))
-        (asked .party) (statementIn (nodesIn (now (file .entry))) n) (now (numbers .exit)) (now (out .entry)) (now (out .exit)) at r ⌝ }
+        (who .party) (statementIn (nodesIn (now (file .entry))) n) (now (numbers .exit)) (now (out .entry)) (now (out .exit)) at r ⌝ }
 {
-    let node = node_at(file, asked.nodes_at, n);
+    let node = node_at(source, n);
     let first = disclose_statement(
         file,
-        asked,
+        source,
+        who,
         numbers,
         arguments,
         addresses,
@@ -196,7 +206,8 @@ fn disclose_sequence(
     }
     disclose_statement(
         file,
-        asked,
+        source,
+        who,
         numbers,
         arguments,
         addresses,
@@ -209,7 +220,8 @@ fn disclose_sequence(
 // The condition first, and then the taken branch alone.
 fn disclose_conditional(
     file: &[u8],
-    asked: Asked,
+    source: &[u16],
+    who: Asked,
     numbers: &mut [u32],
     arguments: &[u32],
     addresses: &[u32],
@@ -217,17 +229,18 @@ fn disclose_conditional(
     out: &mut [u32],
     at: usize,
 ) -> Told
-    requires { ⌜ (kindAt (now file) (asked .«nodes_at») n ≡ 21)
-        × (StatementReady (now file) (now arguments) (now addresses) (now numbers) asked n (now out) at) ⌝ }
+    requires { ⌜ (kindAt (now source) n ≡ 21)
+        × (StatementReady (now file) (now arguments) (now addresses) (now numbers) (now source) who n (now out) at) ⌝ }
     ensures { λ r. ⌜ StatementDisclosed (now (file .entry)) (now (arguments .entry)) (now (addresses .entry)) (now (numbers .entry))
-        (asked .party) (statementIn (nodesIn (now (file .entry))) n) (now (numbers .exit)) (now (out .entry)) (now (out .exit)) at r ⌝ }
+        (who .party) (statementIn (nodesIn (now (file .entry))) n) (now (numbers .exit)) (now (out .entry)) (now (out .exit)) at r ⌝ }
 {
-    let node = node_at(file, asked.nodes_at, n);
-    let condition = value_asked(file, asked, numbers, arguments, node.first);
+    let node = node_at(source, n);
+    let condition = value_asked(file, source, who, numbers, arguments, node.first);
     let branch = branch_of(condition, node.second, node.third);
     let told = disclose_expression(
         file,
-        asked,
+        source,
+        who,
         numbers,
         arguments,
         addresses,
@@ -240,7 +253,8 @@ fn disclose_conditional(
     }
     disclose_statement(
         file,
-        asked,
+        source,
+        who,
         numbers,
         arguments,
         addresses,

@@ -16,7 +16,7 @@ use Rattle.theory_laws.proofs.TruthValues.{or-left, or-right}
 use Rattle.theory_trees.specs.Trees.{Falling}
 use Rattle.theory_trees.proofs.Falls.{nodes-fall}
 use Rattle.file_bytes.proofs.Sections.{fields-are, functions-are, count-of-nodes, node-of}
-use Rattle.file_accepted.specs.Context.{nodesIn, fieldRecordAt, Context}
+use Rattle.file_accepted.specs.Context.{nodesIn, fieldRecordAt, Known}
 
 none-at : {A : Type 0} (test : A → Bool) (xs : List A) → any test xs ≡ false → (i : ℕ) (d : A) → i < length xs → test (getD xs i d) ≡ false
 unfolding any
@@ -183,12 +183,10 @@ module _ (file : List ℕ) (sorts : wrongSort (sectionsOf file) ≡ false) where
       (or-right (any notExpression (expressionParts (nodeAt (nodesIn file) n))) (any notStatement (statementParts (nodeAt (nodesIn file) n))) (parts-fit n (ltb n (length (nodesIn file))) refl))
 
 -- The context of function f, which begins where the functions before it end.
-pub context-of : (file : List ℕ) (f : ℕ) → countOffLimits file ≡ false → outsideTables (sectionsOf file) ≡ false → namesNothing (sectionsOf file) ≡ false
-    → wrongSort (sectionsOf file) ≡ false → f < functionCount file → Context file (functionsEnd f file (functionsAt file + 1)) (nodesAt file)
-context-of file f counts tables names sorts h =
+pub known-of : (file : List ℕ) (f : ℕ) → countOffLimits file ≡ false → outsideTables (sectionsOf file) ≡ false → namesNothing (sectionsOf file) ≡ false
+    → wrongSort (sectionsOf file) ≡ false → f < functionCount file → Known file (functionsEnd f file (functionsAt file + 1))
+known-of file f counts tables names sorts h =
     record {
-      nodesPlace = refl;
-      nearNodes = near-nodes file counts;
       nearFunction = near file counts f (omega arith);
       fewFields = few-fields file counts;
       fewParameters = few-parameters file counts f h;

@@ -3,3 +3,4 @@ pub mod Statements
 pub mod Declarations
 pub mod Accepted
 pub mod Functions
+pub mod Sources

@@ -15,6 +15,7 @@ use Rattle.theory_trees.specs.Trees.{expressionIn, Keeps}
 use Rattle.theory_trees.proofs.Unfolding.{expression-unfolds}
 use Rattle.theory_trees.proofs.Kept.{unknown-keeps}
 use Rattle.file_bytes.proofs.Sections.{node-of, count-of-nodes}
+use Rattle.file_decoded.specs.Slices.{recordAt}
 use Rattle.file_accepted.specs.Context.{nodesIn, Context}
 
 -- The kinds that make no expression but me.
@@ -108,10 +109,10 @@ nodes-keep P Q leaf nothing file keep n = go (ltb n (nodeCount file)) refl
     go true e = let h = ltb-true n (nodeCount file) e in subst (Keeps P Q) (sym (node-read file n h)) (keep n h)
     go false e = subst (Keeps P Q) (sym (node-past file n (ltb-false n (nodeCount file) e))) (unknown-keeps P Q leaf nothing)
 
-module _ (file : List ℕ) (functionStart nodesStart : ℕ) (context : Context file functionStart nodesStart) (n : ℕ) (inside : n < nodeCount file) (r : NodeRecord)
-    (same : r ≡ nodeRecord file (nodesStart + 2 + 8 * n)) where
+module _ (file : List ℕ) (functionStart : ℕ) (source : List ℕ) (context : Context file functionStart source) (n : ℕ) (inside : n < nodeCount file) (r : NodeRecord)
+    (same : r ≡ recordAt source n) where
   pub node-is : nodeAt (nodesIn file) n ≡ nodeOf r
-  node-is = rw (same, context .nodesPlace) (node-read file n inside)
+  node-is = node-read file n inside ∙ ap (λ (x : NodeRecord). nodeOf x) (sym (same ∙ context .read n inside))
 
   pub expression-is : (k : Kind) → kindOf (r .kind) ≡ k → expressionIn (nodesIn file) n ≡ expressionOf (nodeOfKind k r) (expressionIn (nodesIn file))
   expression-is k e =

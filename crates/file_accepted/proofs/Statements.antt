@@ -10,6 +10,7 @@ use Rattle.definitions.specs.ContractFile.{Statement, NodeRecord, nodeCount, no
 use Rattle.theory_laws.proofs.TruthValues.{and-left, and-right}
 use Rattle.theory_trees.specs.Trees.{expressionIn, statementIn}
 use Rattle.theory_trees.proofs.Unfolding.{statement-unfolds}
+use Rattle.file_decoded.specs.Slices.{recordAt}
 use Rattle.file_accepted.specs.Context.{nodesIn, Context}
 use Rattle.file_accepted.proofs.Nodes.{node-is, children-below}
 
@@ -75,12 +76,12 @@ still-kind kind s =
     rw (ne-eqb kind 17 (s .sequence), ne-eqb kind 18 (s .assignField), ne-eqb kind 19 (s .assignEntry), ne-eqb kind 20 (s .require), ne-eqb kind 21 (s .conditional))
     (none-moving (eqb kind 1) (eqb kind 2) (eqb kind 3) (eqb kind 4) (eqb kind 5) (eqb kind 6) (eqb kind 7) (eqb kind 8) (eqb kind 16))
 
-module _ (file : List ℕ) (functionStart nodesStart : ℕ) (context : Context file functionStart nodesStart) (n : ℕ) (inside : n < nodeCount file) (r : NodeRecord)
-    (same : r ≡ nodeRecord file (nodesStart + 2 + 8 * n)) where
+module _ (file : List ℕ) (functionStart : ℕ) (source : List ℕ) (context : Context file functionStart source) (n : ℕ) (inside : n < nodeCount file) (r : NodeRecord)
+    (same : r ≡ recordAt source n) where
   statement-is : (k : Kind) → kindOf (r .kind) ≡ k → statementIn (nodesIn file) n ≡ statementOf (nodeOfKind k r) (expressionIn (nodesIn file)) (statementIn (nodesIn file))
   statement-is k e =
       statement-unfolds (nodesIn file) (context .falling) n
-      ∙ ap (λ (node : Node). statementOf node (expressionIn (nodesIn file)) (statementIn (nodesIn file))) (node-is file functionStart nodesStart context n inside r same)
+      ∙ ap (λ (node : Node). statementOf node (expressionIn (nodesIn file)) (statementIn (nodesIn file))) (node-is file functionStart source context n inside r same)
       ∙ ap (λ (k : Kind). statementOf (nodeOfKind k r) (expressionIn (nodesIn file)) (statementIn (nodesIn file))) e
 
   pub still-is : Still (r .kind) → statementIn (nodesIn file) n ≡ Statement.skip
@@ -112,26 +113,26 @@ module _ (file : List ℕ) (functionStart nodesStart : ℕ) (context : Context f
   pub steps-below : r .kind ≡ 17 → (r .first < n) × (r .second < n)
   unfolding nodeOfKind expressionParts statementParts all kindOf
   steps-below e =
-      let h = children-below file functionStart nodesStart context n inside r same sequenceKind (rw e) in
+      let h = children-below file functionStart source context n inside r same sequenceKind (rw e) in
       (ltb-true (r .first) n (and-left (ltb (r .first) n) _ h), ltb-true (r .second) n (and-left (ltb (r .second) n) true (and-right (ltb (r .first) n) _ h)))
 
   pub value-below : r .kind ≡ 18 → r .first < n
   unfolding nodeOfKind expressionParts statementParts all kindOf
-  value-below e = ltb-true (r .first) n (and-left (ltb (r .first) n) true (children-below file functionStart nodesStart context n inside r same assignFieldKind (rw e)))
+  value-below e = ltb-true (r .first) n (and-left (ltb (r .first) n) true (children-below file functionStart source context n inside r same assignFieldKind (rw e)))
 
   pub key-and-value-below : r .kind ≡ 19 → (r .first < n) × (r .second < n)
   unfolding nodeOfKind expressionParts statementParts all kindOf
   key-and-value-below e =
-      let h = children-below file functionStart nodesStart context n inside r same assignEntryKind (rw e) in
+      let h = children-below file functionStart source context n inside r same assignEntryKind (rw e) in
       (ltb-true (r .first) n (and-left (ltb (r .first) n) _ h), ltb-true (r .second) n (and-left (ltb (r .second) n) true (and-right (ltb (r .first) n) _ h)))
 
   pub required-below : r .kind ≡ 20 → r .first < n
   unfolding nodeOfKind expressionParts statementParts all kindOf
-  required-below e = ltb-true (r .first) n (and-left (ltb (r .first) n) true (children-below file functionStart nodesStart context n inside r same requireKind (rw e)))
+  required-below e = ltb-true (r .first) n (and-left (ltb (r .first) n) true (children-below file functionStart source context n inside r same requireKind (rw e)))
 
   pub branches-below : r .kind ≡ 21 → (r .first < n) × ((r .second < n) × (r .third < n))
   unfolding nodeOfKind expressionParts statementParts all kindOf
   branches-below e =
-      let h = children-below file functionStart nodesStart context n inside r same conditionalKind (rw e) in
+      let h = children-below file functionStart source context n inside r same conditionalKind (rw e) in
       let g = and-right (ltb (r .first) n) _ h in
       (ltb-true (r .first) n (and-left (ltb (r .first) n) _ h), (ltb-true (r .second) n (and-left (ltb (r .second) n) _ g), ltb-true (r .third) n (and-left (ltb (r .third) n) true (and-right (ltb (r .second) n) _ g))))

@@ -89,7 +89,7 @@ pub fn read_layout(file: &[u8]) -> Layout
     }
 }
 
-// The node whose eight bytes begin at a place.
+// The node whose eight bytes begin at a place; written nodes are read so.
 pub fn read_node(file: &[u8], at: usize) -> Node
     requires { ⌜ at ≤ 1000000 ⌝ }
     ensures { λ r. ⌜ IsNode (nodeRecord (now (file .entry)) at) r ⌝ }
@@ -106,12 +106,4 @@ pub fn read_node(file: &[u8], at: usize) -> Node
         second: second,
         third: third,
     }
-}
-
-// Node n of the section whose count stands at `nodes_at`.
-pub fn node_at(file: &[u8], nodes_at: usize, n: usize) -> Node
-    requires { ⌜ («nodes_at» ≤ 200000) × (n ≤ 65535) ⌝ }
-    ensures { λ r. ⌜ IsNode (nodeRecord (now (file .entry)) («nodes_at» + 2 + 8 * n)) r ⌝ }
-{
-    read_node(file, nodes_at + 2 + 8 * n)
 }

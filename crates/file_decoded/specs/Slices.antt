@@ -43,6 +43,15 @@ unfoldable pub nodesFrom : ℕ → List ℕ → ℕ → List NodeRecord
 nodesFrom zero numbers at = []
 nodesFrom (suc count) numbers at = nodeFrom numbers at ∷ nodesFrom count numbers (at + 5)
 
+-- Node n's record.
+abbrev pub recordAt : List ℕ → ℕ → NodeRecord
+recordAt nodes n = nodeFrom nodes (5 * n)
+
+-- Every node's kind and arg are numbers of one byte.
+pub record Narrow (nodes : List ℕ) : Type 0 where
+  pub kind : (n : ℕ) → 5 * n + 5 ≤ length nodes → numberAt nodes (5 * n) ≤ 255
+  pub arg : (n : ℕ) → 5 * n + 5 ≤ length nodes → numberAt nodes (5 * n + 1) ≤ 255
+
 -- The sections that four slices hold: each has as many records as its numbers make.
 abbrev pub sectionsFrom : List ℕ → List ℕ → List ℕ → List ℕ → Sections
 sectionsFrom fields functions parameters nodes = record {

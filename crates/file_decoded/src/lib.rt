@@ -1,9 +1,10 @@
 // A contract file's sections as slices of numbers.
 use file_bytes::Node;
 ghost use mathlib.Core.Path.{_≡_};
-ghost use Prim.Native.Nat.{_+_, _<_, _≤_};
+ghost use Prim.Native.Nat.{_+_, _*_, _<_, _≤_};
 ghost use lib.ListN.{length};
-ghost use Rattle.file_decoded.specs.Slices.{numberAt, nodeFrom};
+ghost use Rattle.file_bytes.specs.Node.{IsNode};
+ghost use Rattle.file_decoded.specs.Slices.{numberAt, nodeFrom, recordAt, Narrow};
 ghost use Rattle.file_decoded.specs.Node.{IsDecoded};
 
 // Room for the most that number 2 lets pass: 64 fields.
@@ -87,4 +88,12 @@ pub fn node_from(nodes: &[u16], at: usize) -> Node
         second: second,
         third: third,
     }
+}
+
+// Node n of a contract whose kinds and args are bytes.
+pub fn node_at(nodes: &[u16], n: usize) -> Node
+    requires { ⌜ (Narrow (now nodes)) × (5 * n + 5 ≤ length (now nodes)) ⌝ }
+    ensures { λ r. ⌜ IsNode (recordAt (now (nodes .entry)) n) r ⌝ }
+{
+    node_from(nodes, 5 * n)
 }

@@ -2,7 +2,7 @@
 use mathlib.Core.Path.{_≡_, refl, ap, ap₂, sym, _∙_}
 use mathlib.Core.Bool.{Bool, true, false}
 use mathlib.Core.List.{List, _∷_}
-use Prim.Native.Nat.{ℕ, zero, suc, _+_, _*_, _-_, _<_, _≤_}
+use Prim.Native.Nat.{ℕ, zero, suc, _+_, _*_, _-_, _/_, _<_, _≤_}
 use native.Mathlib.Omega.{arith}
 use borrow.Author.Tests.{eqb-true, eqb-false}
 use lib.Dec.{eqb}
@@ -10,7 +10,7 @@ use lib.ListN.{length, set, length-set}
 use lib.Seq.{getD-set-same, getD-set-other}
 use Rattle.definitions.specs.ContractFile.{ParameterRecord, NodeRecord, FieldRecord, byteAt, fieldRecords, parameterRecords, functionRecord, node, nodeRecord, nodeRecords}
 use Rattle.definitions.specs.Reading.{fieldsRead, parametersRead, nodesRead}
-use Rattle.file_decoded.specs.Slices.{numberAt, fieldsFrom, parametersFrom, nodeFrom, nodesFrom}
+use Rattle.file_decoded.specs.Slices.{numberAt, fieldsFrom, parametersFrom, nodeFrom, nodesFrom, Narrow}
 use Rattle.file_decoder.specs.Decoding.{SameBefore, Put, Copied, DecodedNode, DecodedFunction}
 
 pub put-set : (held : List ℕ) (at value : ℕ) → at < length held → Put held (set held at value) at value
@@ -59,8 +59,8 @@ copied-done file from i count before after at le ge c = let e : i ≡ count = om
 -- A node's five numbers.
 pub node-put : (file : List ℕ) (from : ℕ) (a b c d e f : List ℕ) (at kind arg first second third : ℕ)
     → Put a b at kind → Put b c (at + 1) arg → Put c d (at + 2) first → Put d e (at + 3) second → Put e f (at + 4) third
-    → node kind arg first second third ≡ nodeRecord file from → DecodedNode file from a f at
-node-put file from a b c d e f at kind arg first second third p q r s t is =
+    → node kind arg first second third ≡ nodeRecord file from → kind ≤ 255 → arg ≤ 255 → DecodedNode file from a f at
+node-put file from a b c d e f at kind arg first second third p q r s t is small-kind small-arg =
     let kind-is : numberAt f at ≡ kind = t .others at (λ m. omega arith) ∙ s .others at (λ m. omega arith) ∙ r .others at (λ m. omega arith) ∙ q .others at (λ m. omega arith) ∙ p .here in
     let arg-is : numberAt f (at + 1) ≡ arg = t .others (at + 1) (λ m. omega arith) ∙ s .others (at + 1) (λ m. omega arith) ∙ r .others (at + 1) (λ m. omega arith) ∙ q .here in
     let first-is : numberAt f (at + 2) ≡ first = t .others (at + 2) (λ m. omega arith) ∙ s .others (at + 2) (λ m. omega arith) ∙ r .here in
@@ -68,6 +68,8 @@ node-put file from a b c d e f at kind arg first second third p q r s t is =
     let third-is : numberAt f (at + 4) ≡ third = t .here in
     record {
       is = (λ i. node (kind-is i) (arg-is i) (first-is i) (second-is i) (third-is i)) ∙ is;
+      kind = omega (arith, kind-is);
+      arg = omega (arith, arg-is);
       kept =
           same-then a b f at (put-kept a b at at kind (omega arith) p)
           (same-then b c f at (put-kept b c at (at + 1) arg (omega arith) q)
@@ -78,9 +80,11 @@ node-put file from a b c d e f at kind arg first second third p q r s t is =
 -- Nodes so far.
 pub record NodesSo (file : List ℕ) (from n : ℕ) (numbers : List ℕ) : Type 0 where
   pub each : (m : ℕ) → m < n → nodeFrom numbers (5 * m) ≡ nodeRecord file (from + 8 * m)
+  pub kind : (m : ℕ) → m < n → numberAt numbers (5 * m) ≤ 255
+  pub arg : (m : ℕ) → m < n → numberAt numbers (5 * m + 1) ≤ 255
 
 pub no-nodes : (file : List ℕ) (from : ℕ) (numbers : List ℕ) → NodesSo file from 0 numbers
-no-nodes file from numbers = record { each = λ m h. absurd (omega arith) }
+no-nodes file from numbers = record { each = λ m h. absurd (omega arith); kind = λ m h. absurd (omega arith); arg = λ m h. absurd (omega arith) }
 
 node-kept : (a b : List ℕ) (at m : ℕ) → SameBefore a b at → 5 * m + 5 ≤ at → nodeFrom b (5 * m) ≡ nodeFrom a (5 * m)
 node-kept a b at m s h =
@@ -88,8 +92,19 @@ node-kept a b at m s h =
 
 pub nodes-more : (file : List ℕ) (from n : ℕ) (before after : List ℕ) → NodesSo file from n before → DecodedNode file (from + 8 * n) before after (5 * n)
     → NodesSo file from (n + 1) after
-nodes-more file from n before after so d = record { each = λ m h. go m (eqb m n) refl h }
+nodes-more file from n before after so d =
+    record { each = λ m h. go m (eqb m n) refl h; kind = λ m h. kinds m (eqb m n) refl h; arg = λ m h. args m (eqb m n) refl h }
   where
+    kinds : (m : ℕ) (b : Bool) → eqb m n ≡ b → m < n + 1 → numberAt after (5 * m) ≤ 255
+    kinds m true same h = let z = eqb-true m n same in rw z (d .kind)
+    kinds m false same h = let differ = eqb-false m n same in let below : m < n = omega arith in
+        rw (d .kept .front (5 * m) (omega arith)) (so .kind m below)
+
+    args : (m : ℕ) (b : Bool) → eqb m n ≡ b → m < n + 1 → numberAt after (5 * m + 1) ≤ 255
+    args m true same h = let z = eqb-true m n same in rw z (d .arg)
+    args m false same h = let differ = eqb-false m n same in let below : m < n = omega arith in
+        rw (d .kept .front (5 * m + 1) (omega arith)) (so .arg m below)
+
     go : (m : ℕ) (b : Bool) → eqb m n ≡ b → m < n + 1 → nodeFrom after (5 * m) ≡ nodeRecord file (from + 8 * m)
     go m true same h = let z = eqb-true m n same in rw z (d .is)
     go m false same h =
@@ -114,6 +129,9 @@ nodes-extend (suc count) file from numbers at each =
 pub nodes-done : (file : List ℕ) (from n count : ℕ) (numbers : List ℕ) → count ≤ n → NodesSo file from n numbers → nodesFrom count numbers 0 ≡ nodeRecords count file from
 nodes-done file from n count numbers le so =
     nodes-extend count file from numbers 0 (λ m h. let e : 0 + 5 * m ≡ 5 * m = omega arith in ap (nodeFrom numbers) e ∙ so .each m (omega arith))
+
+pub nodes-narrow : (file : List ℕ) (from n : ℕ) (numbers : List ℕ) → length numbers / 5 ≤ n → NodesSo file from n numbers → Narrow numbers
+nodes-narrow file from n numbers le so = record { kind = λ m h. so .kind m (omega arith); arg = λ m h. so .arg m (omega arith) }
 
 -- Fields and parameters lie in the numbers as in the bytes.
 pub fields-extend : (count : ℕ) (file : List ℕ) (from : ℕ) (numbers : List ℕ) (at : ℕ)

@@ -26,6 +26,8 @@ pub record Copied (file : List ℕ) (from count : ℕ) (before after : List ℕ)
 
 pub record DecodedNode (file : List ℕ) (from : ℕ) (before after : List ℕ) (at : ℕ) : Type 0 where
   pub is : nodeFrom after at ≡ nodeRecord file from
+  pub kind : numberAt after at ≤ 255
+  pub arg : numberAt after (at + 1) ≤ 255
   pub kept : SameBefore before after at
 
 -- The function's bytes are there, and so is room for its numbers and those of its parameters.

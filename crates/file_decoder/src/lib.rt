@@ -4,7 +4,7 @@ ghost use mathlib.Core.Path.{_≡_};
 ghost use Prim.Native.Nat.{_+_, _*_, _/_, _<_, _≤_};
 ghost use lib.ListN.{length};
 ghost use Rattle.definitions.specs.ContractFile.{byteAt, twoBytesAt, nodeRecords};
-ghost use Rattle.file_decoded.specs.Slices.{nodesFrom};
+ghost use Rattle.file_decoded.specs.Slices.{nodesFrom, Narrow};
 ghost use Rattle.file_decoder.specs.Decoding.{Put, Copied, DecodedNode, DecodedFunction, FunctionRoom};
 ghost use Rattle.file_decoder.specs.Decoding.{FunctionsRoom, DecodedFunctions, Decodable, Decoded};
 
@@ -56,11 +56,13 @@ fn decode_node(file: &[u8], from: usize, nodes: &mut [u16], at: usize)
     put(nodes, at + 4, two_bytes_in(file, from + 6));
 }
 
-fn decode_nodes(file: &[u8], from: usize, nodes: &mut [u16])
+// The nodes, as many as the slice has room for.
+pub fn decode_nodes(file: &[u8], from: usize, nodes: &mut [u16])
     requires { ⌜ from + 8 * (length (now nodes) / 5) ≤ length (now file) ⌝ }
     ensures { λ _. ⌜ (nodesFrom (length (now (nodes .exit)) / 5) (now (nodes .exit)) 0
         ≡ nodeRecords (length (now (nodes .entry)) / 5) (now (file .entry)) from)
         × (length (now (nodes .exit)) ≡ length (now (nodes .entry))) ⌝ }
+    ensures { λ _. ⌜ Narrow (now (nodes .exit)) ⌝ }
 {
     let count = nodes.len() / 5;
     let mut n = 0;

@@ -33,10 +33,10 @@ module _ (taken : Bool) (before after : List ℕ) where
 
 -- What an assignment asks of its parts, and what it has written after them.
 module _ (file : List ℕ) (functionStart f n : ℕ) (private : Bool) where
-  pub field-ready : (nodesStart : ℕ) (out : List ℕ) (i : ℕ) → private ≡ not (isEveryone (placeOwner ((fieldAt (fieldsIn file) f) .owner) none))
-      → FieldReady file functionStart nodesStart f n out i → Ready file functionStart nodesStart n out i (placedIn file functionStart n private)
-  field-ready nodesStart out i h r =
-      placed-ready file functionStart n nodesStart out i (placeOwner ((fieldAt (fieldsIn file) f) .owner) none) private h
+  pub field-ready : (source : List ℕ) (out : List ℕ) (i : ℕ) → private ≡ not (isEveryone (placeOwner ((fieldAt (fieldsIn file) f) .owner) none))
+      → FieldReady file functionStart source f n out i → Ready file functionStart source n out i (placedIn file functionStart n private)
+  field-ready source out i h r =
+      placed-ready file functionStart n source out i (placeOwner ((fieldAt (fieldsIn file) f) .owner) none) private h
       (record { inside = r .inside; context = r .context; room = r .room })
 
   pub field-wrote : (arguments : List ℕ) (caller : ℕ) (live : Bool) (numbers before after : List ℕ) (i next : ℕ)
@@ -46,8 +46,8 @@ module _ (file : List ℕ) (functionStart f n : ℕ) (private : Bool) where
   field-wrote arguments caller live numbers before after i next h w =
       placed-wrote file functionStart n arguments caller live numbers before after i next (placeOwner ((fieldAt (fieldsIn file) f) .owner) none) private h w
 
-module _ (file : List ℕ) (functionStart nodesStart f key n : ℕ) (out : List ℕ) (i : ℕ) (r : EntryReady file functionStart nodesStart f key n out i) where
-  pub key-ready : Ready file functionStart nodesStart key out i (bodyIn file functionStart key)
+module _ (file : List ℕ) (functionStart : ℕ) (source : List ℕ) (f key n : ℕ) (out : List ℕ) (i : ℕ) (r : EntryReady file functionStart source f key n out i) where
+  pub key-ready : Ready file functionStart source key out i (bodyIn file functionStart key)
   key-ready = record { inside = r .keyInside; context = r .context; room = room-first out i (bodyIn file functionStart key) (keyedEvents file functionStart f key n) (r .room) }
 
   abbrev keyOwner : Owner
@@ -55,9 +55,9 @@ module _ (file : List ℕ) (functionStart nodesStart f key n : ℕ) (out : List 
 
   module _ (arguments : List ℕ) (caller : ℕ) (live : Bool) (numbers after : List ℕ) (j : ℕ) (private : Bool) (h : private ≡ not (isEveryone keyOwner))
       (w : Wrote (suppliedNumber file arguments caller live numbers) out after i j (bodyIn file functionStart key)) where
-    pub entry-ready : Ready file functionStart nodesStart n after j (placedIn file functionStart n private)
+    pub entry-ready : Ready file functionStart source n after j (placedIn file functionStart n private)
     entry-ready =
-        placed-ready file functionStart n nodesStart after j keyOwner private h
+        placed-ready file functionStart n source after j keyOwner private h
         (record {
           inside = r .inside;
           context = r .context;

@@ -24,15 +24,15 @@ module _ (file : List ℕ) (functionStart f : ℕ) where
   abbrev pub entryEvents : ℕ → ℕ → Events
   entryEvents key n = inTurn (bodyIn file functionStart key) (keyedEvents key n)
 
-pub record FieldReady (file : List ℕ) (functionStart nodesStart f n : ℕ) (out : List ℕ) (i : ℕ) : Type 0 where
+pub record FieldReady (file : List ℕ) (functionStart : ℕ) (source : List ℕ) (f n : ℕ) (out : List ℕ) (i : ℕ) : Type 0 where
   pub smallField : f ≤ 255
   pub inside : n < nodeCount file
-  pub context : Context file functionStart nodesStart
+  pub context : Context file functionStart source
   pub room : Room out i (fieldEvents file functionStart f n)
 
-pub record EntryReady (file : List ℕ) (functionStart nodesStart f key n : ℕ) (out : List ℕ) (i : ℕ) : Type 0 where
+pub record EntryReady (file : List ℕ) (functionStart : ℕ) (source : List ℕ) (f key n : ℕ) (out : List ℕ) (i : ℕ) : Type 0 where
   pub smallField : f ≤ 255
   pub keyInside : key < nodeCount file
   pub inside : n < nodeCount file
-  pub context : Context file functionStart nodesStart
+  pub context : Context file functionStart source
   pub room : Room out i (entryEvents file functionStart f key n)

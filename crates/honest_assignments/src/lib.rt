@@ -30,27 +30,27 @@ fn put_taken(numbers: &mut [u32], taken: bool, p: usize, value: u32)
     }
 }
 
-fn is_private_field(file: &[u8], function_at: usize, nodes_at: usize, f: usize) -> bool
-    requires { ⌜ (f ≤ 255) × (Context (now file) «function_at» «nodes_at») ⌝ }
+fn is_private_field(file: &[u8], function_at: usize, source: &[u16], f: usize) -> bool
+    requires { ⌜ (f ≤ 255) × (Context (now file) «function_at» (now source)) ⌝ }
     ensures { λ r. ⌜ r ≡ not (isEveryone (placeOwner ((fieldAt (fieldsIn (now (file .entry))) f) .owner) none)) ⌝ }
 {
     place_code(field_owner(file, f), 0) != 0
 }
 
-fn is_private_entry(file: &[u8], function_at: usize, nodes_at: usize, f: usize, key: usize) -> bool
-    requires { ⌜ (f ≤ 255) × ((key < nodeCount (now file)) × (Context (now file) «function_at» «nodes_at»)) ⌝ }
+fn is_private_entry(file: &[u8], function_at: usize, source: &[u16], f: usize, key: usize) -> bool
+    requires { ⌜ (f ≤ 255) × ((key < nodeCount (now file)) × (Context (now file) «function_at» (now source))) ⌝ }
     ensures { λ r. ⌜ r ≡ not (isEveryone (placeOwner ((fieldAt (fieldsIn (now (file .entry))) f) .owner)
         (nameOf (scopeIn (now (file .entry)) «function_at») (nodeExpression (now (file .entry)) key)))) ⌝ }
 {
     let owner = field_owner(file, f);
-    place_code(owner, name_code(file, function_at, nodes_at, key)) != 0
+    place_code(owner, name_code(file, function_at, source, key)) != 0
 }
 
 // Field f takes node n.
 pub fn field_slots(
     file: &[u8],
     function_at: usize,
-    nodes_at: usize,
+    source: &[u16],
     numbers: &mut [u32],
     arguments: &[u32],
     caller: u8,
@@ -60,7 +60,7 @@ pub fn field_slots(
     out: &mut [u64],
     i: usize,
 ) -> usize
-    requires { ⌜ FieldReady (now file) «function_at» «nodes_at» f n (now out) i ⌝ }
+    requires { ⌜ FieldReady (now file) «function_at» (now source) f n (now out) i ⌝ }
     ensures { λ r. ⌜ (now (numbers .exit) ≡ cond live
         (set (now (numbers .entry))
         (position (fieldsIn (now (file .entry))) f 0)
@@ -69,11 +69,11 @@ pub fn field_slots(
         × (Wrote (suppliedNumber (now (file .entry)) (now (arguments .entry)) caller live (now (numbers .entry)))
         (now (out .entry)) (now (out .exit)) i r (fieldEvents (now (file .entry)) «function_at» f n)) ⌝ }
 {
-    let private = is_private_field(file, function_at, nodes_at, f);
+    let private = is_private_field(file, function_at, source, f);
     let end = place_slots(
         file,
         function_at,
-        nodes_at,
+        source,
         numbers,
         arguments,
         caller,
@@ -83,7 +83,7 @@ pub fn field_slots(
         out,
         i,
     );
-    let v = value(file, function_at, nodes_at, numbers, arguments, caller, n);
+    let v = value(file, function_at, source, numbers, arguments, caller, n);
     let p = position(file, f, 0);
     put_taken(numbers, live, p, v);
     end
@@ -93,7 +93,7 @@ pub fn field_slots(
 pub fn entry_slots(
     file: &[u8],
     function_at: usize,
-    nodes_at: usize,
+    source: &[u16],
     numbers: &mut [u32],
     arguments: &[u32],
     caller: u8,
@@ -104,7 +104,7 @@ pub fn entry_slots(
     out: &mut [u64],
     i: usize,
 ) -> usize
-    requires { ⌜ EntryReady (now file) «function_at» «nodes_at» f key n (now out) i ⌝ }
+    requires { ⌜ EntryReady (now file) «function_at» (now source) f key n (now out) i ⌝ }
     ensures { λ r. ⌜ (now (numbers .exit) ≡ cond live
         (set (now (numbers .entry))
         (position (fieldsIn (now (file .entry))) f
@@ -114,11 +114,11 @@ pub fn entry_slots(
         × (Wrote (suppliedNumber (now (file .entry)) (now (arguments .entry)) caller live (now (numbers .entry)))
         (now (out .entry)) (now (out .exit)) i r (entryEvents (now (file .entry)) «function_at» f key n)) ⌝ }
 {
-    let private = is_private_entry(file, function_at, nodes_at, f, key);
+    let private = is_private_entry(file, function_at, source, f, key);
     let j = body_slots(
         file,
         function_at,
-        nodes_at,
+        source,
         numbers,
         arguments,
         caller,
@@ -130,7 +130,7 @@ pub fn entry_slots(
     let end = place_slots(
         file,
         function_at,
-        nodes_at,
+        source,
         numbers,
         arguments,
         caller,
@@ -140,8 +140,8 @@ pub fn entry_slots(
         out,
         j,
     );
-    let k = value(file, function_at, nodes_at, numbers, arguments, caller, key);
-    let v = value(file, function_at, nodes_at, numbers, arguments, caller, n);
+    let k = value(file, function_at, source, numbers, arguments, caller, key);
+    let v = value(file, function_at, source, numbers, arguments, caller, n);
     let p = position(file, f, k as usize);
     put_taken(numbers, live, p, v);
     end

@@ -79,9 +79,9 @@ pub record SimpleKind (kind : ℕ) : Type 0 where
   pub sequence : kind ≡ 17 → ⊥
   pub conditional : kind ≡ 21 → ⊥
 
-pub record Startable (file : List ℕ) (functionStart nodesStart n : ℕ) (out : List ℕ) (i : ℕ) (numbering : Numbering) : Type 0 where
+pub record Startable (file : List ℕ) (functionStart : ℕ) (source : List ℕ) (n : ℕ) (out : List ℕ) (i : ℕ) (numbering : Numbering) : Type 0 where
   pub inside : n < nodeCount file
-  pub context : Context file functionStart nodesStart
+  pub context : Context file functionStart source
   pub space : Space out i numbering
 
 -- What a statement leaves: the original's numbers, and those of its variables.

@@ -1,6 +1,6 @@
 // 01, Runs and views: "An honest supplied variable holds what the original works out for its expression .. in an untaken branch it stays
 // plain 0." The original's statements on lent numbers, with one number for each variable that rewriting makes of them.
-use file_bytes::node_at;
+use file_decoded::node_at;
 use file_kinds::ENTRY_TAKES;
 use file_kinds::FIELD_TAKES;
 use file_kinds::IF;
@@ -37,24 +37,24 @@ fn only(live: bool, taken: bool) -> bool
 fn is_taken(
     file: &[u8],
     function_at: usize,
-    nodes_at: usize,
+    source: &[u16],
     numbers: &[u32],
     arguments: &[u32],
     caller: u8,
     n: usize,
 ) -> bool
-    requires { ⌜ (n < nodeCount (now file)) × (Context (now file) «function_at» «nodes_at») ⌝ }
+    requires { ⌜ (n < nodeCount (now file)) × (Context (now file) «function_at» (now source)) ⌝ }
     ensures { λ r. ⌜ r ≡ isTaken (now (file .entry)) «function_at» (now (arguments .entry)) caller (now (numbers .entry))
         (nodeExpression (now (file .entry)) n) ⌝ }
 {
-    value(file, function_at, nodes_at, numbers, arguments, caller, n) != 0
+    value(file, function_at, source, numbers, arguments, caller, n) != 0
 }
 
 // A statement that holds no other: an assignment, a require or a skip.
 fn simple_slots(
     file: &[u8],
     function_at: usize,
-    nodes_at: usize,
+    source: &[u16],
     numbers: &mut [u32],
     arguments: &[u32],
     caller: u8,
@@ -63,19 +63,19 @@ fn simple_slots(
     out: &mut [u64],
     i: usize,
 ) -> usize
-    requires { ⌜ (SimpleKind (kindAt (now file) «nodes_at» n))
-        × (Startable (now file) «function_at» «nodes_at» n (now out) i
+    requires { ⌜ (SimpleKind (kindAt (now source) n))
+        × (Startable (now file) «function_at» (now source) n (now out) i
         (honestNumbers (now file) «function_at» (now arguments) caller (nodeStatement (now file) n) live (now numbers))) ⌝ }
     ensures { λ r. ⌜ Honest (now (file .entry)) «function_at» (now (arguments .entry)) caller live
         (nodeStatement (now (file .entry)) n) (now (numbers .entry)) (now (numbers .exit)) (now (out .entry)) (now (out .exit)) i r ⌝ }
 {
-    let node = node_at(file, nodes_at, n);
+    let node = node_at(source, n);
     let kind = node.kind;
     match kind {
         FIELD_TAKES => field_slots(
             file,
             function_at,
-            nodes_at,
+            source,
             numbers,
             arguments,
             caller,
@@ -88,7 +88,7 @@ fn simple_slots(
         ENTRY_TAKES => entry_slots(
             file,
             function_at,
-            nodes_at,
+            source,
             numbers,
             arguments,
             caller,
@@ -102,7 +102,7 @@ fn simple_slots(
         REQUIRE => body_slots(
             file,
             function_at,
-            nodes_at,
+            source,
             numbers,
             arguments,
             caller,
@@ -119,7 +119,7 @@ fn simple_slots(
 pub fn statement_slots(
     file: &[u8],
     function_at: usize,
-    nodes_at: usize,
+    source: &[u16],
     numbers: &mut [u32],
     arguments: &[u32],
     caller: u8,
@@ -128,17 +128,17 @@ pub fn statement_slots(
     out: &mut [u64],
     i: usize,
 ) -> usize
-    requires { ⌜ Startable (now file) «function_at» «nodes_at» n (now out) i
+    requires { ⌜ Startable (now file) «function_at» (now source) n (now out) i
         (honestNumbers (now file) «function_at» (now arguments) caller (nodeStatement (now file) n) live (now numbers)) ⌝ }
     ensures { λ r. ⌜ Honest (now (file .entry)) «function_at» (now (arguments .entry)) caller live
         (nodeStatement (now (file .entry)) n) (now (numbers .entry)) (now (numbers .exit)) (now (out .entry)) (now (out .exit)) i r ⌝ }
 {
-    let kind = node_at(file, nodes_at, n).kind;
+    let kind = node_at(source, n).kind;
     match kind {
         SEQUENCE => sequence_slots(
             file,
             function_at,
-            nodes_at,
+            source,
             numbers,
             arguments,
             caller,
@@ -150,7 +150,7 @@ pub fn statement_slots(
         IF => conditional_slots(
             file,
             function_at,
-            nodes_at,
+            source,
             numbers,
             arguments,
             caller,
@@ -162,7 +162,7 @@ pub fn statement_slots(
         _ => simple_slots(
             file,
             function_at,
-            nodes_at,
+            source,
             numbers,
             arguments,
             caller,
@@ -178,7 +178,7 @@ pub fn statement_slots(
 fn sequence_slots(
     file: &[u8],
     function_at: usize,
-    nodes_at: usize,
+    source: &[u16],
     numbers: &mut [u32],
     arguments: &[u32],
     caller: u8,
@@ -187,17 +187,17 @@ fn sequence_slots(
     out: &mut [u64],
     i: usize,
 ) -> usize
-    requires { ⌜ (kindAt (now file) «nodes_at» n ≡ 17)
-        × (Startable (now file) «function_at» «nodes_at» n (now out) i
+    requires { ⌜ (kindAt (now source) n ≡ 17)
+        × (Startable (now file) «function_at» (now source) n (now out) i
         (honestNumbers (now file) «function_at» (now arguments) caller (nodeStatement (now file) n) live (now numbers))) ⌝ }
     ensures { λ r. ⌜ Honest (now (file .entry)) «function_at» (now (arguments .entry)) caller live
         (nodeStatement (now (file .entry)) n) (now (numbers .entry)) (now (numbers .exit)) (now (out .entry)) (now (out .exit)) i r ⌝ }
 {
-    let node = node_at(file, nodes_at, n);
+    let node = node_at(source, n);
     let j = statement_slots(
         file,
         function_at,
-        nodes_at,
+        source,
         numbers,
         arguments,
         caller,
@@ -209,7 +209,7 @@ fn sequence_slots(
     statement_slots(
         file,
         function_at,
-        nodes_at,
+        source,
         numbers,
         arguments,
         caller,
@@ -224,7 +224,7 @@ fn sequence_slots(
 fn conditional_slots(
     file: &[u8],
     function_at: usize,
-    nodes_at: usize,
+    source: &[u16],
     numbers: &mut [u32],
     arguments: &[u32],
     caller: u8,
@@ -233,17 +233,17 @@ fn conditional_slots(
     out: &mut [u64],
     i: usize,
 ) -> usize
-    requires { ⌜ (kindAt (now file) «nodes_at» n ≡ 21)
-        × (Startable (now file) «function_at» «nodes_at» n (now out) i
+    requires { ⌜ (kindAt (now source) n ≡ 21)
+        × (Startable (now file) «function_at» (now source) n (now out) i
         (honestNumbers (now file) «function_at» (now arguments) caller (nodeStatement (now file) n) live (now numbers))) ⌝ }
     ensures { λ r. ⌜ Honest (now (file .entry)) «function_at» (now (arguments .entry)) caller live
         (nodeStatement (now (file .entry)) n) (now (numbers .entry)) (now (numbers .exit)) (now (out .entry)) (now (out .exit)) i r ⌝ }
 {
-    let first = node_at(file, nodes_at, n).first;
+    let first = node_at(source, n).first;
     let j = body_slots(
         file,
         function_at,
-        nodes_at,
+        source,
         numbers,
         arguments,
         caller,
@@ -255,7 +255,7 @@ fn conditional_slots(
     branches_slots(
         file,
         function_at,
-        nodes_at,
+        source,
         numbers,
         arguments,
         caller,
@@ -270,7 +270,7 @@ fn conditional_slots(
 fn branches_slots(
     file: &[u8],
     function_at: usize,
-    nodes_at: usize,
+    source: &[u16],
     numbers: &mut [u32],
     arguments: &[u32],
     caller: u8,
@@ -279,17 +279,17 @@ fn branches_slots(
     out: &mut [u64],
     i: usize,
 ) -> usize
-    requires { ⌜ (kindAt (now file) «nodes_at» n ≡ 21)
-        × (Startable (now file) «function_at» «nodes_at» n (now out) i
+    requires { ⌜ (kindAt (now source) n ≡ 21)
+        × (Startable (now file) «function_at» (now source) n (now out) i
         (branchesNumbers (now file) «function_at» (now arguments) caller (nodeStatement (now file) n) live (now numbers))) ⌝ }
     ensures { λ r. ⌜ BranchesHonest (now (file .entry)) «function_at» (now (arguments .entry)) caller live
         (nodeStatement (now (file .entry)) n) (now (numbers .entry)) (now (numbers .exit)) (now (out .entry)) (now (out .exit)) i r ⌝ }
 {
-    let node = node_at(file, nodes_at, n);
+    let node = node_at(source, n);
     let taken = is_taken(
         file,
         function_at,
-        nodes_at,
+        source,
         numbers,
         arguments,
         caller,
@@ -298,7 +298,7 @@ fn branches_slots(
     let k = branch_slots(
         file,
         function_at,
-        nodes_at,
+        source,
         numbers,
         arguments,
         caller,
@@ -310,7 +310,7 @@ fn branches_slots(
     branch_slots(
         file,
         function_at,
-        nodes_at,
+        source,
         numbers,
         arguments,
         caller,
@@ -325,7 +325,7 @@ fn branches_slots(
 fn branch_slots(
     file: &[u8],
     function_at: usize,
-    nodes_at: usize,
+    source: &[u16],
     numbers: &mut [u32],
     arguments: &[u32],
     caller: u8,
@@ -334,7 +334,7 @@ fn branch_slots(
     out: &mut [u64],
     i: usize,
 ) -> usize
-    requires { ⌜ Startable (now file) «function_at» «nodes_at» n (now out) i (branchNumbers
+    requires { ⌜ Startable (now file) «function_at» (now source) n (now out) i (branchNumbers
         (honestNumbers (now file) «function_at» (now arguments) caller (nodeStatement (now file) n) live (now numbers))) ⌝ }
     ensures { λ r. ⌜ BranchHonest (now (file .entry)) «function_at» (now (arguments .entry)) caller live
         (nodeStatement (now (file .entry)) n) (now (numbers .entry)) (now (numbers .exit)) (now (out .entry)) (now (out .exit)) i r ⌝ }
@@ -343,7 +343,7 @@ fn branch_slots(
     statement_slots(
         file,
         function_at,
-        nodes_at,
+        source,
         numbers,
         arguments,
         caller,

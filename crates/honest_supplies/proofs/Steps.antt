@@ -21,13 +21,13 @@ use Rattle.honest_values.specs.Values.{valueOf}
 use Rattle.honest_supplies.specs.Supplies.{suppliedNumber, bodyIn, circuitIn, supplyIn, placedIn, Room, Ready, Wrote}
 use Rattle.honest_supplies.proofs.Writing.{wrote-as, wrote-nothing, wrote-turn, room-as, room-first, room-second, supply-count, supply-variables}
 
-module _ (file : List ℕ) (functionStart nodesStart n : ℕ) (out : List ℕ) (i : ℕ) where
-  pub ready-as : (a b : Events) → b ≡ a → Ready file functionStart nodesStart n out i b → Ready file functionStart nodesStart n out i a
+module _ (file : List ℕ) (functionStart : ℕ) (source : List ℕ) (n : ℕ) (out : List ℕ) (i : ℕ) where
+  pub ready-as : (a b : Events) → b ≡ a → Ready file functionStart source n out i b → Ready file functionStart source n out i a
   ready-as a b e r = record { inside = r .inside; context = r .context; room = room-as out i a b e (r .room) }
 
   -- Parts: none, one, or two in turn.
-  module _ (rule : Expression → Events) (parts : Parts) (p : PartsOf file n parts) (r : Ready file functionStart nodesStart n out i (eachPart rule (nodeExpression file n))) where
-    pub one-ready : parts .count ≡ 1 → Ready file functionStart nodesStart (parts .first) out i (rule (nodeExpression file (parts .first)))
+  module _ (rule : Expression → Events) (parts : Parts) (p : PartsOf file n parts) (r : Ready file functionStart source n out i (eachPart rule (nodeExpression file n))) where
+    pub one-ready : parts .count ≡ 1 → Ready file functionStart source (parts .first) out i (rule (nodeExpression file (parts .first)))
     one-ready h =
         let less = p .first (omega arith) in
         record { inside = omega (arith, r .inside); context = r .context; room = room-as out i _ _ (p .one h rule) (r .room) }
@@ -35,14 +35,14 @@ module _ (file : List ℕ) (functionStart nodesStart n : ℕ) (out : List ℕ) (
     two-room : 2 ≤ parts .count → Room out i (inTurn (rule (nodeExpression file (parts .first))) (rule (nodeExpression file (parts .second))))
     two-room h = room-as out i _ _ (p .two h rule) (r .room)
 
-    pub first-ready : 2 ≤ parts .count → Ready file functionStart nodesStart (parts .first) out i (rule (nodeExpression file (parts .first)))
+    pub first-ready : 2 ≤ parts .count → Ready file functionStart source (parts .first) out i (rule (nodeExpression file (parts .first)))
     first-ready h =
         let less = p .first (omega arith) in
         record { inside = omega (arith, r .inside); context = r .context; room = room-first out i _ _ (two-room h) }
 
     module _ (number : Variable → ℕ) (after : List ℕ) (j : ℕ) where
       pub second-ready : 2 ≤ parts .count → Wrote number out after i j (rule (nodeExpression file (parts .first)))
-          → Ready file functionStart nodesStart (parts .second) after j (rule (nodeExpression file (parts .second)))
+          → Ready file functionStart source (parts .second) after j (rule (nodeExpression file (parts .second)))
       second-ready h w =
           let less = p .second h in
           record { inside = omega (arith, r .inside); context = r .context; room = room-second number out after i j _ _ (two-room h) w }
@@ -79,9 +79,9 @@ module _ (scope : Scope) (e : Expression) (code : ℕ) where
 pub owner-room : (out : List ℕ) (i : ℕ) (o p : Owner) (e : Expression) (a : Events) → Room out i (supplyEvents always o e a) → Room out i (supplyEvents always p e a)
 owner-room out i o p e a r = record { fits = omega (arith, r .fits, supply-count always o e a i, supply-count always p e a i) }
 
-pub owner-ready : (file : List ℕ) (functionStart nodesStart n : ℕ) (out : List ℕ) (i : ℕ) (o p : Owner) (e : Expression) (a : Events)
-    → Ready file functionStart nodesStart n out i (supplyEvents always o e a) → Ready file functionStart nodesStart n out i (supplyEvents always p e a)
-owner-ready file functionStart nodesStart n out i o p e a r = record { inside = r .inside; context = r .context; room = owner-room out i o p e a (r .room) }
+pub owner-ready : (file : List ℕ) (functionStart : ℕ) (source : List ℕ) (n : ℕ) (out : List ℕ) (i : ℕ) (o p : Owner) (e : Expression) (a : Events)
+    → Ready file functionStart source n out i (supplyEvents always o e a) → Ready file functionStart source n out i (supplyEvents always p e a)
+owner-ready file functionStart source n out i o p e a r = record { inside = r .inside; context = r .context; room = owner-room out i o p e a (r .room) }
 
 module _ (file arguments : List ℕ) (caller : ℕ) (live : Bool) (numbers : List ℕ) where
   pub owner-wrote : (before after : List ℕ) (i next : ℕ) (o p : Owner) (e : Expression) (a : Events)
@@ -121,16 +121,16 @@ placed-open file functionStart n private h = rw h
 
 -- The events of putting a value into a place, told by its owner.
 module _ (file : List ℕ) (functionStart n : ℕ) where
-  pub placed-ready : (nodesStart : ℕ) (out : List ℕ) (i : ℕ) (o : Owner) (private : Bool) → private ≡ not (isEveryone o)
-      → Ready file functionStart nodesStart n out i (placeEvents (scopeIn file functionStart) always o (nodeExpression file n))
-      → Ready file functionStart nodesStart n out i (placedIn file functionStart n private)
-  placed-ready nodesStart out i everyone private h r = ready-as file functionStart nodesStart n out i _ _ (rw h) r
-  placed-ready nodesStart out i (ownedBy m) private h r =
+  pub placed-ready : (source : List ℕ) (out : List ℕ) (i : ℕ) (o : Owner) (private : Bool) → private ≡ not (isEveryone o)
+      → Ready file functionStart source n out i (placeEvents (scopeIn file functionStart) always o (nodeExpression file n))
+      → Ready file functionStart source n out i (placedIn file functionStart n private)
+  placed-ready source out i everyone private h r = ready-as file functionStart source n out i _ _ (rw h) r
+  placed-ready source out i (ownedBy m) private h r =
       rw h (go (isPublic (scopeIn file functionStart) (nodeExpression file n)) r)
     where
-      go : (public : Bool) → Ready file functionStart nodesStart n out i (cond public (supplyEvents always (ownedBy m) (nodeExpression file n) (circuitIn file functionStart n)) (bodyIn file functionStart n))
-          → Ready file functionStart nodesStart n out i (cond public (supplyIn file functionStart n) (bodyIn file functionStart n))
-      go true r = owner-ready file functionStart nodesStart n out i (ownedBy m) (ownedBy meName) (nodeExpression file n) (circuitIn file functionStart n) r
+      go : (public : Bool) → Ready file functionStart source n out i (cond public (supplyEvents always (ownedBy m) (nodeExpression file n) (circuitIn file functionStart n)) (bodyIn file functionStart n))
+          → Ready file functionStart source n out i (cond public (supplyIn file functionStart n) (bodyIn file functionStart n))
+      go true r = owner-ready file functionStart source n out i (ownedBy m) (ownedBy meName) (nodeExpression file n) (circuitIn file functionStart n) r
       go false r = r
 
   pub placed-wrote : (arguments : List ℕ) (caller : ℕ) (live : Bool) (numbers before after : List ℕ) (i next : ℕ) (o : Owner) (private : Bool) → private ≡ not (isEveryone o)

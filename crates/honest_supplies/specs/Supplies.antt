@@ -45,9 +45,9 @@ module _ (file : List ℕ) (functionStart n : ℕ) where
 pub record Room (out : List ℕ) (i : ℕ) (events : Events) : Type 0 where
   pub fits : i + variableCount (events i) ≤ length out
 
-pub record Ready (file : List ℕ) (functionStart nodesStart n : ℕ) (out : List ℕ) (i : ℕ) (events : Events) : Type 0 where
+pub record Ready (file : List ℕ) (functionStart : ℕ) (source : List ℕ) (n : ℕ) (out : List ℕ) (i : ℕ) (events : Events) : Type 0 where
   pub inside : n < nodeCount file
-  pub context : Context file functionStart nodesStart
+  pub context : Context file functionStart source
   pub room : Room out i events
 
 pub record Wrote (number : Variable → ℕ) (before after : List ℕ) (i next : ℕ) (events : Events) : Type 0 where

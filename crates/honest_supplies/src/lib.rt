@@ -30,21 +30,21 @@ pub fn put_slot(out: &mut [u64], i: usize, value: u64)
 fn supplied_number(
     file: &[u8],
     function_at: usize,
-    nodes_at: usize,
+    source: &[u16],
     numbers: &[u32],
     arguments: &[u32],
     caller: u8,
     live: bool,
     n: usize,
 ) -> u64
-    requires { ⌜ (n < nodeCount (now file)) × (Context (now file) «function_at» «nodes_at») ⌝ }
+    requires { ⌜ (n < nodeCount (now file)) × (Context (now file) «function_at» (now source)) ⌝ }
     ensures { λ r. ⌜ r ≡ cond live
         (suc (valueOf (now (file .entry)) (now (arguments .entry)) caller (now (numbers .entry))
         (nodeExpression (now (file .entry)) n)))
         0 ⌝ }
 {
     if live {
-        value(file, function_at, nodes_at, numbers, arguments, caller, n) as u64 + 1
+        value(file, function_at, source, numbers, arguments, caller, n) as u64 + 1
     } else {
         0
     }
@@ -54,7 +54,7 @@ fn supplied_number(
 pub fn body_slots(
     file: &[u8],
     function_at: usize,
-    nodes_at: usize,
+    source: &[u16],
     numbers: &[u32],
     arguments: &[u32],
     caller: u8,
@@ -63,15 +63,15 @@ pub fn body_slots(
     out: &mut [u64],
     i: usize,
 ) -> usize
-    requires { ⌜ Ready (now file) «function_at» «nodes_at» n (now out) i (bodyIn (now file) «function_at» n) ⌝ }
+    requires { ⌜ Ready (now file) «function_at» (now source) n (now out) i (bodyIn (now file) «function_at» n) ⌝ }
     ensures { λ r. ⌜ Wrote (suppliedNumber (now (file .entry)) (now (arguments .entry)) caller live (now (numbers .entry)))
         (now (out .entry)) (now (out .exit)) i r (bodyIn (now (file .entry)) «function_at» n) ⌝ }
 {
-    if supplied_code(file, function_at, nodes_at, n) == 0 {
+    if supplied_code(file, function_at, source, n) == 0 {
         body_parts(
             file,
             function_at,
-            nodes_at,
+            source,
             numbers,
             arguments,
             caller,
@@ -84,7 +84,7 @@ pub fn body_slots(
         supply_slots(
             file,
             function_at,
-            nodes_at,
+            source,
             numbers,
             arguments,
             caller,
@@ -100,7 +100,7 @@ pub fn body_slots(
 pub fn supply_slots(
     file: &[u8],
     function_at: usize,
-    nodes_at: usize,
+    source: &[u16],
     numbers: &[u32],
     arguments: &[u32],
     caller: u8,
@@ -109,14 +109,14 @@ pub fn supply_slots(
     out: &mut [u64],
     i: usize,
 ) -> usize
-    requires { ⌜ Ready (now file) «function_at» «nodes_at» n (now out) i (supplyIn (now file) «function_at» n) ⌝ }
+    requires { ⌜ Ready (now file) «function_at» (now source) n (now out) i (supplyIn (now file) «function_at» n) ⌝ }
     ensures { λ r. ⌜ Wrote (suppliedNumber (now (file .entry)) (now (arguments .entry)) caller live (now (numbers .entry)))
         (now (out .entry)) (now (out .exit)) i r (supplyIn (now (file .entry)) «function_at» n) ⌝ }
 {
     let number = supplied_number(
         file,
         function_at,
-        nodes_at,
+        source,
         numbers,
         arguments,
         caller,
@@ -127,7 +127,7 @@ pub fn supply_slots(
     circuit_slots(
         file,
         function_at,
-        nodes_at,
+        source,
         numbers,
         arguments,
         caller,
@@ -142,7 +142,7 @@ pub fn supply_slots(
 fn circuit_slots(
     file: &[u8],
     function_at: usize,
-    nodes_at: usize,
+    source: &[u16],
     numbers: &[u32],
     arguments: &[u32],
     caller: u8,
@@ -151,15 +151,15 @@ fn circuit_slots(
     out: &mut [u64],
     i: usize,
 ) -> usize
-    requires { ⌜ Ready (now file) «function_at» «nodes_at» n (now out) i (circuitIn (now file) «function_at» n) ⌝ }
+    requires { ⌜ Ready (now file) «function_at» (now source) n (now out) i (circuitIn (now file) «function_at» n) ⌝ }
     ensures { λ r. ⌜ Wrote (suppliedNumber (now (file .entry)) (now (arguments .entry)) caller live (now (numbers .entry)))
         (now (out .entry)) (now (out .exit)) i r (circuitIn (now (file .entry)) «function_at» n) ⌝ }
 {
-    if read_code(file, function_at, nodes_at, n) == 0 {
+    if read_code(file, function_at, source, n) == 0 {
         circuit_parts(
             file,
             function_at,
-            nodes_at,
+            source,
             numbers,
             arguments,
             caller,
@@ -172,7 +172,7 @@ fn circuit_slots(
         let j = body_parts(
             file,
             function_at,
-            nodes_at,
+            source,
             numbers,
             arguments,
             caller,
@@ -189,7 +189,7 @@ fn circuit_slots(
 fn body_parts(
     file: &[u8],
     function_at: usize,
-    nodes_at: usize,
+    source: &[u16],
     numbers: &[u32],
     arguments: &[u32],
     caller: u8,
@@ -198,18 +198,18 @@ fn body_parts(
     out: &mut [u64],
     i: usize,
 ) -> usize
-    requires { ⌜ Ready (now file) «function_at» «nodes_at» n (now out) i (bodyPartsIn (now file) «function_at» n) ⌝ }
+    requires { ⌜ Ready (now file) «function_at» (now source) n (now out) i (bodyPartsIn (now file) «function_at» n) ⌝ }
     ensures { λ r. ⌜ Wrote (suppliedNumber (now (file .entry)) (now (arguments .entry)) caller live (now (numbers .entry)))
         (now (out .entry)) (now (out .exit)) i r (bodyPartsIn (now (file .entry)) «function_at» n) ⌝ }
 {
-    let parts = parts_of(file, function_at, nodes_at, n);
+    let parts = parts_of(file, function_at, source, n);
     let count = parts.count;
     match count {
         0 => i,
         1 => body_slots(
             file,
             function_at,
-            nodes_at,
+            source,
             numbers,
             arguments,
             caller,
@@ -222,7 +222,7 @@ fn body_parts(
             let j = body_slots(
                 file,
                 function_at,
-                nodes_at,
+                source,
                 numbers,
                 arguments,
                 caller,
@@ -234,7 +234,7 @@ fn body_parts(
             body_slots(
                 file,
                 function_at,
-                nodes_at,
+                source,
                 numbers,
                 arguments,
                 caller,
@@ -250,7 +250,7 @@ fn body_parts(
 fn circuit_parts(
     file: &[u8],
     function_at: usize,
-    nodes_at: usize,
+    source: &[u16],
     numbers: &[u32],
     arguments: &[u32],
     caller: u8,
@@ -259,18 +259,18 @@ fn circuit_parts(
     out: &mut [u64],
     i: usize,
 ) -> usize
-    requires { ⌜ Ready (now file) «function_at» «nodes_at» n (now out) i (circuitPartsIn (now file) «function_at» n) ⌝ }
+    requires { ⌜ Ready (now file) «function_at» (now source) n (now out) i (circuitPartsIn (now file) «function_at» n) ⌝ }
     ensures { λ r. ⌜ Wrote (suppliedNumber (now (file .entry)) (now (arguments .entry)) caller live (now (numbers .entry)))
         (now (out .entry)) (now (out .exit)) i r (circuitPartsIn (now (file .entry)) «function_at» n) ⌝ }
 {
-    let parts = parts_of(file, function_at, nodes_at, n);
+    let parts = parts_of(file, function_at, source, n);
     let count = parts.count;
     match count {
         0 => i,
         1 => circuit_slots(
             file,
             function_at,
-            nodes_at,
+            source,
             numbers,
             arguments,
             caller,
@@ -283,7 +283,7 @@ fn circuit_parts(
             let j = circuit_slots(
                 file,
                 function_at,
-                nodes_at,
+                source,
                 numbers,
                 arguments,
                 caller,
@@ -295,7 +295,7 @@ fn circuit_parts(
             circuit_slots(
                 file,
                 function_at,
-                nodes_at,
+                source,
                 numbers,
                 arguments,
                 caller,
@@ -312,7 +312,7 @@ fn circuit_parts(
 pub fn place_slots(
     file: &[u8],
     function_at: usize,
-    nodes_at: usize,
+    source: &[u16],
     numbers: &[u32],
     arguments: &[u32],
     caller: u8,
@@ -322,16 +322,16 @@ pub fn place_slots(
     out: &mut [u64],
     i: usize,
 ) -> usize
-    requires { ⌜ Ready (now file) «function_at» «nodes_at» n (now out) i (placedIn (now file) «function_at» n private) ⌝ }
+    requires { ⌜ Ready (now file) «function_at» (now source) n (now out) i (placedIn (now file) «function_at» n private) ⌝ }
     ensures { λ r. ⌜ Wrote (suppliedNumber (now (file .entry)) (now (arguments .entry)) caller live (now (numbers .entry)))
         (now (out .entry)) (now (out .exit)) i r (placedIn (now (file .entry)) «function_at» n private) ⌝ }
 {
     if private {
-        if is_public(file, function_at, nodes_at, n) {
+        if is_public(file, function_at, source, n) {
             supply_slots(
                 file,
                 function_at,
-                nodes_at,
+                source,
                 numbers,
                 arguments,
                 caller,
@@ -344,7 +344,7 @@ pub fn place_slots(
             body_slots(
                 file,
                 function_at,
-                nodes_at,
+                source,
                 numbers,
                 arguments,
                 caller,
@@ -358,7 +358,7 @@ pub fn place_slots(
         body_slots(
             file,
             function_at,
-            nodes_at,
+            source,
             numbers,
             arguments,
             caller,

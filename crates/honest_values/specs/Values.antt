@@ -4,6 +4,7 @@ use Prim.Native.Nat.{ℕ, _+_, _*_}
 use Rattle.definitions.specs.ContractFile.{Name, Expression, Statement, nodeRecord}
 use Rattle.definitions.specs.Original.{value, placesAfter}
 use Rattle.file_accepted.specs.Context.{fieldsIn}
+use Rattle.file_decoded.specs.Slices.{recordAt}
 
 unfoldable pub valueOf : List ℕ → List ℕ → ℕ → List ℕ → Expression → ℕ
 valueOf file arguments caller numbers e = value (fieldsIn file) (λ (n : Name). caller) arguments numbers e
@@ -11,5 +12,5 @@ valueOf file arguments caller numbers e = value (fieldsIn file) (λ (n : Name). 
 unfoldable pub numbersAfter : List ℕ → List ℕ → ℕ → List ℕ → Statement → List ℕ
 numbersAfter file arguments caller numbers s = placesAfter (fieldsIn file) (λ (n : Name). caller) arguments numbers s
 
-abbrev pub kindAt : List ℕ → ℕ → ℕ → ℕ
-kindAt file nodesStart n = (nodeRecord file (nodesStart + 2 + 8 * n)) .kind
+abbrev pub kindAt : List ℕ → ℕ → ℕ
+kindAt source n = (recordAt source n) .kind

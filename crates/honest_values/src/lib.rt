@@ -1,5 +1,5 @@
 // 01, Runs and views: the value that the original works out for an expression, on numbers in all places.
-use file_bytes::node_at;
+use file_decoded::node_at;
 use file_kinds::CONSTANT;
 use file_kinds::ENTRY;
 use file_kinds::FIELD;
@@ -30,29 +30,29 @@ fn constant_of(first: usize, second: usize) -> u32
 pub fn value(
     file: &[u8],
     function_at: usize,
-    nodes_at: usize,
+    source: &[u16],
     numbers: &[u32],
     arguments: &[u32],
     caller: u8,
     n: usize,
 ) -> u32
-    requires { ⌜ (n < nodeCount (now file)) × (Context (now file) «function_at» «nodes_at») ⌝ }
+    requires { ⌜ (n < nodeCount (now file)) × (Context (now file) «function_at» (now source)) ⌝ }
     ensures { λ r. ⌜ r ≡ valueOf (now (file .entry)) (now (arguments .entry)) caller (now (numbers .entry))
         (expressionIn (nodesIn (now (file .entry))) n) ⌝ }
 {
-    let node = node_at(file, nodes_at, n);
+    let node = node_at(source, n);
     let kind = node.kind;
     match kind {
         CONSTANT => constant_of(node.first, node.second),
         FIELD => number_at(numbers, position(file, node.arg, 0)),
-        ENTRY => entry_value(file, function_at, nodes_at, numbers, arguments, caller, n),
+        ENTRY => entry_value(file, function_at, source, numbers, arguments, caller, n),
         PARAMETER => number_at(arguments, node.arg),
-        OPERATOR => operator_value(file, function_at, nodes_at, numbers, arguments, caller, n),
-        NOT => negation_value(file, function_at, nodes_at, numbers, arguments, caller, n),
+        OPERATOR => operator_value(file, function_at, source, numbers, arguments, caller, n),
+        NOT => negation_value(file, function_at, source, numbers, arguments, caller, n),
         REVEAL => value(
             file,
             function_at,
-            nodes_at,
+            source,
             numbers,
             arguments,
             caller,
@@ -66,21 +66,21 @@ pub fn value(
 fn entry_value(
     file: &[u8],
     function_at: usize,
-    nodes_at: usize,
+    source: &[u16],
     numbers: &[u32],
     arguments: &[u32],
     caller: u8,
     n: usize,
 ) -> u32
-    requires { ⌜ (kindAt (now file) «nodes_at» n ≡ 4) × ((n < nodeCount (now file)) × (Context (now file) «function_at» «nodes_at»)) ⌝ }
+    requires { ⌜ (kindAt (now source) n ≡ 4) × ((n < nodeCount (now file)) × (Context (now file) «function_at» (now source))) ⌝ }
     ensures { λ r. ⌜ r ≡ valueOf (now (file .entry)) (now (arguments .entry)) caller (now (numbers .entry))
         (expressionIn (nodesIn (now (file .entry))) n) ⌝ }
 {
-    let node = node_at(file, nodes_at, n);
+    let node = node_at(source, n);
     let key = value(
         file,
         function_at,
-        nodes_at,
+        source,
         numbers,
         arguments,
         caller,
@@ -93,21 +93,21 @@ fn entry_value(
 fn operator_value(
     file: &[u8],
     function_at: usize,
-    nodes_at: usize,
+    source: &[u16],
     numbers: &[u32],
     arguments: &[u32],
     caller: u8,
     n: usize,
 ) -> u32
-    requires { ⌜ (kindAt (now file) «nodes_at» n ≡ 6) × ((n < nodeCount (now file)) × (Context (now file) «function_at» «nodes_at»)) ⌝ }
+    requires { ⌜ (kindAt (now source) n ≡ 6) × ((n < nodeCount (now file)) × (Context (now file) «function_at» (now source))) ⌝ }
     ensures { λ r. ⌜ r ≡ valueOf (now (file .entry)) (now (arguments .entry)) caller (now (numbers .entry))
         (expressionIn (nodesIn (now (file .entry))) n) ⌝ }
 {
-    let node = node_at(file, nodes_at, n);
+    let node = node_at(source, n);
     let left = value(
         file,
         function_at,
-        nodes_at,
+        source,
         numbers,
         arguments,
         caller,
@@ -116,7 +116,7 @@ fn operator_value(
     let right = value(
         file,
         function_at,
-        nodes_at,
+        source,
         numbers,
         arguments,
         caller,
@@ -129,21 +129,21 @@ fn operator_value(
 fn negation_value(
     file: &[u8],
     function_at: usize,
-    nodes_at: usize,
+    source: &[u16],
     numbers: &[u32],
     arguments: &[u32],
     caller: u8,
     n: usize,
 ) -> u32
-    requires { ⌜ (kindAt (now file) «nodes_at» n ≡ 7) × ((n < nodeCount (now file)) × (Context (now file) «function_at» «nodes_at»)) ⌝ }
+    requires { ⌜ (kindAt (now source) n ≡ 7) × ((n < nodeCount (now file)) × (Context (now file) «function_at» (now source))) ⌝ }
     ensures { λ r. ⌜ r ≡ valueOf (now (file .entry)) (now (arguments .entry)) caller (now (numbers .entry))
         (expressionIn (nodesIn (now (file .entry))) n) ⌝ }
 {
-    let node = node_at(file, nodes_at, n);
+    let node = node_at(source, n);
     let part = value(
         file,
         function_at,
-        nodes_at,
+        source,
         numbers,
         arguments,
         caller,

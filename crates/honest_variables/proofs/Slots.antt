@@ -53,9 +53,9 @@ module _ (file : List ℕ) (at : ℕ) (arguments : List ℕ) (caller : ℕ) (num
   unfolding slotsOf
   slots-count = length-append (replicate private 0) body ∙ ap₂ (λ (a b : ℕ). a + b) (replicated private) body-count
 
-  module _ (nodesStart : ℕ) (slots₀ : List ℕ) (ready : SlotsRoom file at nodesStart slots₀) where
+  module _ (source : List ℕ) (slots₀ : List ℕ) (ready : SlotsRoom file at source slots₀) where
     pub body-startable : (slots : List ℕ) (counted root : ℕ) → counted ≡ privateIn file at → root ≡ rootAt file at → length slots ≡ length slots₀
-        → Startable file at nodesStart root slots counted (honestNumbers file at arguments caller (nodeStatement file root) true numbers)
+        → Startable file at source root slots counted (honestNumbers file at arguments caller (nodeStatement file root) true numbers)
     body-startable slots counted root e f size =
         rw (e, f)
         record {

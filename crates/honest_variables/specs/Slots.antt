@@ -18,8 +18,8 @@ slotsOf file functionStart arguments caller numbers =
     ++ honestNumbers file functionStart arguments caller (nodeStatement file (rootAt file functionStart)) true numbers
     (privateIn file functionStart)
 
-pub record SlotsRoom (file : List ℕ) (functionStart nodesStart : ℕ) (slots : List ℕ) : Type 0 where
-  pub context : Context file functionStart nodesStart
+pub record SlotsRoom (file : List ℕ) (functionStart : ℕ) (source : List ℕ) (slots : List ℕ) : Type 0 where
+  pub context : Context file functionStart source
   pub root : rootAt file functionStart < nodeCount file
   pub room : privateIn file functionStart + variableCount (eventsIn file functionStart) ≤ length slots
 

@@ -40,13 +40,13 @@ pub fn root_at(file: &[u8], function_at: usize) -> usize
 pub fn honest_slots(
     file: &[u8],
     function_at: usize,
-    nodes_at: usize,
+    source: &[u16],
     numbers: &mut [u32],
     arguments: &[u32],
     caller: u8,
     slots: &mut [u64],
 ) -> usize
-    requires { ⌜ SlotsRoom (now file) «function_at» «nodes_at» (now slots) ⌝ }
+    requires { ⌜ SlotsRoom (now file) «function_at» (now source) (now slots) ⌝ }
     ensures { λ r. ⌜ SlotsPut (now (file .entry)) «function_at» (now (arguments .entry)) caller (now (numbers .entry))
         (now (slots .entry)) (now (slots .exit)) r ⌝ }
 {
@@ -61,7 +61,7 @@ pub fn honest_slots(
     statement_slots(
         file,
         function_at,
-        nodes_at,
+        source,
         numbers,
         arguments,
         caller,

@@ -1,6 +1,7 @@
 // "18. The ledger isn't well formed": a ledger after a done call.
-use file_bytes::read_layout;
+use file_decoded::node_room;
 use file_functions::function_start;
+use file_source::decode_source;
 use file_kinds::PARAMETER_CODES_END;
 use ledger_18_parameters::parameters_fit;
 use ledger_18_parts::put_parameters;
@@ -14,10 +15,10 @@ ghost use mathlib.Core.Path.{_≡_};
 ghost use mathlib.Core.List.{map};
 ghost use Prim.Native.Nat.{_<_, _≤_, _/_};
 ghost use lib.ListN.{length};
-ghost use Rattle.definitions.specs.ContractFile.{functionCount, nodesAt};
+ghost use Rattle.definitions.specs.ContractFile.{functionCount};
 ghost use Rattle.definitions.specs.Ledger.{plainNumber, allFit, isAfterDone};
 ghost use Rattle.definitions.specs.Original.{addressIn};
-ghost use Rattle.file_accepted.specs.Context.{scopeIn};
+ghost use Rattle.file_accepted.specs.Context.{scopeIn, Source};
 ghost use Rattle.ledger_contents.specs.Contents.{contentsOf};
 ghost use Rattle.ledger_struct.specs.Ledgers.{ledgerOf};
 ghost use Rattle.ledger_18_forms.specs.Forms.{fitsOrZero};
@@ -29,13 +30,13 @@ ghost use Rattle.ledger_18_parts.specs.HandedOn.{Opened};
 pub fn done_variables_fit(
     file: &[u8],
     function_at: usize,
-    nodes_at: usize,
+    source: &[u16],
     caller: u8,
     parameters: &[u32],
     numbers: &[u32],
     variables: &[u32],
 ) -> bool
-    requires { ⌜ (FunctionRoom (now file) «function_at» 0 0) × («nodes_at» ≡ nodesAt (now file)) ⌝ }
+    requires { ⌜ (FunctionRoom (now file) «function_at» 0 0) × (Source (now file) (now source)) ⌝ }
     requires { ⌜ length (now parameters) ≤ 40 ⌝ }
     ensures { λ r. ⌜ r ≡ allFit fitsOrZero
         (map (variableForm (scopeIn (now (file .entry)) «function_at»)
@@ -56,7 +57,7 @@ pub fn done_variables_fit(
         numbers,
         &mut addresses[..],
     );
-    variables_fit(file, function_at, nodes_at, &addresses[..], variables)
+    variables_fit(file, function_at, source, &addresses[..], variables)
 }
 
 // After a done call, which shows all parameters and the variables.
@@ -71,13 +72,14 @@ pub fn is_after_done(l: Ledger, file: &[u8], numbers: &[u32]) -> bool
     let mut flat = [0u32; 40];
     let size = put_parameters(l, &mut flat[..]);
     if parameters_fit(file, function_at, l.caller, true, &flat[..size]) {
-        let layout = read_layout(file);
+        let mut room = node_room();
+        let count = decode_source(file, &mut room[..]);
         let mut variables = [0u32; 5120];
         let end = put_variables(l, &mut variables[..]);
         done_variables_fit(
             file,
             function_at,
-            layout.nodes_at,
+            &room[..count],
             l.caller,
             &flat[..size],
             numbers,

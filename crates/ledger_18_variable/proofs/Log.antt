@@ -7,7 +7,7 @@ use native.Mathlib.Omega.{arith}
 use borrow.Author.Tests.{eq-eqb, ne-eqb}
 use lib.Dec.{eqb, leb}
 use lib.ListN.{length, drop, getD, length-drop}
-use Rattle.definitions.specs.ContractFile.{DataType, boolean, Expression, twoBytesAt, nodeCount, dataTypeOf, Node, expressionOf, typeOf}
+use Rattle.definitions.specs.ContractFile.{DataType, boolean, Expression, nodeCount, dataTypeOf, Node, expressionOf, typeOf}
 use Rattle.definitions.specs.Original.{anyone, only}
 use Rattle.definitions.specs.Ledger.{Content, Form, allFit}
 use Rattle.file_accepted.proofs.Nodes.{node-past}
@@ -29,7 +29,7 @@ read-by-all addresses code e = rw (eq-eqb code 0 e)
 pub read-by-one : (addresses : List ℕ) (code a : ℕ) → (code ≡ 0 → ⊥) → a ≡ getD addresses code 0 → only a ≡ codeReader addresses code
 read-by-one addresses code a n e = rw (ne-eqb code 0 n, e)
 
-module _ (file : List ℕ) (at start tag n : ℕ) (context : Context file at start) where
+module _ (file : List ℕ) (at : ℕ) (source : List ℕ) (tag n : ℕ) (context : Context file at source) where
   abbrev typeDue : DataType
   typeDue = cond (eqb tag 3) boolean (typeOf (scopeIn file at) (expressionIn (nodesIn file) n))
 
@@ -38,9 +38,6 @@ module _ (file : List ℕ) (at start tag n : ℕ) (context : Context file at sta
 
   pub node-typed : (r : ℕ) → (tag ≡ 3 → ⊥) → dataTypeOf r ≡ typeOf (scopeIn file at) (expressionIn (nodesIn file) n) → dataTypeOf r ≡ typeDue
   node-typed r t e = rw (ne-eqb tag 3 t) e
-
-  pub nodes-counted : (r : ℕ) → r ≡ twoBytesAt file start → r ≡ nodeCount file
-  nodes-counted r e = e ∙ ap (twoBytesAt file) (context .nodesPlace)
 
   past-is-me : nodeCount file ≤ n → expressionIn (nodesIn file) n ≡ Expression.me
   unfolding expressionOf

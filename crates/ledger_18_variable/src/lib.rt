@@ -26,8 +26,8 @@ pub fn code_reader(addresses: &[u32], code: usize) -> Reader
 }
 
 // The type code of an entry's variable: a guard is a bool.
-pub fn entry_type(file: &[u8], function_at: usize, nodes_at: usize, tag: u16, node: usize) -> usize
-    requires { ⌜ Context (now file) «function_at» «nodes_at» ⌝ }
+pub fn entry_type(file: &[u8], function_at: usize, source: &[u16], tag: u16, node: usize) -> usize
+    requires { ⌜ Context (now file) «function_at» (now source) ⌝ }
     ensures { λ r. ⌜ dataTypeOf r ≡ cond (eqb tag 3)
         boolean
         (typeOf (scopeIn (now (file .entry)) «function_at») (expressionIn (nodesIn (now (file .entry))) node)) ⌝ }
@@ -35,8 +35,8 @@ pub fn entry_type(file: &[u8], function_at: usize, nodes_at: usize, tag: u16, no
     if tag == GUARD_LOGGED {
         return BOOL;
     }
-    if node < two_bytes_at(file, nodes_at) {
-        type_code(file, function_at, nodes_at, node)
+    if node < source.len() / 5 {
+        type_code(file, function_at, source, node)
     } else {
         ADDRESS
     }

@@ -14,7 +14,7 @@ use Rattle.definitions.specs.Ledger.{Content, Form, allFit}
 use Rattle.theory_laws.proofs.Lists.{map-append}
 use Rattle.theory_laws.proofs.Written.{opening-count}
 use Rattle.theory_trees.specs.Trees.{expressionIn, statementIn}
-use Rattle.file_accepted.specs.Context.{Context, nodesIn, parametersIn, scopeIn}
+use Rattle.file_accepted.specs.Context.{Known, nodesIn, parametersIn, scopeIn}
 use Rattle.file_accepted.specs.Functions.{rootAt}
 use Rattle.rewrite_events.specs.Events.{Event, variablesOf}
 use Rattle.rewrite_events.proofs.Statements.{statement-made}
@@ -75,7 +75,7 @@ module _ (file : List ℕ) (at : ℕ) (addresses : List ℕ) where
       ap (λ (i : ℕ). (openings private 0) .variables ++ (rewriteStatement (scopeIn file at) body always i) .variables) (opening-count private 0 ∙ private-is)
       ∙ ap (λ (vs : List Variable). (openings private 0) .variables ++ vs) (sym ((statement-made (scopeIn file at) body always (privateIn file at)) .variables))
 
-  module _ (numbers : List ℕ) (entries : Entries (nodesIn file) (eventsIn file at) numbers) (context : Context file at (nodesAt file)) where
+  module _ (numbers : List ℕ) (entries : Entries (nodesIn file) (eventsIn file at) numbers) (context : Known file at) where
     forms-are : map formOfVariable ((writtenIn file at) .variables) ≡ openingForms (parametersIn file at) (getD addresses 1 0) 0 ++ loggedForms file at addresses numbers
     forms-are =
         ap (map formOfVariable) variables-are ∙ map-append formOfVariable ((openings private 0) .variables) (variablesOf (eventsIn file at))

@@ -8,8 +8,9 @@ use lib.ListN.{length, drop, take, getD}
 use lib.Seq.{length-take-le}
 use Rattle.definitions.specs.ContractFile.{nodesAt}
 use Rattle.definitions.specs.Ledger.{allFit}
-use Rattle.file_accepted.specs.Context.{Context, nodesIn, parametersIn, scopeIn}
+use Rattle.file_accepted.specs.Context.{Context, nodesIn, parametersIn, scopeIn, Source}
 use Rattle.file_accepted.specs.Functions.{rootAt}
+use Rattle.file_accepted.proofs.Sources.{context-with}
 use Rattle.ledger_contents.specs.Contents.{contentsOf}
 use Rattle.ledger_circuits.specs.Circuits.{addressFrom}
 use Rattle.rewrite_log.specs.declared.Position.{Position}
@@ -27,14 +28,14 @@ module _ (file : List ℕ) (at : ℕ) (room : FunctionRoom file at 0 0) (private
   pub private-few : private ≤ 1024
   private-few = omega (arith, room .variables)
 
-  pub context-at : (start : ℕ) → start ≡ nodesAt file → Context file at start
-  context-at start s = rw s (room .context)
+  pub context-at : (source : List ℕ) → Source file source → Context file at source
+  context-at source held = context-with file at source (room .context) held
 
-  pub log-ready : (start : ℕ) (log : List ℕ) → start ≡ nodesAt file → length log ≡ 7680 → Ready file at start (rootAt file at) log (startingAt private) (statementOf file at 0 (rootAt file at))
-  log-ready start log s l =
+  pub log-ready : (source log : List ℕ) → Source file source → length log ≡ 7680 → Ready file at source (rootAt file at) log (startingAt private) (statementOf file at 0 (rootAt file at))
+  log-ready source log held l =
       record {
         inside = room .root;
-        context = context-at start s;
+        context = context-at source held;
         room = record { space = rw same (omega (arith, room .events)); few = rw same (omega (arith, room .variables)) };
       }
 

@@ -11,9 +11,9 @@ ghost use mathlib.Core.Path.{_≡_};
 ghost use mathlib.Core.List.{map};
 ghost use Prim.Native.Nat.{_≤_};
 ghost use lib.ListN.{length, getD, drop};
-ghost use Rattle.definitions.specs.ContractFile.{byteAt, nodesAt};
+ghost use Rattle.definitions.specs.ContractFile.{byteAt};
 ghost use Rattle.definitions.specs.Ledger.{allFit};
-ghost use Rattle.file_accepted.specs.Context.{Context, parametersIn, scopeIn};
+ghost use Rattle.file_accepted.specs.Context.{Context, parametersIn, scopeIn, Source};
 ghost use Rattle.ledger_contents.specs.Contents.{contentsOf};
 ghost use Rattle.ledger_circuits.specs.Circuits.{addressFrom};
 ghost use Rattle.write_function_room.specs.Functions.{writtenIn, FunctionRoom};
@@ -51,13 +51,13 @@ fn openings_fit(file: &[u8], function_at: usize, addresses: &[u32], flat: &[u32]
 fn log_fits(
     file: &[u8],
     function_at: usize,
-    nodes_at: usize,
+    source: &[u16],
     log: &[u16],
     addresses: &[u32],
     from: usize,
     flat: &[u32],
 ) -> bool
-    requires { ⌜ Context (now file) «function_at» «nodes_at» ⌝ }
+    requires { ⌜ Context (now file) «function_at» (now source) ⌝ }
     requires { ⌜ (from ≤ 1024) × (length (now log) ≤ 7680) ⌝ }
     ensures { λ r. ⌜ r ≡ allFit fitsOrZero (loggedForms (now (file .entry)) «function_at» (now (addresses .entry)) (now (log .entry)))
         (drop from (contentsOf (now (flat .entry)))) ⌝ }
@@ -69,7 +69,7 @@ fn log_fits(
         if tag == CLAIM_LOGGED {
             i += 5;
         } else {
-            let code = entry_type(file, function_at, nodes_at, tag, log[i + 3] as usize);
+            let code = entry_type(file, function_at, source, tag, log[i + 3] as usize);
             let reader = code_reader(addresses, log[i + 2] as usize);
             if variable_fits_at(flat, p, code, reader) {
                 p += 1;
@@ -93,11 +93,11 @@ fn empty_log() -> [u16; 7680]
 pub fn variables_fit(
     file: &[u8],
     function_at: usize,
-    nodes_at: usize,
+    source: &[u16],
     addresses: &[u32],
     flat: &[u32],
 ) -> bool
-    requires { ⌜ (FunctionRoom (now file) «function_at» 0 0) × («nodes_at» ≡ nodesAt (now file)) ⌝ }
+    requires { ⌜ (FunctionRoom (now file) «function_at» 0 0) × (Source (now file) (now source)) ⌝ }
     ensures { λ r. ⌜ r ≡ allFit fitsOrZero
         (map (variableForm (scopeIn (now (file .entry)) «function_at») (addressFrom (now (addresses .entry))))
         ((writtenIn (now (file .entry)) «function_at») .variables))
@@ -107,12 +107,12 @@ pub fn variables_fit(
         let count = byte_at(file, function_at);
         let private = count_private(file, function_at + 1, count);
         let mut log = empty_log();
-        let end = function_log(file, function_at, nodes_at, private, &mut log[..]);
+        let end = function_log(file, function_at, source, private, &mut log[..]);
         let logged = end.at;
         log_fits(
             file,
             function_at,
-            nodes_at,
+            source,
             &log[..logged],
             addresses,
             private,

@@ -1,6 +1,6 @@
 // The data types of expressions, read from the file.
 use file_bytes::byte_at;
-use file_bytes::node_at;
+use file_decoded::node_at;
 use file_kinds::ADDRESS;
 use file_kinds::BOOL;
 use file_kinds::CONSTANT;
@@ -58,11 +58,11 @@ fn operator_type(code: usize) -> usize
 }
 
 // The type code of node n.
-pub fn type_code(file: &[u8], function_at: usize, nodes_at: usize, n: usize) -> usize
-    requires { ⌜ (n < nodeCount (now file)) × (Context (now file) «function_at» «nodes_at») ⌝ }
+pub fn type_code(file: &[u8], function_at: usize, source: &[u16], n: usize) -> usize
+    requires { ⌜ (n < nodeCount (now file)) × (Context (now file) «function_at» (now source)) ⌝ }
     ensures { λ r. ⌜ dataTypeOf r ≡ typeOf (scopeIn (now (file .entry)) «function_at») (expressionIn (nodesIn (now (file .entry))) n) ⌝ }
 {
-    let node = node_at(file, nodes_at, n);
+    let node = node_at(source, n);
     let kind = node.kind;
     match kind {
         CONSTANT => node.arg,
@@ -71,7 +71,7 @@ pub fn type_code(file: &[u8], function_at: usize, nodes_at: usize, n: usize) -> 
         PARAMETER => parameter_type(file, function_at, node.arg),
         OPERATOR => operator_type(node.arg),
         NOT => BOOL,
-        REVEAL => type_code(file, function_at, nodes_at, node.first),
+        REVEAL => type_code(file, function_at, source, node.first),
         _ => ADDRESS,
     }
 }

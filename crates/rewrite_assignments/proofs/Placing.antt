@@ -23,7 +23,7 @@ and-false : (b : Bool) → b && false ≡ false
 and-false true = refl
 and-false false = refl
 
-module _ (file : List ℕ) (functionStart nodesStart guard n code : ℕ) where
+module _ (file : List ℕ) (functionStart : ℕ) (source : List ℕ) (guard n code : ℕ) where
   open-place : code ≡ 0 → (o : Owner) → ownerCode o ≡ code → placeOf file functionStart guard n o ≡ bodyOf file functionStart guard n
   open-place z o is =
       place-is (scopeIn file functionStart) (guardOf guard) o (nodeExpression file n)
@@ -41,20 +41,20 @@ module _ (file : List ℕ) (functionStart nodesStart guard n code : ℕ) where
   private-value private o is =
       place-is (scopeIn file functionStart) (guardOf guard) o (nodeExpression file n) ∙ pick-false _ _ _ (ap (λ (b : Bool). b && not (isEveryone o)) private)
 
-  module _ (before : List ℕ) (p : Position) (ready : ReadyToPlace file functionStart nodesStart n guard code before p) where
-    pub open-ready : code ≡ 0 → Ready file functionStart nodesStart n before p (bodyOf file functionStart guard n)
-    open-ready z = ready-same file functionStart nodesStart n before p _ _ (open-place z (ready .owner) (ready .is)) (ready .ready)
+  module _ (before : List ℕ) (p : Position) (ready : ReadyToPlace file functionStart source n guard code before p) where
+    pub open-ready : code ≡ 0 → Ready file functionStart source n before p (bodyOf file functionStart guard n)
+    open-ready z = ready-same file functionStart source n before p _ _ (open-place z (ready .owner) (ready .is)) (ready .ready)
 
-    pub value-ready : isPublic (scopeIn file functionStart) (nodeExpression file n) ≡ false → Ready file functionStart nodesStart n before p (bodyOf file functionStart guard n)
-    value-ready private = ready-same file functionStart nodesStart n before p _ _ (private-value private (ready .owner) (ready .is)) (ready .ready)
+    pub value-ready : isPublic (scopeIn file functionStart) (nodeExpression file n) ≡ false → Ready file functionStart source n before p (bodyOf file functionStart guard n)
+    value-ready private = ready-same file functionStart source n before p _ _ (private-value private (ready .owner) (ready .is)) (ready .ready)
 
-    pub public-ready : (code ≡ 0 → ⊥) → isPublic (scopeIn file functionStart) (nodeExpression file n) ≡ true → ReadyToSupply file functionStart nodesStart n guard code before p
+    pub public-ready : (code ≡ 0 → ⊥) → isPublic (scopeIn file functionStart) (nodeExpression file n) ≡ true → ReadyToSupply file functionStart source n guard code before p
     public-ready z public =
         record {
           owner = ready .owner;
           is = ready .is;
           small = ready .small;
-          ready = ready-same file functionStart nodesStart n before p _ _ (private-place z public (ready .owner) (ready .is)) (ready .ready);
+          ready = ready-same file functionStart source n before p _ _ (private-place z public (ready .owner) (ready .is)) (ready .ready);
         }
 
   module _ (before after : List ℕ) (p r : Position) where
@@ -70,12 +70,12 @@ module _ (file : List ℕ) (functionStart nodesStart guard n code : ℕ) where
     public-placed z public h = record { for = λ o is. logged-same file before after p r _ _ (sym (private-place z public o is)) (h .for o is) }
 
 -- Assignments: the owner of the place, from the codes that are read of the file.
-module _ (file : List ℕ) (functionStart nodesStart guard f : ℕ) (declared : ℕ) (read : declared ≡ fieldOwnerCode ((fieldAt (fieldsIn file) f) .owner)) (code : ℕ) (small : code < 256) where
+module _ (file : List ℕ) (functionStart : ℕ) (source : List ℕ) (guard f : ℕ) (declared : ℕ) (read : declared ≡ fieldOwnerCode ((fieldAt (fieldsIn file) f) .owner)) (code : ℕ) (small : code < 256) where
   module _ (n : ℕ) (is : code ≡ placeCode declared 0) (before : List ℕ) (p : Position) where
     field-code : ownerCode (placeOwner ((fieldAt (fieldsIn file) f) .owner) none) ≡ code
     field-code = place-code ((fieldAt (fieldsIn file) f) .owner) none ∙ ap (λ (x : ℕ). placeCode x 0) (sym read) ∙ sym is
 
-    pub field-ready : Ready file functionStart nodesStart n before p (assignFieldOf file functionStart guard f n) → ReadyToPlace file functionStart nodesStart n guard code before p
+    pub field-ready : Ready file functionStart source n before p (assignFieldOf file functionStart guard f n) → ReadyToPlace file functionStart source n guard code before p
     field-ready h = record { owner = placeOwner ((fieldAt (fieldsIn file) f) .owner) none; is = field-code; small = small; ready = h }
 
     pub field-logged : (after : List ℕ) (r : Position) → Placed file functionStart guard n code before after p r
@@ -83,7 +83,7 @@ module _ (file : List ℕ) (functionStart nodesStart guard f : ℕ) (declared : 
     field-logged after r h = h .for (placeOwner ((fieldAt (fieldsIn file) f) .owner) none) field-code
 
   module _ (key value name : ℕ) (named : name ≡ nameCode (nameOf (scopeIn file functionStart) (nodeExpression file key))) (is : code ≡ placeCode declared name)
-      (inside : value < nodeCount file) (before : List ℕ) (p : Position) (ready : Ready file functionStart nodesStart key before p (assignEntryOf file functionStart guard f key value)) where
+      (inside : value < nodeCount file) (before : List ℕ) (p : Position) (ready : Ready file functionStart source key before p (assignEntryOf file functionStart guard f key value)) where
     abbrev entryOwner : Owner
     entryOwner = placeOwner ((fieldAt (fieldsIn file) f) .owner) (nameOf (scopeIn file functionStart) (nodeExpression file key))
 
@@ -92,12 +92,12 @@ module _ (file : List ℕ) (functionStart nodesStart guard f : ℕ) (declared : 
         place-code ((fieldAt (fieldsIn file) f) .owner) (nameOf (scopeIn file functionStart) (nodeExpression file key))
         ∙ ap₂ (λ (x y : ℕ). placeCode x y) (sym read) (sym named) ∙ sym is
 
-    pub key-ready : Ready file functionStart nodesStart key before p (bodyOf file functionStart guard key)
+    pub key-ready : Ready file functionStart source key before p (bodyOf file functionStart guard key)
     key-ready =
         record { inside = ready .inside; context = ready .context; room = turn-first (nodesIn file) before before p p (bodyOf file functionStart guard key) (placeOf file functionStart guard value entryOwner) (ready .room) }
 
     module _ (middle : List ℕ) (q : Position) (logged : Logged (nodesIn file) before middle p q (bodyOf file functionStart guard key (p .variable))) where
-      pub entry-ready : ReadyToPlace file functionStart nodesStart value guard code middle q
+      pub entry-ready : ReadyToPlace file functionStart source value guard code middle q
       entry-ready =
           record {
             owner = entryOwner;

@@ -30,11 +30,11 @@ abbrev pub branchOf : List ℕ → ℕ → ℕ → Events
 branchOf file functionStart n = branchEvents (statementEvents (scopeIn file functionStart) (statementIn (nodesIn file) n))
 
 -- A value that is put into a place, of whose owner the code alone is known.
-pub record ReadyToPlace (file : List ℕ) (functionStart nodesStart n guard code : ℕ) (log : List ℕ) (p : Position) : Type 0 where
+pub record ReadyToPlace (file : List ℕ) (functionStart : ℕ) (source : List ℕ) (n guard code : ℕ) (log : List ℕ) (p : Position) : Type 0 where
   pub owner : Owner
   pub is : ownerCode owner ≡ code
   pub small : code < 256
-  pub ready : Ready file functionStart nodesStart n log p (placeOf file functionStart guard n owner)
+  pub ready : Ready file functionStart source n log p (placeOf file functionStart guard n owner)
 
 pub record Placed (file : List ℕ) (functionStart guard n code : ℕ) (before after : List ℕ) (p r : Position) : Type 0 where
   pub for : (o : Owner) → ownerCode o ≡ code → Logged (nodesIn file) before after p r (placeOf file functionStart guard n o (p .variable))

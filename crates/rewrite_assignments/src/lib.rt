@@ -17,30 +17,30 @@ ghost use Rattle.rewrite_assignments.specs.Placing.{assignFieldOf, assig
 pub fn place_log(
     file: &[u8],
     function_at: usize,
-    nodes_at: usize,
+    source: &[u16],
     n: usize,
     owner: usize,
     guard: u16,
     log: &mut [u16],
     p: Position,
 ) -> Position
-    requires { ⌜ ReadyToPlace (now file) «function_at» «nodes_at» n guard owner (now log) p ⌝ }
+    requires { ⌜ ReadyToPlace (now file) «function_at» (now source) n guard owner (now log) p ⌝ }
     ensures { λ r. ⌜ Placed (now (file .entry)) «function_at» guard n owner (now (log .entry)) (now (log .exit)) p r ⌝ }
 {
     if owner == 0 {
-        return body_log(file, function_at, nodes_at, n, guard, log, p);
+        return body_log(file, function_at, source, n, guard, log, p);
     }
-    if is_public(file, function_at, nodes_at, n) {
-        return supply_log(file, function_at, nodes_at, n, owner, guard, log, p);
+    if is_public(file, function_at, source, n) {
+        return supply_log(file, function_at, source, n, owner, guard, log, p);
     }
-    body_log(file, function_at, nodes_at, n, guard, log, p)
+    body_log(file, function_at, source, n, guard, log, p)
 }
 
 // Field f takes node n.
 pub fn assign_field_log(
     file: &[u8],
     function_at: usize,
-    nodes_at: usize,
+    source: &[u16],
     f: usize,
     n: usize,
     guard: u16,
@@ -48,19 +48,19 @@ pub fn assign_field_log(
     p: Position,
 ) -> Position
     requires { ⌜ (f ≤ 255)
-        × (Ready (now file) «function_at» «nodes_at» n (now log) p (assignFieldOf (now file) «function_at» guard f n)) ⌝ }
+        × (Ready (now file) «function_at» (now source) n (now log) p (assignFieldOf (now file) «function_at» guard f n)) ⌝ }
     ensures { λ r. ⌜ Logged (nodesIn (now (file .entry))) (now (log .entry)) (now (log .exit)) p r
         (assignFieldOf (now (file .entry)) «function_at» guard f n (p .variable)) ⌝ }
 {
     let owner = place_code(field_owner(file, f), 0) as usize;
-    place_log(file, function_at, nodes_at, n, owner, guard, log, p)
+    place_log(file, function_at, source, n, owner, guard, log, p)
 }
 
 // The entry of mapping f at a key takes a value.
 pub fn assign_entry_log(
     file: &[u8],
     function_at: usize,
-    nodes_at: usize,
+    source: &[u16],
     f: usize,
     key: usize,
     value: usize,
@@ -69,13 +69,13 @@ pub fn assign_entry_log(
     p: Position,
 ) -> Position
     requires { ⌜ ((f ≤ 255) × (value < nodeCount (now file)))
-        × (Ready (now file) «function_at» «nodes_at» key (now log) p (assignEntryOf (now file) «function_at» guard f key value)) ⌝ }
+        × (Ready (now file) «function_at» (now source) key (now log) p (assignEntryOf (now file) «function_at» guard f key value)) ⌝ }
     ensures { λ r. ⌜ Logged (nodesIn (now (file .entry))) (now (log .entry)) (now (log .exit)) p r
         (assignEntryOf (now (file .entry)) «function_at» guard f key value (p .variable)) ⌝ }
 {
     let declared = field_owner(file, f);
-    let name = name_code(file, function_at, nodes_at, key);
+    let name = name_code(file, function_at, source, key);
     let owner = place_code(declared, name) as usize;
-    let q = body_log(file, function_at, nodes_at, key, guard, log, p);
-    place_log(file, function_at, nodes_at, value, owner, guard, log, q)
+    let q = body_log(file, function_at, source, key, guard, log, p);
+    place_log(file, function_at, source, value, owner, guard, log, q)
 }

@@ -13,7 +13,7 @@ use Rattle.theory_laws.proofs.TruthValues.{and-left, and-right}
 use Rattle.theory_trees.specs.Trees.{statementIn, Keeps}
 use Rattle.theory_trees.proofs.Kept.{statement-kept}
 use Rattle.rewrite_events.specs.Events.{statementEvents}
-use Rattle.file_accepted.specs.Context.{nodesIn, scopeIn, fieldRecordAt, Context}
+use Rattle.file_accepted.specs.Context.{nodesIn, scopeIn, fieldRecordAt, Known}
 use Rattle.file_accepted.proofs.Declarations.{field-declared, field-missing, parameter-missing}
 use Rattle.file_accepted.proofs.Nodes.{nodes-keep}
 use Rattle.rewrite_event_owners.specs.Listed.{Listed, ownersListed}
@@ -88,7 +88,7 @@ below-or-not {A} n count inside past = go (ltb n count) refl
     go true e = inside (ltb-true n count e)
     go false e = past (ltb-false n count e)
 
-module _ (file : List ℕ) (at : ℕ) (context : Context file at (nodesAt file)) where
+module _ (file : List ℕ) (at : ℕ) (context : Known file at) where
   targets-listed : (levels n : ℕ) → targetsListedIn (statementAt levels (nodesIn file) n)
   unfolding targetsListed targetsListedIn
   targets-listed =

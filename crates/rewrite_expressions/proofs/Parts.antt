@@ -18,8 +18,8 @@ use Rattle.rewrite_plans.specs.declared.Parts.{Parts}
 use Rattle.rewrite_plans.specs.Plans.{nodeExpression, PartsOf}
 use Rattle.rewrite_expressions.specs.Translations.{Ready}
 
-module _ (rule : Expression → Events) (file : List ℕ) (functionStart nodesStart n : ℕ) (parts : Parts) (found : PartsOf file n parts) (before : List ℕ) (p : Position)
-    (ready : Ready file functionStart nodesStart n before p (eachPart rule (nodeExpression file n))) where
+module _ (rule : Expression → Events) (file : List ℕ) (functionStart : ℕ) (source : List ℕ) (n : ℕ) (parts : Parts) (found : PartsOf file n parts) (before : List ℕ) (p : Position)
+    (ready : Ready file functionStart source n before p (eachPart rule (nodeExpression file n))) where
   abbrev whole : Events
   whole = eachPart rule (nodeExpression file n)
 
@@ -51,7 +51,7 @@ module _ (rule : Expression → Events) (file : List ℕ) (functionStart nodesSt
     pub first-below : parts .first < n
     first-below = found .first (omega arith)
 
-    pub first-ready : Ready file functionStart nodesStart (parts .first) before p firstOf
+    pub first-ready : Ready file functionStart source (parts .first) before p firstOf
     first-ready =
         let less = first-below in
         record { inside = omega (arith, ready .inside); context = ready .context; room = first-room (eqb (parts .count) 1) refl }
@@ -70,7 +70,7 @@ module _ (rule : Expression → Events) (file : List ℕ) (functionStart nodesSt
         pub second-below : parts .second < n
         second-below = found .second two-parts
 
-        pub second-ready : Ready file functionStart nodesStart (parts .second) middle q secondOf
+        pub second-ready : Ready file functionStart source (parts .second) middle q secondOf
         second-ready =
             let less = second-below in
             record {

@@ -30,16 +30,16 @@ pub node-known : (file : List ℕ) (n : ℕ) → n < nodeCount file → n < leng
 unfolding nodesIn
 node-known file n h = omega (arith, length-map ((sectionsOf file) .nodes) nodeOf, count-of-nodes file)
 
-module _ (file : List ℕ) (functionStart nodesStart n : ℕ) (log : List ℕ) (p : Position) where
-  pub ready-same : (a b : Events) → a ≡ b → Ready file functionStart nodesStart n log p a → Ready file functionStart nodesStart n log p b
-  ready-same a b e h = subst (λ (x : Events). Ready file functionStart nodesStart n log p x) e h
+module _ (file : List ℕ) (functionStart : ℕ) (source : List ℕ) (n : ℕ) (log : List ℕ) (p : Position) where
+  pub ready-same : (a b : Events) → a ≡ b → Ready file functionStart source n log p a → Ready file functionStart source n log p b
+  ready-same a b e h = subst (λ (x : Events). Ready file functionStart source n log p x) e h
 
 pub logged-same : (file before after : List ℕ) (p r : Position) (a b : Events) → a ≡ b → Logged (nodesIn file) before after p r (a (p .variable))
     → Logged (nodesIn file) before after p r (b (p .variable))
 logged-same file before after p r a b e h = subst (λ (x : Events). Logged (nodesIn file) before after p r (x (p .variable))) e h
 
 -- In the body.
-module _ (file : List ℕ) (functionStart nodesStart guard n code : ℕ) (found : SuppliedCode (scopeIn file functionStart) (nodeExpression file n) code) where
+module _ (file : List ℕ) (functionStart : ℕ) (source : List ℕ) (guard n code : ℕ) (found : SuppliedCode (scopeIn file functionStart) (nodeExpression file n) code) where
   body-kept : code ≡ 0 → bodyOf file functionStart guard n ≡ bodyPartsOf file functionStart guard n
   body-kept z =
       body-is (scopeIn file functionStart) (guardOf guard) (nodeExpression file n)
@@ -54,18 +54,18 @@ module _ (file : List ℕ) (functionStart nodesStart guard n code : ℕ) (found 
   supplied-code z = let some : 0 < code = omega arith in omega (arith, found .owner some)
 
   module _ (before : List ℕ) (p : Position) where
-    pub kept-ready : code ≡ 0 → Ready file functionStart nodesStart n before p (bodyOf file functionStart guard n)
-        → Ready file functionStart nodesStart n before p (bodyPartsOf file functionStart guard n)
-    kept-ready z h = ready-same file functionStart nodesStart n before p _ _ (body-kept z) h
+    pub kept-ready : code ≡ 0 → Ready file functionStart source n before p (bodyOf file functionStart guard n)
+        → Ready file functionStart source n before p (bodyPartsOf file functionStart guard n)
+    kept-ready z h = ready-same file functionStart source n before p _ _ (body-kept z) h
 
-    pub supplied-ready : (code ≡ 0 → ⊥) → Ready file functionStart nodesStart n before p (bodyOf file functionStart guard n)
-        → ReadyToSupply file functionStart nodesStart n guard (code - 1) before p
+    pub supplied-ready : (code ≡ 0 → ⊥) → Ready file functionStart source n before p (bodyOf file functionStart guard n)
+        → ReadyToSupply file functionStart source n guard (code - 1) before p
     supplied-ready z h =
         record {
           owner = suppliedFor (nodeExpression file n);
           is = supplied-code z;
           small = omega (arith, found .small);
-          ready = ready-same file functionStart nodesStart n before p _ _ (body-supplied z) h;
+          ready = ready-same file functionStart source n before p _ _ (body-supplied z) h;
         }
 
     pub kept-logged : (after : List ℕ) (r : Position) → code ≡ 0 → Logged (nodesIn file) before after p r (bodyPartsOf file functionStart guard n (p .variable))
@@ -77,7 +77,7 @@ module _ (file : List ℕ) (functionStart nodesStart guard n code : ℕ) (found 
     supplied-logged after r z h = logged-same file before after p r _ _ (sym (body-supplied z)) (h .for (suppliedFor (nodeExpression file n)) (supplied-code z))
 
 -- In a circuit.
-module _ (file : List ℕ) (functionStart nodesStart guard n code : ℕ) (found : ReadCode (scopeIn file functionStart) (nodeExpression file n) code) where
+module _ (file : List ℕ) (functionStart : ℕ) (source : List ℕ) (guard n code : ℕ) (found : ReadCode (scopeIn file functionStart) (nodeExpression file n) code) where
   abbrev owner : Owner
   owner = ownerOf (scopeIn file functionStart) (nodeExpression file n)
 
@@ -95,19 +95,19 @@ module _ (file : List ℕ) (functionStart nodesStart guard n code : ℕ) (found 
   read-code z = let some : 0 < code = omega arith in omega (arith, found .owner some)
 
   module _ (before : List ℕ) (p : Position) where
-    pub circuit-ready : code ≡ 0 → Ready file functionStart nodesStart n before p (circuitOf file functionStart guard n)
-        → Ready file functionStart nodesStart n before p (circuitPartsOf file functionStart guard n)
-    circuit-ready z h = ready-same file functionStart nodesStart n before p _ _ (circuit-kept z) h
+    pub circuit-ready : code ≡ 0 → Ready file functionStart source n before p (circuitOf file functionStart guard n)
+        → Ready file functionStart source n before p (circuitPartsOf file functionStart guard n)
+    circuit-ready z h = ready-same file functionStart source n before p _ _ (circuit-kept z) h
 
     pub circuit-logged : (after : List ℕ) (r : Position) → code ≡ 0 → Logged (nodesIn file) before after p r (circuitPartsOf file functionStart guard n (p .variable))
         → Logged (nodesIn file) before after p r (circuitOf file functionStart guard n (p .variable))
     circuit-logged after r z h = logged-same file before after p r _ _ (sym (circuit-kept z)) h
 
-    module _ (z : code ≡ 0 → ⊥) (ready : Ready file functionStart nodesStart n before p (circuitOf file functionStart guard n)) where
-      as-read : Ready file functionStart nodesStart n before p (readEvents owner (nodeExpression file n) (bodyPartsOf file functionStart guard n))
-      as-read = ready-same file functionStart nodesStart n before p _ _ (circuit-read z) ready
+    module _ (z : code ≡ 0 → ⊥) (ready : Ready file functionStart source n before p (circuitOf file functionStart guard n)) where
+      as-read : Ready file functionStart source n before p (readEvents owner (nodeExpression file n) (bodyPartsOf file functionStart guard n))
+      as-read = ready-same file functionStart source n before p _ _ (circuit-read z) ready
 
-      pub read-ready : Ready file functionStart nodesStart n before p (bodyPartsOf file functionStart guard n)
+      pub read-ready : Ready file functionStart source n before p (bodyPartsOf file functionStart guard n)
       read-ready =
           record {
             inside = ready .inside;

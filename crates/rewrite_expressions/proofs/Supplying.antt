@@ -36,8 +36,8 @@ supply-room log p g o other e circuit i room =
       few = omega (arith, room .few, supply-count g o e circuit i, supply-count g other e circuit i);
     }
 
-module _ (file : List ℕ) (functionStart nodesStart n guard code : ℕ) (small : guard < 65536) (before : List ℕ) (p : Position)
-    (ready : ReadyToSupply file functionStart nodesStart n guard code before p) where
+module _ (file : List ℕ) (functionStart : ℕ) (source : List ℕ) (n guard code : ℕ) (small : guard < 65536) (before : List ℕ) (p : Position)
+    (ready : ReadyToSupply file functionStart source n guard code before p) where
   any-room : (o : Owner) → Room before p (supplyOf file functionStart guard n o (p .variable))
   any-room o = supply-room before p (guardOf guard) (ready .owner) o (nodeExpression file n) (circuitOf file functionStart guard n) (p .variable) (ready .ready .room)
 
@@ -56,7 +56,7 @@ module _ (file : List ℕ) (functionStart nodesStart n guard code : ℕ) (small 
       }
 
   module _ (first : List ℕ) (q : Position) (wrote : Wrote before first p q (five 0 (p .variable) code n 0) 1) where
-    pub inside-ready : Ready file functionStart nodesStart n first q (circuitOf file functionStart guard n)
+    pub inside-ready : Ready file functionStart source n first q (circuitOf file functionStart guard n)
     inside-ready =
         record {
           inside = ready .ready .inside;

@@ -33,17 +33,17 @@ module _ (file : List ℕ) (functionStart guard n : ℕ) where
   statementOf = statementEvents (scopeIn file functionStart) (statementIn (nodesIn file) n) (guardOf guard)
 
 -- What a function that logs events of node n may rely on.
-pub record Ready (file : List ℕ) (functionStart nodesStart n : ℕ) (log : List ℕ) (p : Position) (events : Events) : Type 0 where
+pub record Ready (file : List ℕ) (functionStart : ℕ) (source : List ℕ) (n : ℕ) (log : List ℕ) (p : Position) (events : Events) : Type 0 where
   pub inside : n < nodeCount file
-  pub context : Context file functionStart nodesStart
+  pub context : Context file functionStart source
   pub room : Room log p (events (p .variable))
 
 -- The same for what is supplied, for an owner of whom the code alone is known.
-pub record ReadyToSupply (file : List ℕ) (functionStart nodesStart n guard code : ℕ) (log : List ℕ) (p : Position) : Type 0 where
+pub record ReadyToSupply (file : List ℕ) (functionStart : ℕ) (source : List ℕ) (n guard code : ℕ) (log : List ℕ) (p : Position) : Type 0 where
   pub owner : Owner
   pub is : ownerCode owner ≡ code
   pub small : code < 256
-  pub ready : Ready file functionStart nodesStart n log p (supplyOf file functionStart guard n owner)
+  pub ready : Ready file functionStart source n log p (supplyOf file functionStart guard n owner)
 
 pub record Supplied (file : List ℕ) (functionStart guard n code : ℕ) (before after : List ℕ) (p r : Position) : Type 0 where
   pub for : (o : Owner) → ownerCode o ≡ code → Logged (nodesIn file) before after p r (supplyOf file functionStart guard n o (p .variable))

@@ -18,21 +18,21 @@ ghost use Rattle.rewrite_expressions.specs.Translations.{Supplied};
 pub fn body_log(
     file: &[u8],
     function_at: usize,
-    nodes_at: usize,
+    source: &[u16],
     n: usize,
     guard: u16,
     log: &mut [u16],
     p: Position,
 ) -> Position
-    requires { ⌜ Ready (now file) «function_at» «nodes_at» n (now log) p (bodyOf (now file) «function_at» guard n) ⌝ }
+    requires { ⌜ Ready (now file) «function_at» (now source) n (now log) p (bodyOf (now file) «function_at» guard n) ⌝ }
     ensures { λ r. ⌜ Logged (nodesIn (now (file .entry))) (now (log .entry)) (now (log .exit)) p r
         (bodyOf (now (file .entry)) «function_at» guard n (p .variable)) ⌝ }
 {
-    let code = supplied_code(file, function_at, nodes_at, n);
+    let code = supplied_code(file, function_at, source, n);
     if code == 0 {
-        body_parts_log(file, function_at, nodes_at, n, guard, log, p)
+        body_parts_log(file, function_at, source, n, guard, log, p)
     } else {
-        supply_log(file, function_at, nodes_at, n, code - 1, guard, log, p)
+        supply_log(file, function_at, source, n, code - 1, guard, log, p)
     }
 }
 
@@ -40,39 +40,39 @@ pub fn body_log(
 fn body_parts_log(
     file: &[u8],
     function_at: usize,
-    nodes_at: usize,
+    source: &[u16],
     n: usize,
     guard: u16,
     log: &mut [u16],
     p: Position,
 ) -> Position
-    requires { ⌜ Ready (now file) «function_at» «nodes_at» n (now log) p (bodyPartsOf (now file) «function_at» guard n) ⌝ }
+    requires { ⌜ Ready (now file) «function_at» (now source) n (now log) p (bodyPartsOf (now file) «function_at» guard n) ⌝ }
     ensures { λ r. ⌜ Logged (nodesIn (now (file .entry))) (now (log .entry)) (now (log .exit)) p r
         (bodyPartsOf (now (file .entry)) «function_at» guard n (p .variable)) ⌝ }
 {
-    let parts = parts_of(file, function_at, nodes_at, n);
+    let parts = parts_of(file, function_at, source, n);
     if parts.count == 0 {
         return p;
     }
-    let q = body_log(file, function_at, nodes_at, parts.first, guard, log, p);
+    let q = body_log(file, function_at, source, parts.first, guard, log, p);
     if parts.count == 1 {
         return q;
     }
-    body_log(file, function_at, nodes_at, parts.second, guard, log, q)
+    body_log(file, function_at, source, parts.second, guard, log, q)
 }
 
 // "Supplying makes the variable, then turns its expression into circuit form, then adds a constraint."
 pub fn supply_log(
     file: &[u8],
     function_at: usize,
-    nodes_at: usize,
+    source: &[u16],
     n: usize,
     owner: usize,
     guard: u16,
     log: &mut [u16],
     p: Position,
 ) -> Position
-    requires { ⌜ ReadyToSupply (now file) «function_at» «nodes_at» n guard owner (now log) p ⌝ }
+    requires { ⌜ ReadyToSupply (now file) «function_at» (now source) n guard owner (now log) p ⌝ }
     ensures { λ r. ⌜ Supplied (now (file .entry)) «function_at» guard n owner (now (log .entry)) (now (log .exit)) p r ⌝ }
 {
     let variable = p.variable;
@@ -84,7 +84,7 @@ pub fn supply_log(
         last: 0,
     };
     let q = log_entry(log, p, supplied, 1);
-    let r = circuit_log(file, function_at, nodes_at, n, guard, log, q);
+    let r = circuit_log(file, function_at, source, n, guard, log, q);
     let claimed = Entry {
         tag: CLAIM_EVENT,
         variable: variable,
@@ -99,22 +99,22 @@ pub fn supply_log(
 fn circuit_log(
     file: &[u8],
     function_at: usize,
-    nodes_at: usize,
+    source: &[u16],
     n: usize,
     guard: u16,
     log: &mut [u16],
     p: Position,
 ) -> Position
-    requires { ⌜ Ready (now file) «function_at» «nodes_at» n (now log) p (circuitOf (now file) «function_at» guard n) ⌝ }
+    requires { ⌜ Ready (now file) «function_at» (now source) n (now log) p (circuitOf (now file) «function_at» guard n) ⌝ }
     ensures { λ r. ⌜ Logged (nodesIn (now (file .entry))) (now (log .entry)) (now (log .exit)) p r
         (circuitOf (now (file .entry)) «function_at» guard n (p .variable)) ⌝ }
 {
-    let code = read_code(file, function_at, nodes_at, n);
+    let code = read_code(file, function_at, source, n);
     if code == 0 {
-        circuit_parts_log(file, function_at, nodes_at, n, guard, log, p)
+        circuit_parts_log(file, function_at, source, n, guard, log, p)
     } else {
         let start = p.variable;
-        let q = body_parts_log(file, function_at, nodes_at, n, guard, log, p);
+        let q = body_parts_log(file, function_at, source, n, guard, log, p);
         let read = Entry {
             tag: READ_EVENT,
             variable: q.variable,
@@ -130,23 +130,23 @@ fn circuit_log(
 fn circuit_parts_log(
     file: &[u8],
     function_at: usize,
-    nodes_at: usize,
+    source: &[u16],
     n: usize,
     guard: u16,
     log: &mut [u16],
     p: Position,
 ) -> Position
-    requires { ⌜ Ready (now file) «function_at» «nodes_at» n (now log) p (circuitPartsOf (now file) «function_at» guard n) ⌝ }
+    requires { ⌜ Ready (now file) «function_at» (now source) n (now log) p (circuitPartsOf (now file) «function_at» guard n) ⌝ }
     ensures { λ r. ⌜ Logged (nodesIn (now (file .entry))) (now (log .entry)) (now (log .exit)) p r
         (circuitPartsOf (now (file .entry)) «function_at» guard n (p .variable)) ⌝ }
 {
-    let parts = parts_of(file, function_at, nodes_at, n);
+    let parts = parts_of(file, function_at, source, n);
     if parts.count == 0 {
         return p;
     }
-    let q = circuit_log(file, function_at, nodes_at, parts.first, guard, log, p);
+    let q = circuit_log(file, function_at, source, parts.first, guard, log, p);
     if parts.count == 1 {
         return q;
     }
-    circuit_log(file, function_at, nodes_at, parts.second, guard, log, q)
+    circuit_log(file, function_at, source, parts.second, guard, log, q)
 }

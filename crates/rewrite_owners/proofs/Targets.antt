@@ -9,10 +9,11 @@ use Rattle.definitions.specs.Numbers.{kindInTables, targetInTables}
 use Rattle.theory_laws.proofs.TruthValues.{and-left}
 use Rattle.file_accepted.specs.Context.{Context}
 use Rattle.file_accepted.proofs.Nodes.{listed-is}
+use Rattle.file_decoded.specs.Slices.{recordAt}
 
-pub target-listed : (file : List ℕ) (functionStart nodesStart : ℕ) (context : Context file functionStart nodesStart) (n : ℕ) (inside : n < nodeCount file) (r : NodeRecord)
-    (same : r ≡ nodeRecord file (nodesStart + 2 + 8 * n)) → r .kind ≡ 8 → targetInTables (r .arg) ≡ true
+pub target-listed : (file : List ℕ) (functionStart : ℕ) (source : List ℕ) (context : Context file functionStart source) (n : ℕ) (inside : n < nodeCount file) (r : NodeRecord)
+    (same : r ≡ recordAt source n) → r .kind ≡ 8 → targetInTables (r .arg) ≡ true
 unfolding kindInTables kindOf
-target-listed file functionStart nodesStart context n inside r same e =
-    let h = listed-is file functionStart nodesStart context n inside r same revealKind (rw e) in
+target-listed file functionStart source context n inside r same e =
+    let h = listed-is file functionStart source context n inside r same revealKind (rw e) in
     and-left (targetInTables (r .arg)) (isZero (r .second)) (and-left (targetInTables (r .arg) && isZero (r .second)) (isZero (r .third)) h)

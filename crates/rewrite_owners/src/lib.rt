@@ -1,6 +1,6 @@
 // 01, Owners: the owner codes of fields, parameters, names and expressions, read from the file.
 use file_bytes::byte_at;
-use file_bytes::node_at;
+use file_decoded::node_at;
 use file_kinds::ADDRESS;
 use file_kinds::CONSTANT;
 use file_kinds::ENTRY;
@@ -111,11 +111,11 @@ pub fn place_code(owner: u8, key: u8) -> u8
 }
 
 // The name code of node n.
-pub fn name_code(file: &[u8], function_at: usize, nodes_at: usize, n: usize) -> u8
-    requires { ⌜ (n < nodeCount (now file)) × (Context (now file) «function_at» «nodes_at») ⌝ }
+pub fn name_code(file: &[u8], function_at: usize, source: &[u16], n: usize) -> u8
+    requires { ⌜ (n < nodeCount (now file)) × (Context (now file) «function_at» (now source)) ⌝ }
     ensures { λ r. ⌜ r ≡ nameCode (nameOf (scopeIn (now (file .entry)) «function_at») (expressionIn (nodesIn (now (file .entry))) n)) ⌝ }
 {
-    let node = node_at(file, nodes_at, n);
+    let node = node_at(source, n);
     let kind = node.kind;
     match kind {
         CONSTANT => 0,
@@ -130,35 +130,35 @@ pub fn name_code(file: &[u8], function_at: usize, nodes_at: usize, n: usize) -> 
 }
 
 // The owner code of node n.
-pub fn owner_code(file: &[u8], function_at: usize, nodes_at: usize, n: usize) -> u8
-    requires { ⌜ (n < nodeCount (now file)) × (Context (now file) «function_at» «nodes_at») ⌝ }
+pub fn owner_code(file: &[u8], function_at: usize, source: &[u16], n: usize) -> u8
+    requires { ⌜ (n < nodeCount (now file)) × (Context (now file) «function_at» (now source)) ⌝ }
     ensures { λ r. ⌜ r ≡ ownerCode (ownerOf (scopeIn (now (file .entry)) «function_at») (expressionIn (nodesIn (now (file .entry))) n)) ⌝ }
 {
-    let node = node_at(file, nodes_at, n);
+    let node = node_at(source, n);
     let kind = node.kind;
     match kind {
         CONSTANT => 0,
         FIELD => place_code(field_owner(file, node.arg), 0),
         ENTRY => place_code(
             field_owner(file, node.arg),
-            name_code(file, function_at, nodes_at, node.first),
+            name_code(file, function_at, source, node.first),
         ),
         PARAMETER => parameter_code(file, function_at, node.arg),
         OPERATOR => {
-            let left = owner_code(file, function_at, nodes_at, node.first);
-            let right = owner_code(file, function_at, nodes_at, node.second);
+            let left = owner_code(file, function_at, source, node.first);
+            let right = owner_code(file, function_at, source, node.second);
             parts_code(left, right)
         }
-        NOT => parts_code(owner_code(file, function_at, nodes_at, node.first), 0),
+        NOT => parts_code(owner_code(file, function_at, source, node.first), 0),
         REVEAL => node.arg as u8,
         _ => 0,
     }
 }
 
 // Whether node n belongs to all.
-pub fn is_public(file: &[u8], function_at: usize, nodes_at: usize, n: usize) -> bool
-    requires { ⌜ (n < nodeCount (now file)) × (Context (now file) «function_at» «nodes_at») ⌝ }
+pub fn is_public(file: &[u8], function_at: usize, source: &[u16], n: usize) -> bool
+    requires { ⌜ (n < nodeCount (now file)) × (Context (now file) «function_at» (now source)) ⌝ }
     ensures { λ r. ⌜ r ≡ isPublic (scopeIn (now (file .entry)) «function_at») (expressionIn (nodesIn (now (file .entry))) n) ⌝ }
 {
-    owner_code(file, function_at, nodes_at, n) == 0
+    owner_code(file, function_at, source, n) == 0
 }

@@ -1,12 +1,12 @@
 -- What is found of a node, by the kind of its record.
 use mathlib.Core.Path.{_≡_, refl, ap, sym, _∙_}
-use mathlib.Core.Bool.{Bool, true, false, _&&_, cond, not}
+use mathlib.Core.Bool.{Bool, true, false, _&&_, cond, not, false≢true}
 use mathlib.Core.List.{List}
 use Prim.Native.Nat.{ℕ, suc, _+_, _*_, _<_, _≤_}
 use native.Mathlib.Omega.{arith}
 use lib.Dec.{eqb}
-use borrow.Author.Tests.{eqb-true, eq-eqb, ne-eqb}
-use Rattle.definitions.specs.ContractFile.{meName, Owner, ownedBy, Operator, Expression, Scope, isEveryone, isDivision, NodeRecord, nodeCount, nodeRecord, ownerCode}
+use borrow.Author.Tests.{eq-eqb, ne-eqb}
+use Rattle.definitions.specs.ContractFile.{meName, Owner, everyone, ownedBy, Operator, Expression, Scope, isEveryone, isDivision, NodeRecord, nodeCount, nodeRecord, ownerCode}
 use Rattle.definitions.specs.Owners.{ownerOf}
 use Rattle.file_accepted.specs.Context.{Context, scopeIn}
 use Rattle.file_accepted.proofs.Nodes.{field-is, entry-is, parameter-is, operator-is, negation-is, reveal-is, key-below, part-below, revealed-below, operands-below}
@@ -15,20 +15,42 @@ use Rattle.rewrite_events.specs.Events.{Events, noEvents}
 use Rattle.rewrite_events.specs.Parts.{isSupplied, isRead, suppliedFor, eachPart}
 use Rattle.rewrite_plans.specs.Plans.{nodeExpression, SuppliedCode, ReadCode, PartsOf}
 use Rattle.rewrite_plans.proofs.Seen.{Seen, seenConstant, seenField, seenEntry, seenParameter, seenOperator, seenNegation, seenReveal, seenMe, seen}
+use Rattle.file_decoded.specs.Slices.{recordAt}
 
 never-zero : (n : ℕ) → 0 < n → eqb n 0 ≡ false
 never-zero n h = ne-eqb n 0 (λ e. absurd (omega arith))
 
--- The test of a public division.
-module _ (owner : ℕ) (division answer : Bool) (is : answer ≡ division) where
-  pub division-read : owner ≡ 0 → answer ≡ true → _≡_ {A = ℕ} 1 (cond (eqb owner 0 && division) 1 0)
-  division-read h k = rw (eq-eqb owner 0 h, ← is, k)
+everyone-code : (o : Owner) → isEveryone o ≡ true → ownerCode o ≡ 0
+everyone-code everyone h = refl
+everyone-code (ownedBy n) h = absurd (false≢true h)
 
-  pub division-not : owner ≡ 0 → answer ≡ false → _≡_ {A = ℕ} 0 (cond (eqb owner 0 && division) 1 0)
-  division-not h k = rw (eq-eqb owner 0 h, ← is, k)
+-- The test of a public division: the owner's code is asked for where the operator divides.
+module _ (division answer : Bool) (is : answer ≡ division) (scope : Scope) (e : Expression) where
+  module _ (owner : ℕ) (of : owner ≡ ownerCode (ownerOf scope e)) where
+    pub division-read : answer ≡ true → owner ≡ 0 → _≡_ {A = ℕ} 1 (cond (isEveryone (ownerOf scope e) && division) 1 0)
+    division-read k h = rw (← public-test owner (ownerOf scope e) of, eq-eqb owner 0 h, ← is, k)
 
-pub division-private : (owner : ℕ) (division : Bool) → (owner ≡ 0 → ⊥) → _≡_ {A = ℕ} 0 (cond (eqb owner 0 && division) 1 0)
-division-private owner division h = rw (ne-eqb owner 0 h)
+    pub division-private : (owner ≡ 0 → ⊥) → _≡_ {A = ℕ} 0 (cond (isEveryone (ownerOf scope e) && division) 1 0)
+    division-private h = rw (← public-test owner (ownerOf scope e) of, ne-eqb owner 0 h)
+
+  pub division-not : answer ≡ false → _≡_ {A = ℕ} 0 (cond (isEveryone (ownerOf scope e) && division) 1 0)
+  division-not k = go (isEveryone (ownerOf scope e))
+    where
+      go : (public : Bool) → _≡_ {A = ℕ} 0 (cond (public && division) 1 0)
+      go true = rw (← is, k)
+      go false = refl
+
+module _ (scope : Scope) (e : Expression) where
+  divided : (public division : Bool) → isEveryone (ownerOf scope e) ≡ public → isRead scope e ≡ public && division → ReadCode scope e (cond (public && division) 1 0)
+  divided true true t h = record { test = h; owner = λ less. omega (arith, everyone-code (ownerOf scope e) t); small = omega arith }
+  divided true false t h = record { test = h; owner = λ less. absurd (omega arith); small = omega arith }
+  divided false division t h = record { test = h; owner = λ less. absurd (omega arith); small = omega arith }
+
+  pub read-operator : (o : Operator) (left right : Expression) (code : ℕ) → e ≡ Expression.operator o left right
+      → code ≡ cond (isEveryone (ownerOf scope e) && isDivision o) 1 0 → ReadCode scope e code
+  unfolding isRead
+  read-operator o left right code h k =
+      rw k (divided (isEveryone (ownerOf scope e)) (isDivision o) refl (ap (isRead scope) h ∙ ap (λ (x : Expression). isEveryone (ownerOf scope x) && isDivision o) (sym h)))
 
 module _ (scope : Scope) (e : Expression) (owner : ℕ) (is : owner ≡ ownerCode (ownerOf scope e)) where
   public : eqb owner 0 ≡ isEveryone (ownerOf scope e)
@@ -58,27 +80,17 @@ module _ (scope : Scope) (e : Expression) (owner : ℕ) (is : owner ≡ ownerCod
   pub read-place : owner ≤ 255 → isRead scope e ≡ true → ReadCode scope e (owner + 1)
   read-place small h = record { test = h ∙ ap not (sym (never-zero (owner + 1) (omega arith))); owner = λ less. omega (arith, is); small = omega arith }
 
-  divided : (public division : Bool) → eqb owner 0 ≡ public → isRead scope e ≡ public && division → ReadCode scope e (cond (public && division) 1 0)
-  divided true true t h = let z = eqb-true owner 0 t in record { test = h; owner = λ less. omega (arith, is); small = omega arith }
-  divided true false t h = record { test = h; owner = λ less. absurd (omega arith); small = omega arith }
-  divided false division t h = record { test = h; owner = λ less. absurd (omega arith); small = omega arith }
-
-  pub read-operator : (o : Operator) (left right : Expression) (code : ℕ) → e ≡ Expression.operator o left right → code ≡ cond (eqb owner 0 && isDivision o) 1 0 → ReadCode scope e code
-  unfolding isRead
-  read-operator o left right code h k =
-      rw k (divided (eqb owner 0) (isDivision o) refl (ap (isRead scope) h ∙ ap (λ (x : Expression). isEveryone (ownerOf scope x) && isDivision o) (sym h) ∙ ap (λ (b : Bool). b && isDivision o) (sym public)))
-
 kept-code : (scope : Scope) (e : Expression) → isSupplied scope e ≡ false → SuppliedCode scope e 0
 kept-code scope e h = record { test = h; owner = λ less. absurd (omega arith); small = omega arith }
 
 unread-code : (scope : Scope) (e : Expression) → isRead scope e ≡ false → ReadCode scope e 0
 unread-code scope e h = record { test = h; owner = λ less. absurd (omega arith); small = omega arith }
 
-module _ (file : List ℕ) (functionStart nodesStart : ℕ) (context : Context file functionStart nodesStart) (n : ℕ) (inside : n < nodeCount file) (r : NodeRecord)
-    (same : r ≡ nodeRecord file (nodesStart + 2 + 8 * n)) where
+module _ (file : List ℕ) (functionStart : ℕ) (source : List ℕ) (context : Context file functionStart source) (n : ℕ) (inside : n < nodeCount file) (r : NodeRecord)
+    (same : r ≡ recordAt source n) where
   pub supplied-rest : (r .kind ≡ 6 → ⊥) → (r .kind ≡ 7 → ⊥) → (r .kind ≡ 8 → ⊥) → SuppliedCode (scopeIn file functionStart) (nodeExpression file n) 0
   unfolding isSupplied
-  supplied-rest a b c = from (seen file functionStart nodesStart context n inside r same)
+  supplied-rest a b c = from (seen file functionStart source context n inside r same)
     where
       from : Seen file n r → SuppliedCode (scopeIn file functionStart) (nodeExpression file n) 0
       from (seenConstant k e) = kept-code _ _ (rw e)
@@ -92,7 +104,7 @@ module _ (file : List ℕ) (functionStart nodesStart : ℕ) (context : Context f
 
   pub read-rest : (r .kind ≡ 3 → ⊥) → (r .kind ≡ 4 → ⊥) → (r .kind ≡ 5 → ⊥) → (r .kind ≡ 6 → ⊥) → ReadCode (scopeIn file functionStart) (nodeExpression file n) 0
   unfolding isRead
-  read-rest a b c d = from (seen file functionStart nodesStart context n inside r same)
+  read-rest a b c d = from (seen file functionStart source context n inside r same)
     where
       from : Seen file n r → ReadCode (scopeIn file functionStart) (nodeExpression file n) 0
       from (seenConstant k e) = unread-code _ _ (rw e)
@@ -118,28 +130,28 @@ module _ (file : List ℕ) (functionStart nodesStart : ℕ) (context : Context f
   pub parts-entry : r .kind ≡ 4 → PartsOf file n (record { count = 1; first = r .first; second = r .second })
   unfolding eachPart
   parts-entry k =
-      one-part (key-below file functionStart nodesStart context n inside r same k) (λ rule. ap (eachPart rule) (entry-is file functionStart nodesStart context n inside r same k))
+      one-part (key-below file functionStart source context n inside r same k) (λ rule. ap (eachPart rule) (entry-is file functionStart source context n inside r same k))
 
   pub parts-negation : r .kind ≡ 7 → PartsOf file n (record { count = 1; first = r .first; second = r .second })
   unfolding eachPart
   parts-negation k =
-      one-part (part-below file functionStart nodesStart context n inside r same k) (λ rule. ap (eachPart rule) (negation-is file functionStart nodesStart context n inside r same k))
+      one-part (part-below file functionStart source context n inside r same k) (λ rule. ap (eachPart rule) (negation-is file functionStart source context n inside r same k))
 
   pub parts-reveal : r .kind ≡ 8 → PartsOf file n (record { count = 1; first = r .first; second = r .second })
   unfolding eachPart
   parts-reveal k =
-      one-part (revealed-below file functionStart nodesStart context n inside r same k) (λ rule. ap (eachPart rule) (reveal-is file functionStart nodesStart context n inside r same k))
+      one-part (revealed-below file functionStart source context n inside r same k) (λ rule. ap (eachPart rule) (reveal-is file functionStart source context n inside r same k))
 
   pub parts-operator : r .kind ≡ 6 → PartsOf file n (record { count = 2; first = r .first; second = r .second })
   unfolding eachPart
   parts-operator k =
-      let less = operands-below file functionStart nodesStart context n inside r same k in
+      let less = operands-below file functionStart source context n inside r same k in
       record {
         first = λ some. less .0;
         second = λ more. less .1;
         none = λ empty. absurd (omega arith);
         one = λ single. absurd (omega arith);
-        two = λ more rule. ap (eachPart rule) (operator-is file functionStart nodesStart context n inside r same k);
+        two = λ more rule. ap (eachPart rule) (operator-is file functionStart source context n inside r same k);
       }
 
   pub parts-rest : (r .kind ≡ 4 → ⊥) → (r .kind ≡ 6 → ⊥) → (r .kind ≡ 7 → ⊥) → (r .kind ≡ 8 → ⊥)
@@ -149,7 +161,7 @@ module _ (file : List ℕ) (functionStart nodesStart : ℕ) (context : Context f
       record {
         first = λ some. absurd (omega arith);
         second = λ more. absurd (omega arith);
-        none = λ empty rule. without rule (seen file functionStart nodesStart context n inside r same);
+        none = λ empty rule. without rule (seen file functionStart source context n inside r same);
         one = λ single. absurd (omega arith);
         two = λ more. absurd (omega arith);
       }
@@ -166,12 +178,12 @@ module _ (file : List ℕ) (functionStart nodesStart : ℕ) (context : Context f
 
   pub read-field : r .kind ≡ 3 → isRead (scopeIn file functionStart) (nodeExpression file n) ≡ true
   unfolding isRead
-  read-field k = ap (isRead (scopeIn file functionStart)) (field-is file functionStart nodesStart context n inside r same k)
+  read-field k = ap (isRead (scopeIn file functionStart)) (field-is file functionStart source context n inside r same k)
 
   pub read-entry : r .kind ≡ 4 → isRead (scopeIn file functionStart) (nodeExpression file n) ≡ true
   unfolding isRead
-  read-entry k = ap (isRead (scopeIn file functionStart)) (entry-is file functionStart nodesStart context n inside r same k)
+  read-entry k = ap (isRead (scopeIn file functionStart)) (entry-is file functionStart source context n inside r same k)
 
   pub read-parameter : r .kind ≡ 5 → isRead (scopeIn file functionStart) (nodeExpression file n) ≡ true
   unfolding isRead
-  read-parameter k = ap (isRead (scopeIn file functionStart)) (parameter-is file functionStart nodesStart context n inside r same k)
+  read-parameter k = ap (isRead (scopeIn file functionStart)) (parameter-is file functionStart source context n inside r same k)

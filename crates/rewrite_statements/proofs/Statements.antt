@@ -15,9 +15,10 @@ use Rattle.rewrite_log.proofs.FiveNumbers.{nothing-logged}
 use Rattle.rewrite_log.proofs.Turns.{turn-first, turn-second, turn-logged, branch-slot, branch-inside, branch-logged}
 use Rattle.rewrite_expressions.specs.Translations.{bodyOf, statementOf, Ready}
 use Rattle.rewrite_assignments.specs.Placing.{assignFieldOf, assignEntryOf, branchOf}
+use Rattle.file_decoded.specs.Slices.{recordAt}
 
-module _ (file : List ℕ) (functionStart nodesStart guard : ℕ) (n : ℕ) (before : List ℕ) (p : Position)
-    (ready : Ready file functionStart nodesStart n before p (statementOf file functionStart guard n)) (r : NodeRecord) (same : r ≡ nodeRecord file (nodesStart + 2 + 8 * n)) where
+module _ (file : List ℕ) (functionStart : ℕ) (source : List ℕ) (guard : ℕ) (n : ℕ) (before : List ℕ) (p : Position)
+    (ready : Ready file functionStart source n before p (statementOf file functionStart guard n)) (r : NodeRecord) (same : r ≡ recordAt source n) where
   abbrev whole : Events
   whole = statementOf file functionStart guard n
 
@@ -28,7 +29,7 @@ module _ (file : List ℕ) (functionStart nodesStart guard : ℕ) (n : ℕ) (bef
   room-as : (events : Events) → whole ≡ events → Room before p (events (p .variable))
   room-as events e = subst (λ (x : Events). Room before p (x (p .variable))) e (ready .room)
 
-  part : (m : ℕ) (log : List ℕ) (q : Position) (events : Events) → m < n → Room log q (events (q .variable)) → Ready file functionStart nodesStart m log q events
+  part : (m : ℕ) (log : List ℕ) (q : Position) (events : Events) → m < n → Room log q (events (q .variable)) → Ready file functionStart source m log q events
   part m log q events less room = record { inside = omega (arith, ready .inside); context = ready .context; room = room }
 
   statement-as : (s : Statement) → statementIn (nodesIn file) n ≡ s → whole ≡ statementEvents (scopeIn file functionStart) s (guardOf guard)
@@ -37,21 +38,21 @@ module _ (file : List ℕ) (functionStart nodesStart guard : ℕ) (n : ℕ) (bef
   pub still-logged : Still (r .kind) → Logged (nodesIn file) before before p p (whole (p .variable))
   unfolding statementEvents noEvents
   still-logged k =
-      logged-as before p noEvents (statement-as _ (still-is file functionStart nodesStart (ready .context) n (ready .inside) r same k)) (nothing-logged (nodesIn file) before p)
+      logged-as before p noEvents (statement-as _ (still-is file functionStart source (ready .context) n (ready .inside) r same k)) (nothing-logged (nodesIn file) before p)
 
   module _ (k : r .kind ≡ 17) where
     sequence-events : whole ≡ inTurn (statementOf file functionStart guard (r .first)) (statementOf file functionStart guard (r .second))
     unfolding statementEvents
-    sequence-events = statement-as _ (sequence-is file functionStart nodesStart (ready .context) n (ready .inside) r same k)
+    sequence-events = statement-as _ (sequence-is file functionStart source (ready .context) n (ready .inside) r same k)
 
     pub steps-less : (r .first < n) × (r .second < n)
-    steps-less = steps-below file functionStart nodesStart (ready .context) n (ready .inside) r same k
+    steps-less = steps-below file functionStart source (ready .context) n (ready .inside) r same k
 
-    pub first-ready : Ready file functionStart nodesStart (r .first) before p (statementOf file functionStart guard (r .first))
+    pub first-ready : Ready file functionStart source (r .first) before p (statementOf file functionStart guard (r .first))
     first-ready = part (r .first) before p (statementOf file functionStart guard (r .first)) (steps-less .0) (turn-first (nodesIn file) before before p p _ (statementOf file functionStart guard (r .second)) (room-as _ sequence-events))
 
     module _ (middle : List ℕ) (q : Position) (logged : Logged (nodesIn file) before middle p q (statementOf file functionStart guard (r .first) (p .variable))) where
-      pub second-ready : Ready file functionStart nodesStart (r .second) middle q (statementOf file functionStart guard (r .second))
+      pub second-ready : Ready file functionStart source (r .second) middle q (statementOf file functionStart guard (r .second))
       second-ready = part (r .second) middle q (statementOf file functionStart guard (r .second)) (steps-less .1) (turn-second (nodesIn file) before middle p q (statementOf file functionStart guard (r .first)) (statementOf file functionStart guard (r .second)) (room-as _ sequence-events) logged)
 
       pub sequence-logged : (after : List ℕ) (s : Position) → Logged (nodesIn file) middle after q s (statementOf file functionStart guard (r .second) (q .variable))
@@ -63,10 +64,10 @@ module _ (file : List ℕ) (functionStart nodesStart guard : ℕ) (n : ℕ) (bef
   module _ (k : r .kind ≡ 18) where
     assign-field-events : whole ≡ assignFieldOf file functionStart guard (r .arg) (r .first)
     unfolding statementEvents
-    assign-field-events = statement-as _ (assign-field-is file functionStart nodesStart (ready .context) n (ready .inside) r same k)
+    assign-field-events = statement-as _ (assign-field-is file functionStart source (ready .context) n (ready .inside) r same k)
 
-    pub assign-field-ready : Ready file functionStart nodesStart (r .first) before p (assignFieldOf file functionStart guard (r .arg) (r .first))
-    assign-field-ready = part (r .first) before p (assignFieldOf file functionStart guard (r .arg) (r .first)) (value-below file functionStart nodesStart (ready .context) n (ready .inside) r same k) (room-as _ assign-field-events)
+    pub assign-field-ready : Ready file functionStart source (r .first) before p (assignFieldOf file functionStart guard (r .arg) (r .first))
+    assign-field-ready = part (r .first) before p (assignFieldOf file functionStart guard (r .arg) (r .first)) (value-below file functionStart source (ready .context) n (ready .inside) r same k) (room-as _ assign-field-events)
 
     pub assign-field-logged : (after : List ℕ) (q : Position) → Logged (nodesIn file) before after p q (assignFieldOf file functionStart guard (r .arg) (r .first) (p .variable))
         → Logged (nodesIn file) before after p q (whole (p .variable))
@@ -75,13 +76,13 @@ module _ (file : List ℕ) (functionStart nodesStart guard : ℕ) (n : ℕ) (bef
   module _ (k : r .kind ≡ 19) where
     assign-entry-events : whole ≡ assignEntryOf file functionStart guard (r .arg) (r .first) (r .second)
     unfolding statementEvents
-    assign-entry-events = statement-as _ (assign-entry-is file functionStart nodesStart (ready .context) n (ready .inside) r same k)
+    assign-entry-events = statement-as _ (assign-entry-is file functionStart source (ready .context) n (ready .inside) r same k)
 
     pub entry-value-inside : r .second < nodeCount file
-    entry-value-inside = let less = key-and-value-below file functionStart nodesStart (ready .context) n (ready .inside) r same k .1 in omega (arith, ready .inside)
+    entry-value-inside = let less = key-and-value-below file functionStart source (ready .context) n (ready .inside) r same k .1 in omega (arith, ready .inside)
 
-    pub assign-entry-ready : Ready file functionStart nodesStart (r .first) before p (assignEntryOf file functionStart guard (r .arg) (r .first) (r .second))
-    assign-entry-ready = part (r .first) before p (assignEntryOf file functionStart guard (r .arg) (r .first) (r .second)) (key-and-value-below file functionStart nodesStart (ready .context) n (ready .inside) r same k .0) (room-as _ assign-entry-events)
+    pub assign-entry-ready : Ready file functionStart source (r .first) before p (assignEntryOf file functionStart guard (r .arg) (r .first) (r .second))
+    assign-entry-ready = part (r .first) before p (assignEntryOf file functionStart guard (r .arg) (r .first) (r .second)) (key-and-value-below file functionStart source (ready .context) n (ready .inside) r same k .0) (room-as _ assign-entry-events)
 
     pub assign-entry-logged : (after : List ℕ) (q : Position) → Logged (nodesIn file) before after p q (assignEntryOf file functionStart guard (r .arg) (r .first) (r .second) (p .variable))
         → Logged (nodesIn file) before after p q (whole (p .variable))
@@ -90,10 +91,10 @@ module _ (file : List ℕ) (functionStart nodesStart guard : ℕ) (n : ℕ) (bef
   module _ (k : r .kind ≡ 20) where
     require-events : whole ≡ bodyOf file functionStart guard (r .first)
     unfolding statementEvents
-    require-events = statement-as _ (require-is file functionStart nodesStart (ready .context) n (ready .inside) r same k)
+    require-events = statement-as _ (require-is file functionStart source (ready .context) n (ready .inside) r same k)
 
-    pub require-ready : Ready file functionStart nodesStart (r .first) before p (bodyOf file functionStart guard (r .first))
-    require-ready = part (r .first) before p (bodyOf file functionStart guard (r .first)) (required-below file functionStart nodesStart (ready .context) n (ready .inside) r same k) (room-as _ require-events)
+    pub require-ready : Ready file functionStart source (r .first) before p (bodyOf file functionStart guard (r .first))
+    require-ready = part (r .first) before p (bodyOf file functionStart guard (r .first)) (required-below file functionStart source (ready .context) n (ready .inside) r same k) (room-as _ require-events)
 
     pub require-logged : (after : List ℕ) (q : Position) → Logged (nodesIn file) before after p q (bodyOf file functionStart guard (r .first) (p .variable))
         → Logged (nodesIn file) before after p q (whole (p .variable))
@@ -111,23 +112,23 @@ module _ (file : List ℕ) (functionStart nodesStart guard : ℕ) (n : ℕ) (bef
 
     conditional-events : whole ≡ inTurn condition (inTurn then else)
     unfolding statementEvents
-    conditional-events = statement-as _ (conditional-is file functionStart nodesStart (ready .context) n (ready .inside) r same k)
+    conditional-events = statement-as _ (conditional-is file functionStart source (ready .context) n (ready .inside) r same k)
 
     pub branches-less : (r .first < n) × ((r .second < n) × (r .third < n))
-    branches-less = branches-below file functionStart nodesStart (ready .context) n (ready .inside) r same k
+    branches-less = branches-below file functionStart source (ready .context) n (ready .inside) r same k
 
-    pub condition-ready : Ready file functionStart nodesStart (r .first) before p condition
+    pub condition-ready : Ready file functionStart source (r .first) before p condition
     condition-ready = part (r .first) before p condition (branches-less .0) (turn-first (nodesIn file) before before p p condition (inTurn then else) (room-as _ conditional-events))
 
     module _ (first : List ℕ) (q : Position) (logged : Logged (nodesIn file) before first p q (condition (p .variable))) where
       both-room : Room first q (inTurn then else (q .variable))
       both-room = turn-second (nodesIn file) before first p q condition (inTurn then else) (room-as _ conditional-events) logged
 
-      pub then-ready : Ready file functionStart nodesStart (r .second) first q then
+      pub then-ready : Ready file functionStart source (r .second) first q then
       then-ready = part (r .second) first q then (branches-less .1 .0) (turn-first (nodesIn file) first first q q then else both-room)
 
       module _ (second : List ℕ) (s : Position) (chosen : Logged (nodesIn file) first second q s (then (q .variable))) where
-        pub else-ready : Ready file functionStart nodesStart (r .third) second s else
+        pub else-ready : Ready file functionStart source (r .third) second s else
         else-ready = part (r .third) second s else (branches-less .1 .1) (turn-second (nodesIn file) first second q s then else both-room chosen)
 
         pub conditional-logged : (after : List ℕ) (t : Position) → Logged (nodesIn file) second after s t (else (s .variable))
@@ -137,7 +138,7 @@ module _ (file : List ℕ) (functionStart nodesStart guard : ℕ) (n : ℕ) (bef
             (turn-logged (nodesIn file) before first p q condition (inTurn then else) (room-as _ conditional-events) after t logged
             (turn-logged (nodesIn file) first second q s then else both-room after t chosen h))
 
-module _ (file : List ℕ) (functionStart nodesStart n : ℕ) (before : List ℕ) (p : Position) (ready : Ready file functionStart nodesStart n before p (branchOf file functionStart n)) where
+module _ (file : List ℕ) (functionStart : ℕ) (source : List ℕ) (n : ℕ) (before : List ℕ) (p : Position) (ready : Ready file functionStart source n before p (branchOf file functionStart n)) where
   pub guard-slot : Slot before p 1
   guard-slot = branch-slot (nodesIn file) _ before before p p (ready .room)
 
@@ -146,7 +147,7 @@ module _ (file : List ℕ) (functionStart nodesStart n : ℕ) (before : List ℕ
       record { tag = omega arith; variable = omega (arith, guard-slot .few); owner = omega arith; node = omega arith; last = omega arith }
 
   module _ (middle : List ℕ) (q : Position) (wrote : Wrote before middle p q (five 3 (p .variable) 0 0 0) 1) where
-    pub inside-ready : Ready file functionStart nodesStart n middle q (statementOf file functionStart (p .variable + 1) n)
+    pub inside-ready : Ready file functionStart source n middle q (statementOf file functionStart (p .variable + 1) n)
     inside-ready =
         record { inside = ready .inside; context = ready .context; room = branch-inside (nodesIn file) (statementEvents (scopeIn file functionStart) _) before middle p q (ready .room) wrote }
 

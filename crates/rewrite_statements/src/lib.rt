@@ -1,6 +1,6 @@
 // The events of a function's statements, logged in their order.
 use file_bytes::function_end;
-use file_bytes::node_at;
+use file_decoded::node_at;
 use file_bytes::two_bytes_at;
 use file_kinds::ENTRY_TAKES;
 use file_kinds::FIELD_TAKES;
@@ -24,12 +24,12 @@ ghost use Rattle.rewrite_assignments.specs.Placing.{branchOf, startingAt};
 pub fn branch_log(
     file: &[u8],
     function_at: usize,
-    nodes_at: usize,
+    source: &[u16],
     n: usize,
     log: &mut [u16],
     p: Position,
 ) -> Position
-    requires { ⌜ Ready (now file) «function_at» «nodes_at» n (now log) p (branchOf (now file) «function_at» n) ⌝ }
+    requires { ⌜ Ready (now file) «function_at» (now source) n (now log) p (branchOf (now file) «function_at» n) ⌝ }
     ensures { λ r. ⌜ Logged (nodesIn (now (file .entry))) (now (log .entry)) (now (log .exit)) p r
         (branchOf (now (file .entry)) «function_at» n (p .variable)) ⌝ }
 {
@@ -45,7 +45,7 @@ pub fn branch_log(
     statement_log(
         file,
         function_at,
-        nodes_at,
+        source,
         n,
         (variable + 1) as u16,
         log,
@@ -57,27 +57,27 @@ pub fn branch_log(
 pub fn statement_log(
     file: &[u8],
     function_at: usize,
-    nodes_at: usize,
+    source: &[u16],
     n: usize,
     guard: u16,
     log: &mut [u16],
     p: Position,
 ) -> Position
-    requires { ⌜ Ready (now file) «function_at» «nodes_at» n (now log) p (statementOf (now file) «function_at» guard n) ⌝ }
+    requires { ⌜ Ready (now file) «function_at» (now source) n (now log) p (statementOf (now file) «function_at» guard n) ⌝ }
     ensures { λ r. ⌜ Logged (nodesIn (now (file .entry))) (now (log .entry)) (now (log .exit)) p r
         (statementOf (now (file .entry)) «function_at» guard n (p .variable)) ⌝ }
 {
-    let node = node_at(file, nodes_at, n);
+    let node = node_at(source, n);
     let kind = node.kind;
     match kind {
         SEQUENCE => {
-            let q = statement_log(file, function_at, nodes_at, node.first, guard, log, p);
-            statement_log(file, function_at, nodes_at, node.second, guard, log, q)
+            let q = statement_log(file, function_at, source, node.first, guard, log, p);
+            statement_log(file, function_at, source, node.second, guard, log, q)
         }
         FIELD_TAKES => assign_field_log(
             file,
             function_at,
-            nodes_at,
+            source,
             node.arg,
             node.first,
             guard,
@@ -87,7 +87,7 @@ pub fn statement_log(
         ENTRY_TAKES => assign_entry_log(
             file,
             function_at,
-            nodes_at,
+            source,
             node.arg,
             node.first,
             node.second,
@@ -95,11 +95,11 @@ pub fn statement_log(
             log,
             p,
         ),
-        REQUIRE => body_log(file, function_at, nodes_at, node.first, guard, log, p),
+        REQUIRE => body_log(file, function_at, source, node.first, guard, log, p),
         IF => {
-            let q = body_log(file, function_at, nodes_at, node.first, guard, log, p);
-            let r = branch_log(file, function_at, nodes_at, node.second, log, q);
-            branch_log(file, function_at, nodes_at, node.third, log, r)
+            let q = body_log(file, function_at, source, node.first, guard, log, p);
+            let r = branch_log(file, function_at, source, node.second, log, q);
+            branch_log(file, function_at, source, node.third, log, r)
         }
         _ => p,
     }
@@ -109,11 +109,11 @@ pub fn statement_log(
 pub fn function_log(
     file: &[u8],
     function_at: usize,
-    nodes_at: usize,
+    source: &[u16],
     first: usize,
     log: &mut [u16],
 ) -> Position
-    requires { ⌜ Ready (now file) «function_at» «nodes_at» (rootAt (now file) «function_at») (now log) (startingAt first)
+    requires { ⌜ Ready (now file) «function_at» (now source) (rootAt (now file) «function_at») (now log) (startingAt first)
         (statementOf (now file) «function_at» 0 (rootAt (now file) «function_at»)) ⌝ }
     ensures { λ r. ⌜ Logged (nodesIn (now (file .entry))) (now (log .entry)) (now (log .exit)) (startingAt first) r
         (statementOf (now (file .entry)) «function_at» 0 (rootAt (now (file .entry)) «function_at») first) ⌝ }
@@ -123,5 +123,5 @@ pub fn function_log(
         at: 0,
         variable: first,
     };
-    statement_log(file, function_at, nodes_at, root, 0, log, start)
+    statement_log(file, function_at, source, root, 0, log, start)
 }

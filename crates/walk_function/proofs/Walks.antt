@@ -12,6 +12,7 @@ use Rattle.theory_laws.proofs.Written.{nodes-length}
 use Rattle.memory_buffer.proofs.Storing.{stored-length}
 use Rattle.file_accepted.specs.Context.{Context, nodesIn, fieldsIn}
 use Rattle.file_accepted.specs.Functions.{rootAt}
+use Rattle.file_accepted.proofs.Sources.{context-with}
 use Rattle.ledger_contents.specs.Contents.{contentsOf}
 use Rattle.write_nodes.proofs.TreeNodes.{size-positive}
 use Rattle.rewrite_log.specs.declared.Position.{Position}
@@ -34,12 +35,12 @@ use Rattle.walk_function_nodes.proofs.Parts.{sizes-are, constraints-bound}
 use Rattle.walk_function.specs.Walks.{LastReady, WalkReady}
 use Rattle.write_trees.proofs.Numbers.{constraint-numbers-length}
 
-module _ (file : List ℕ) (at nodesStart : ℕ) (log numbers scratch roots nodes : List ℕ) (ready : WalkReady file at nodesStart log numbers scratch roots nodes) where
-  context-here : Context file at nodesStart
-  context-here = rw (ready .place) (ready .room .context)
+module _ (file : List ℕ) (at : ℕ) (source : List ℕ) (log numbers scratch roots nodes : List ℕ) (ready : WalkReady file at source log numbers scratch roots nodes) where
+  context-here : Context file at source
+  context-here = context-with file at source (ready .room .context) (ready .held)
 
   module _ (private : ℕ) (counted : private ≡ privateIn file at) where
-    pub log-ready : Ready file at nodesStart (rootAt file at) log (startingAt private) (statementOf file at 0 (rootAt file at))
+    pub log-ready : Ready file at source (rootAt file at) log (startingAt private) (statementOf file at 0 (rootAt file at))
     log-ready =
         rw counted
         (record {
@@ -55,14 +56,14 @@ module _ (file : List ℕ) (at nodesStart : ℕ) (log numbers scratch roots node
       entries-are : end .at / 5 ≡ length (eventsIn file at)
       entries-are = omega (arith, events-logged .next)
 
-      pub function-ready : FunctionReady file at nodesStart logAfter (end .at / 5) private numbers scratch roots nodes
+      pub function-ready : FunctionReady file at source logAfter (end .at / 5) private numbers scratch roots nodes
       function-ready =
           record {
             constraints =
                 record {
                   logged =
                       record {
-                        place = ready .place;
+                        decoded = ready .held;
                         room = ready .room;
                         privateIs = counted;
                         numbers = events-logged .numbers;

@@ -59,7 +59,7 @@ fn run_last(
 pub fn walk_function(
     file: &[u8],
     function_at: usize,
-    nodes_at: usize,
+    source: &[u16],
     addresses: &[u32],
     log: &mut [u16],
     numbers: &mut [u16],
@@ -70,7 +70,7 @@ pub fn walk_function(
     places: &mut [u32],
     variables: &mut [u32],
 ) -> bool
-    requires { ⌜ WalkReady (now file) «function_at» «nodes_at» (now log) (now numbers) (now scratch) (now roots) (now nodes) ⌝ }
+    requires { ⌜ WalkReady (now file) «function_at» (now source) (now log) (now numbers) (now scratch) (now roots) (now nodes) ⌝ }
     ensures { λ r. ⌜ Ran (walkCompletes (addressFrom (now (addresses .entry))) (fieldsIn (now (file .entry)))
         (contentsOf (now (parameters .entry))) ((writtenIn (now (file .entry)) «function_at») .constraints)
         (stateOf (now (places .entry)) (now (variables .entry))) ((writtenIn (now (file .entry)) «function_at») .body))
@@ -80,12 +80,12 @@ pub fn walk_function(
 {
     let count = byte_at(file, function_at);
     let private = count_private(file, function_at + 1, count);
-    let end = function_log(file, function_at, nodes_at, private, log);
+    let end = function_log(file, function_at, source, private, log);
     let entries = end.at / 5;
     let extent = put_function(
         file,
         function_at,
-        nodes_at,
+        source,
         log,
         entries,
         private,

@@ -12,7 +12,7 @@ use Rattle.theory_laws.proofs.Written.{opening-count, sizes-append}
 use Rattle.theory_trees.specs.Trees.{statementIn}
 use Rattle.memory_buffer.specs.Buffer.{stored}
 use Rattle.memory_buffer.proofs.Storing.{stored-length}
-use Rattle.file_accepted.specs.Context.{Context, nodesIn, fieldsIn, parametersIn, scopeIn}
+use Rattle.file_accepted.specs.Context.{Context, nodesIn, fieldsIn, parametersIn, scopeIn, Source}
 use Rattle.file_accepted.specs.Functions.{rootAt}
 use Rattle.write_nodes.proofs.TreeNodes.{run-then}
 use Rattle.rewrite_events.specs.Events.{Event, suppliedEvent, claimedEvent, readEvent, guardEvent, constraintsOf, statementEvents}
@@ -29,6 +29,7 @@ use Rattle.walk_function_nodes.specs.Functions.{openingNumbers, circuitT
 use Rattle.walk_function_nodes.proofs.Openings.{numbers-length, opening-numbers, opening-trees, opening-claims}
 use Rattle.file_accepted.proofs.Declarations.{parameters-count}
 use Rattle.file_accepted.proofs.Nodes.{nodes-counted}
+use Rattle.file_accepted.proofs.Sources.{context-with}
 
 private-few : (k : ℕ) (ps : List Parameter) → length (privateParameters k ps) ≤ length ps
 unfolding privateParameters
@@ -90,10 +91,10 @@ module _ (file : List ℕ) (at : ℕ) where
   pub constraints-bound : FunctionRoom file at 0 0 → length (written .constraints) ≤ 1544
   constraints-bound room = omega (arith, count-is, few-private room, constraints-few (scopeIn file at) (eventsIn file at), room .events)
 
-  pub room-context : (nodesStart : ℕ) → nodesStart ≡ nodesAt file → FunctionRoom file at 0 0 → Context file at nodesStart
-  room-context nodesStart e room = rw e (room .context)
+  pub room-context : (source : List ℕ) → Source file source → FunctionRoom file at 0 0 → Context file at source
+  room-context source held room = context-with file at source (room .context) held
 
-  module _ (nodesStart : ℕ) (log : List ℕ) (entries private : ℕ) (logged : FunctionLogged file at nodesStart log entries private) where
+  module _ (source : List ℕ) (log : List ℕ) (entries private : ℕ) (logged : FunctionLogged file at source log entries private) where
     claims-logged-are : (base : ℕ) → foursOf base (claimsIn file at log 0 entries) ≡ constraintNumbers base claims
     claims-logged-are base =
         rw (logged .count) (claims-logged (scopeIn file at) (nodesIn file) log (eventsIn file at) (logged .numbers) (logged .told) 0 (logged .held) base)
@@ -117,7 +118,7 @@ module _ (file : List ℕ) (at : ℕ) where
         let few = few-private (logged .room) in
         (omega (arith, logged .privateIs), omega (arith, logged .privateIs))
 
-    module _ (numbers between out : List ℕ) (ready : ConstraintsReady file at nodesStart log entries private numbers out)
+    module _ (numbers between out : List ℕ) (ready : ConstraintsReady file at source log entries private numbers out)
         (opened : between ≡ stored numbers 0 (openingNumbers 0 private)) where
       opened-length : length between ≡ length numbers
       opened-length =

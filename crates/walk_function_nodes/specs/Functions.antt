@@ -7,7 +7,7 @@ use Rattle.definitions.specs.Basics.{flatMap}
 use Rattle.definitions.specs.ContractFile.{nodesAt}
 use Rattle.definitions.specs.Rewriting.{WrittenFunction, Tree, sizes, numberedAll, nodeBytes, claimTrees, functionTrees}
 use Rattle.memory_buffer.specs.Buffer.{stored}
-use Rattle.file_accepted.specs.Context.{nodesIn}
+use Rattle.file_accepted.specs.Context.{nodesIn, Source}
 use Rattle.rewrite_log.specs.Entries.{Entries}
 use Rattle.write_logged_steps.specs.Held.{Holds}
 use Rattle.write_function_room.specs.Functions.{writtenIn, privateIn, eventsIn, FunctionRoom}
@@ -26,8 +26,8 @@ abbrev pub circuitTrees : WrittenFunction → List Tree
 circuitTrees w = flatMap (λ c. claimTrees (c .claim)) (w .constraints)
 
 -- The log holds the events of a function's body from its start on.
-pub record FunctionLogged (file : List ℕ) (functionStart nodesStart : ℕ) (log : List ℕ) (entries private : ℕ) : Type 0 where
-  pub place : nodesStart ≡ nodesAt file
+pub record FunctionLogged (file : List ℕ) (functionStart : ℕ) (source : List ℕ) (log : List ℕ) (entries private : ℕ) : Type 0 where
+  pub decoded : Source file source
   pub room : FunctionRoom file functionStart 0 0
   pub privateIs : private ≡ privateIn file functionStart
   pub numbers : List ℕ
@@ -35,9 +35,9 @@ pub record FunctionLogged (file : List ℕ) (functionStart nodesStart : ℕ) (lo
   pub held : Holds log numbers 0
   pub count : entries ≡ length (eventsIn file functionStart)
 
-pub record ConstraintsReady (file : List ℕ) (functionStart nodesStart : ℕ) (log : List ℕ) (entries private : ℕ)
+pub record ConstraintsReady (file : List ℕ) (functionStart : ℕ) (source : List ℕ) (log : List ℕ) (entries private : ℕ)
     (numbers out : List ℕ) : Type 0 where
-  pub logged : FunctionLogged file functionStart nodesStart log entries private
+  pub logged : FunctionLogged file functionStart source log entries private
   pub space : 4 * (entries + 8) ≤ length numbers
   pub bytes : 8 * sizes (functionTrees (writtenIn file functionStart)) ≤ length out
 
@@ -48,9 +48,9 @@ pub record ConstraintsPut (w : WrittenFunction) (private : ℕ) (numbers numbers
   pub nodes : r .nodes ≡ sizes (circuitTrees w)
   pub count : private + r .count ≡ length (w .constraints)
 
-pub record FunctionReady (file : List ℕ) (functionStart nodesStart : ℕ) (log : List ℕ) (entries private : ℕ)
+pub record FunctionReady (file : List ℕ) (functionStart : ℕ) (source : List ℕ) (log : List ℕ) (entries private : ℕ)
     (numbers scratch roots out : List ℕ) : Type 0 where
-  pub constraints : ConstraintsReady file functionStart nodesStart log entries private numbers out
+  pub constraints : ConstraintsReady file functionStart source log entries private numbers out
   pub scratchSpace : 5 * entries ≤ length scratch
   pub rootsSpace : entries + 8 ≤ length roots
 

@@ -33,14 +33,14 @@ fn put_openings(numbers: &mut [u16], private: usize)
 fn put_constraints(
     file: &[u8],
     function_at: usize,
-    nodes_at: usize,
+    source: &[u16],
     log: &[u16],
     entries: usize,
     private: usize,
     numbers: &mut [u16],
     out: &mut [u8],
 ) -> Circuits
-    requires { ⌜ ConstraintsReady (now file) «function_at» «nodes_at» (now log) entries private (now numbers) (now out) ⌝ }
+    requires { ⌜ ConstraintsReady (now file) «function_at» (now source) (now log) entries private (now numbers) (now out) ⌝ }
     ensures { λ r. ⌜ ConstraintsPut (writtenIn (now (file .entry)) «function_at») private (now (numbers .entry)) (now (numbers .exit))
         (now (out .entry)) (now (out .exit)) r ⌝ }
 {
@@ -48,7 +48,7 @@ fn put_constraints(
     put_circuits(
         file,
         function_at,
-        nodes_at,
+        source,
         log,
         0,
         entries,
@@ -64,7 +64,7 @@ fn put_constraints(
 pub fn put_function(
     file: &[u8],
     function_at: usize,
-    nodes_at: usize,
+    source: &[u16],
     log: &[u16],
     entries: usize,
     private: usize,
@@ -73,7 +73,7 @@ pub fn put_function(
     roots: &mut [u16],
     out: &mut [u8],
 ) -> Extent
-    requires { ⌜ FunctionReady (now file) «function_at» «nodes_at» (now log) entries private
+    requires { ⌜ FunctionReady (now file) «function_at» (now source) (now log) entries private
         (now numbers) (now scratch) (now roots) (now out) ⌝ }
     ensures { λ r. ⌜ FunctionPut (writtenIn (now (file .entry)) «function_at») (now (numbers .entry)) (now (numbers .exit))
         (now (out .entry)) (now (out .exit)) r ⌝ }
@@ -81,7 +81,7 @@ pub fn put_function(
     let circuits = put_constraints(
         file,
         function_at,
-        nodes_at,
+        source,
         log,
         entries,
         private,
@@ -93,7 +93,7 @@ pub fn put_function(
     let body = write_function_body(
         file,
         function_at,
-        nodes_at,
+        source,
         private,
         0 < count,
         scratch,

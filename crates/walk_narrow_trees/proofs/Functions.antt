@@ -10,7 +10,7 @@ use Rattle.definitions.specs.ContractFile.{Field, Parameter, Function, Scope, n
 use Rattle.definitions.specs.Rewriting.{BodyExpression, Command, Claim, equals, opensForCaller, always, Constraint, WrittenFunction, privateParameters, openings, heldUnder, withVerify, rewriteStatement, rewriteFunction, Tree, sizes, numberedAll, nodeBytes, commandTree, claimTrees, functionTrees}
 use Rattle.theory_laws.proofs.Written.{nodes-length, opening-count, sizes-append}
 use Rattle.theory_trees.specs.Trees.{statementIn}
-use Rattle.file_accepted.specs.Context.{Context, nodesIn, fieldsIn, parametersIn, scopeIn}
+use Rattle.file_accepted.specs.Context.{Known, nodesIn, fieldsIn, parametersIn, scopeIn}
 use Rattle.file_accepted.specs.Functions.{rootAt}
 use Rattle.rewrite_events.specs.Events.{variablesOf, variableCount, statementEvents}
 use Rattle.rewrite_events.proofs.Functions.{function-variables}
@@ -172,7 +172,7 @@ module _ (file : List ℕ) (at : ℕ) where
       ap length (function-variables (fieldsIn file) (functionIn file at)) ∙ length-append (opening .variables) (variablesOf (events (length (opening .variables))))
       ∙ ap (λ (i : ℕ). i + variableCount (events i)) opening-variables
 
-  pub function-is-narrow : Context file at (nodesAt file) → Bytes file → privateIn file at + variableCount (eventsIn file at) ≤ 65536 → NarrowFunction (writtenIn file at)
+  pub function-is-narrow : Known file at → Bytes file → privateIn file at + variableCount (eventsIn file at) ≤ 65536 → NarrowFunction (writtenIn file at)
   function-is-narrow context bytes few =
       let counted = variables-are in
       function-narrow (fieldsIn file) (functionIn file at) (files.scope-coded file at context)

@@ -13,7 +13,7 @@ use Rattle.theory_laws.proofs.Codes.{type-below}
 use Rattle.theory_laws.proofs.TruthValues.{and-left, and-right}
 use Rattle.theory_trees.specs.Trees.{Keeps}
 use Rattle.theory_trees.proofs.Kept.{statement-kept}
-use Rattle.file_accepted.specs.Context.{Context, nodesIn, scopeIn}
+use Rattle.file_accepted.specs.Context.{Known, nodesIn, scopeIn}
 use Rattle.file_accepted.proofs.Nodes.{nodes-keep}
 use Rattle.rewrite_event_owners.specs.Listed.{Listed}
 use Rattle.rewrite_event_owners.proofs.Owners.{NameListed, place-listed, name-listed}
@@ -50,7 +50,7 @@ record-keeps requireKind r h b below part = (tt, λ later each. part (r .first))
 record-keeps conditionalKind r h b below part = (tt, λ later each. (part (r .first), (each (r .second), each (r .third))))
 record-keeps noKind r h b below part = (tt, λ later each. tt)
 
-module _ (file : List ℕ) (at : ℕ) (context : Context file at (nodesAt file)) where
+module _ (file : List ℕ) (at : ℕ) (context : Known file at) where
   pub statement-narrow : Bytes file → (levels n : ℕ) → NarrowStatement (statementAt levels (nodesIn file) n)
   unfolding NarrowExpression NarrowStatement
   statement-narrow bytes =

@@ -12,10 +12,11 @@ use Rattle.write_nodes.specs.Numbering.{Room, Numbered}
 use Rattle.write_nodes.proofs.TreeNodes.{room-left, room-right, room-above-two, numbered-two, room-as, numbered-as}
 use Rattle.write_nodes.proofs.Parents.{room-second, room-third, room-above-three, numbered-three}
 use Rattle.write_bodies.specs.declared.Extent.{Extent}
-use Rattle.write_bodies.specs.Parts.{statementTree, branchTree, recordAt}
+use Rattle.write_bodies.specs.Parts.{statementTree, branchTree}
+use Rattle.file_decoded.specs.Slices.{recordAt}
 use Rattle.write_bodies.specs.Bodies.{StatementReady, StatementWritten, BranchReady, BranchWritten, elseGuard, BranchesReady, BranchesWritten}
 
-module _ (file : List ℕ) (functionStart nodesStart n j : ℕ) (scratch roots out : List ℕ) (at base : ℕ) (ready : BranchReady file functionStart nodesStart n j scratch roots out at base) where
+module _ (file : List ℕ) (functionStart : ℕ) (source : List ℕ) (n j : ℕ) (scratch roots out : List ℕ) (at base : ℕ) (ready : BranchReady file functionStart source n j scratch roots out at base) where
   abbrev guardTree : Tree
   guardTree = commandTree (Command.setVariable j (BodyExpression.constant boolean 1))
 
@@ -38,7 +39,7 @@ module _ (file : List ℕ) (functionStart nodesStart n j : ℕ) (scratch roots o
     unfolding commandTree bodyTree size
     two = record { contents = put .contents; nodes = refl }
 
-    pub inside-ready : StatementReady file functionStart nodesStart n (j + 1) scratch roots second (at + 16) (base + 2)
+    pub inside-ready : StatementReady file functionStart source n (j + 1) scratch roots second (at + 16) (base + 2)
     inside-ready =
         record {
           inside = ready .inside;
@@ -62,18 +63,18 @@ module _ (file : List ℕ) (functionStart nodesStart n j : ℕ) (scratch roots o
             next = omega (arith, w .next);
           }
 
-module _ (file : List ℕ) (functionStart nodesStart n form j : ℕ) (scratch roots out : List ℕ) (at base : ℕ) (r : NodeRecord) (same : r ≡ recordAt file nodesStart n)
-    (given : BranchesReady file functionStart nodesStart n (recordAt file nodesStart n) form j scratch roots out at base) where
-  ready : BranchesReady file functionStart nodesStart n r form j scratch roots out at base
-  ready = subst (λ (x : NodeRecord). BranchesReady file functionStart nodesStart n x form j scratch roots out at base) (sym same) given
+module _ (file : List ℕ) (functionStart : ℕ) (source : List ℕ) (n form j : ℕ) (scratch roots out : List ℕ) (at base : ℕ) (r : NodeRecord) (same : r ≡ recordAt source n)
+    (given : BranchesReady file functionStart source n (recordAt source n) form j scratch roots out at base) where
+  ready : BranchesReady file functionStart source n r form j scratch roots out at base
+  ready = subst (λ (x : NodeRecord). BranchesReady file functionStart source n x form j scratch roots out at base) (sym same) given
 
   pub branches-less : (r .second < n) × (r .third < n)
-  branches-less = branches-below file functionStart nodesStart (ready .context) n (ready .inside) r same (ready .kind) .1
+  branches-less = branches-below file functionStart source (ready .context) n (ready .inside) r same (ready .kind) .1
 
   abbrev other : ℕ
   other = elseGuard file functionStart r j
 
-  pub then-ready : BranchReady file functionStart nodesStart (r .second) j scratch roots out (at + 8 * form) (base + form)
+  pub then-ready : BranchReady file functionStart source (r .second) j scratch roots out (at + 8 * form) (base + form)
   then-ready =
       let less = branches-less .0 in
       record {
@@ -90,7 +91,7 @@ module _ (file : List ℕ) (functionStart nodesStart n form j : ℕ) (scratch ro
     else-room = room-third (ready .held) at base 21 _ _ _ (ready .room) out form (ready .written) between (first .nodes) (w .written)
 
     pub else-ready : (scratchNow rootsNow : List ℕ) → length scratchNow ≡ length scratch → length rootsNow ≡ length roots
-        → BranchReady file functionStart nodesStart (r .third) (first .next) scratchNow rootsNow between (at + 8 * form + 8 * first .nodes) (base + form + first .nodes)
+        → BranchReady file functionStart source (r .third) (first .next) scratchNow rootsNow between (at + 8 * form + 8 * first .nodes) (base + form + first .nodes)
     else-ready scratchNow rootsNow a b =
         let less = branches-less .1 in
         rw (w .next)
@@ -115,7 +116,7 @@ module _ (file : List ℕ) (functionStart nodesStart n form j : ℕ) (scratch ro
           → after ≡ stored later (at + 8 * form + 8 * first .nodes + 8 * second .nodes)
           (nodeBytes (node 21 0 (base + form - 1) (base + form + first .nodes - 1) (base + form + first .nodes + second .nodes - 1)))
           → nodes ≡ form + first .nodes + second .nodes + 1
-          → BranchesWritten file functionStart (recordAt file nodesStart n) form j out after at base (record { nodes = nodes; next = second .next })
+          → BranchesWritten file functionStart (recordAt source n) form j out after at base (record { nodes = nodes; next = second .next })
       branches-written after nodes h e =
           subst (λ (x : NodeRecord). BranchesWritten file functionStart x form j out after at base (record { nodes = nodes; next = second .next })) same
           (record {

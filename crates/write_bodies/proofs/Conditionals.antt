@@ -22,19 +22,20 @@ use Rattle.write_steps.proofs.Nesting.{nested-size}
 use Rattle.write_steps.proofs.Nested.{nested-rest-room, nested-close-room, numbered-nested}
 use Rattle.write_bodies.specs.declared.Extent.{Extent}
 use Rattle.write_bodies.specs.declared.Condition.{Condition}
-use Rattle.write_bodies.specs.Parts.{commandOf, eventsOf, branchCommand, statementTree, eventsAt, branchEvents, branchVariables, conditionEvents, conditionSteps, recordAt}
+use Rattle.write_bodies.specs.Parts.{commandOf, eventsOf, branchCommand, statementTree, eventsAt, branchEvents, branchVariables, conditionEvents, conditionSteps}
+use Rattle.file_decoded.specs.Slices.{recordAt}
 use Rattle.write_bodies.specs.Bodies.{StatementReady, StatementWritten, ConditionReady, ConditionWritten, elseGuard, BranchesReady, BranchesWritten}
 use Rattle.write_bodies.proofs.Guards.{steps-few}
 use Rattle.write_bodies.proofs.Commands.{branching-command, branching-events, branching-variables}
 
-module _ (file : List ℕ) (functionStart nodesStart n i : ℕ) (scratch roots out : List ℕ) (at base : ℕ) (ready : StatementReady file functionStart nodesStart n i scratch roots out at base)
-    (r : NodeRecord) (same : r ≡ recordAt file nodesStart n) (kind : (recordAt file nodesStart n) .kind ≡ 21) where
+module _ (file : List ℕ) (functionStart : ℕ) (source : List ℕ) (n i : ℕ) (scratch roots out : List ℕ) (at base : ℕ) (ready : StatementReady file functionStart source n i scratch roots out at base)
+    (r : NodeRecord) (same : r ≡ recordAt source n) (kind : (recordAt source n) .kind ≡ 21) where
   own-kind : r .kind ≡ 21
-  own-kind = kind-as (recordAt file nodesStart n) r 21 (sym same) kind
+  own-kind = kind-as (recordAt source n) r 21 (sym same) kind
 
   is : statementIn (nodesIn file) n
       ≡ Statement.conditional (expressionIn (nodesIn file) (r .first)) (statementIn (nodesIn file) (r .second)) (statementIn (nodesIn file) (r .third))
-  is = conditional-is file functionStart nodesStart (ready .context) n (ready .inside) r same own-kind
+  is = conditional-is file functionStart source (ready .context) n (ready .inside) r same own-kind
 
   abbrev guard : ℕ
   guard = i + variableCount (conditionEvents file functionStart (r .first) i)
@@ -76,9 +77,9 @@ module _ (file : List ℕ) (functionStart nodesStart n i : ℕ) (scratch roots o
       let events = events-are in
       omega (arith, ready .steps)
 
-  pub condition-ready : ConditionReady file functionStart nodesStart (r .first) i scratch roots out at base
+  pub condition-ready : ConditionReady file functionStart source (r .first) i scratch roots out at base
   condition-ready =
-      let less = branches-below file functionStart nodesStart (ready .context) n (ready .inside) r same own-kind .0 in
+      let less = branches-below file functionStart source (ready .context) n (ready .inside) r same own-kind .0 in
       let events = events-are in
       let variables = variables-are in
       record {
@@ -108,7 +109,7 @@ module _ (file : List ℕ) (functionStart nodesStart n i : ℕ) (scratch roots o
         (omega (arith, w .put .count, enough), (omega (arith, w .put .nodes, room-own .bytes), omega (arith, w .put .nodes, w .put .count, room-own .numbers)))
 
     pub branches-ready : (scratchNow rootsNow : List ℕ) → length scratchNow ≡ length scratch → length rootsNow ≡ length rootsAfter - c .count → length rootsAfter ≡ length roots
-        → BranchesReady file functionStart nodesStart n (recordAt file nodesStart n) (c .form) (c .next) scratchNow rootsNow after place number
+        → BranchesReady file functionStart source n (recordAt source n) (c .form) (c .next) scratchNow rootsNow after place number
     unfolding commandTree
     branches-ready scratchNow rootsNow a b d =
         let fewer = steps-few (scopeIn file functionStart) (conditionEvents file functionStart (r .first) i) in
@@ -116,7 +117,7 @@ module _ (file : List ℕ) (functionStart nodesStart n i : ℕ) (scratch roots o
         let fits = condition-fits .0 in
         let events = events-are in
         let variables = variables-are in
-        subst (λ (x : NodeRecord). BranchesReady file functionStart nodesStart n x (c .form) (c .next) scratchNow rootsNow after place number) same
+        subst (λ (x : NodeRecord). BranchesReady file functionStart source n x (c .form) (c .next) scratchNow rootsNow after place number) same
         (rw (w .next)
         (record {
           inside = ready .inside;
@@ -131,7 +132,7 @@ module _ (file : List ℕ) (functionStart nodesStart n i : ℕ) (scratch roots o
           written = w .written;
         }))
 
-    module _ (later : List ℕ) (e : Extent) (v : BranchesWritten file functionStart (recordAt file nodesStart n) (c .form) (c .next) after later place number e) where
+    module _ (later : List ℕ) (e : Extent) (v : BranchesWritten file functionStart (recordAt source n) (c .form) (c .next) after later place number e) where
       branches-own : BranchesWritten file functionStart r (c .form) guard after later place number e
       branches-own =
           subst (λ (k : ℕ). BranchesWritten file functionStart r (c .form) k after later place number e) (w .next)

@@ -38,7 +38,8 @@ use Rattle.write_logged_steps.proofs.Readings.{readable}
 use Rattle.write_logged_steps.proofs.Within.{Within, body-within, statement-within, reads-few}
 use Rattle.write_stepped_statements.specs.Single.{singleTree}
 use Rattle.write_stepped_statements.proofs.Rewritten.{isSimple, single-rewritten}
-use Rattle.write_bodies.specs.Parts.{statementTree, eventsAt, conditionSteps, recordAt}
+use Rattle.write_bodies.specs.Parts.{statementTree, eventsAt, conditionSteps}
+use Rattle.file_decoded.specs.Slices.{recordAt}
 use Rattle.write_bodies.specs.Bodies.{StatementReady, StatementWritten, ConditionReady, ConditionWritten}
 use Rattle.write_bodies.proofs.Guards.{steps-few}
 
@@ -74,26 +75,26 @@ module _ (file : List ℕ) (functionStart i : ℕ) (scratch log : List ℕ) (p :
       (readable file functionStart (nodes-counted file) log (events i) (logged .numbers) (logged .entries) 0 holds
       (reads-few (scopeIn file functionStart) events i within (omega arith)))
 
-module _ (file : List ℕ) (functionStart nodesStart n i : ℕ) (scratch roots out : List ℕ) (at base : ℕ) (ready : StatementReady file functionStart nodesStart n i scratch roots out at base) where
+module _ (file : List ℕ) (functionStart : ℕ) (source : List ℕ) (n i : ℕ) (scratch roots out : List ℕ) (at base : ℕ) (ready : StatementReady file functionStart source n i scratch roots out at base) where
   -- Every kind but a sequence's and a conditional's holds no other statement.
-  pub others-simple : (r : NodeRecord) → r ≡ recordAt file nodesStart n → (r .kind ≡ 17 → ⊥) → (r .kind ≡ 21 → ⊥) → isSimple (statementIn (nodesIn file) n) ≡ true
+  pub others-simple : (r : NodeRecord) → r ≡ recordAt source n → (r .kind ≡ 17 → ⊥) → (r .kind ≡ 21 → ⊥) → isSimple (statementIn (nodesIn file) n) ≡ true
   others-simple r same a b = by18 (eqb (r .kind) 18) refl
     where
       by20 : (r .kind ≡ 18 → ⊥) → (r .kind ≡ 19 → ⊥) → (t : Bool) → eqb (r .kind) 20 ≡ t → isSimple (statementIn (nodesIn file) n) ≡ true
-      by20 c d true e = ap isSimple (require-is file functionStart nodesStart (ready .context) n (ready .inside) r same (eqb-true (r .kind) 20 e))
+      by20 c d true e = ap isSimple (require-is file functionStart source (ready .context) n (ready .inside) r same (eqb-true (r .kind) 20 e))
       by20 c d false e =
-          ap isSimple (still-is file functionStart nodesStart (ready .context) n (ready .inside) r same
+          ap isSimple (still-is file functionStart source (ready .context) n (ready .inside) r same
           (record { sequence = a; assignField = c; assignEntry = d; require = eqb-false (r .kind) 20 e; conditional = b }))
 
       by19 : (r .kind ≡ 18 → ⊥) → (t : Bool) → eqb (r .kind) 19 ≡ t → isSimple (statementIn (nodesIn file) n) ≡ true
-      by19 c true e = ap isSimple (assign-entry-is file functionStart nodesStart (ready .context) n (ready .inside) r same (eqb-true (r .kind) 19 e))
+      by19 c true e = ap isSimple (assign-entry-is file functionStart source (ready .context) n (ready .inside) r same (eqb-true (r .kind) 19 e))
       by19 c false e = by20 c (eqb-false (r .kind) 19 e) (eqb (r .kind) 20) refl
 
       by18 : (t : Bool) → eqb (r .kind) 18 ≡ t → isSimple (statementIn (nodesIn file) n) ≡ true
-      by18 true e = ap isSimple (assign-field-is file functionStart nodesStart (ready .context) n (ready .inside) r same (eqb-true (r .kind) 18 e))
+      by18 true e = ap isSimple (assign-field-is file functionStart source (ready .context) n (ready .inside) r same (eqb-true (r .kind) 18 e))
       by18 false e = by19 (eqb-false (r .kind) 18 e) (eqb (r .kind) 19) refl
 
-  pub simple-ready : Ready file functionStart nodesStart n scratch (start i) (statementOf file functionStart 0 n)
+  pub simple-ready : Ready file functionStart source n scratch (start i) (statementOf file functionStart 0 n)
   simple-ready = record { inside = ready .inside; context = ready .context; room = record { space = omega (arith, ready .space); few = ready .few } }
 
   module _ (plain : isSimple (statementIn (nodesIn file) n) ≡ true) (log : List ℕ) (p : Position)
@@ -103,7 +104,7 @@ module _ (file : List ℕ) (functionStart nodesStart n i : ℕ) (scratch roots o
         ap (λ (m : ℕ). singleTree file functionStart log 0 m n i) (entries-are file functionStart i scratch log p (statementOf file functionStart 0 n) logged)
         ∙ single-rewritten file functionStart log n i always (logged .numbers) 0 plain (logged .entries) (holds file functionStart i scratch log p (statementOf file functionStart 0 n) logged)
 
-    pub single-ready : (n < nodeCount file) × ((Context file functionStart nodesStart) × ((i + simpleCount (scopeIn file functionStart) (statementIn (nodesIn file) n) ≤ 65535)
+    pub single-ready : (n < nodeCount file) × ((Context file functionStart source) × ((i + simpleCount (scopeIn file functionStart) (statementIn (nodesIn file) n) ≤ 65535)
         × ((Readable file functionStart log 0 (p .at / 5)) × ((length (stepsIn file functionStart log 0 (p .at / 5)) ≤ length roots)
         × (Room out at base (singleTree file functionStart log 0 (p .at / 5) n i))))))
     single-ready =
@@ -129,15 +130,15 @@ module _ (file : List ℕ) (functionStart nodesStart n i : ℕ) (scratch roots o
         → StatementWritten file functionStart n i out after at base (record { nodes = nodes; next = p .variable })
     single-written after nodes w = record { written = numbered-as out at base after _ _ nodes nodes (sym tree-is) refl w; next = logged .variable }
 
-module _ (file : List ℕ) (functionStart nodesStart n i : ℕ) (scratch roots out : List ℕ) (at base : ℕ) (ready : ConditionReady file functionStart nodesStart n i scratch roots out at base) where
-  pub condition-log : Ready file functionStart nodesStart n scratch (start i) (bodyOf file functionStart 0 n)
+module _ (file : List ℕ) (functionStart : ℕ) (source : List ℕ) (n i : ℕ) (scratch roots out : List ℕ) (at base : ℕ) (ready : ConditionReady file functionStart source n i scratch roots out at base) where
+  pub condition-log : Ready file functionStart source n scratch (start i) (bodyOf file functionStart 0 n)
   condition-log = record { inside = ready .inside; context = ready .context; room = record { space = omega (arith, ready .space); few = ready .few } }
 
   module _ (log : List ℕ) (p : Position) (logged : Logged (nodesIn file) scratch log (start i) p (bodyOf file functionStart 0 n i)) where
     same-steps : stepsIn file functionStart log 0 (p .at / 5) ≡ conditionSteps file functionStart n i
     same-steps = steps-are file functionStart i scratch log p (bodyOf file functionStart 0 n) logged
 
-    pub steps-ready : (Context file functionStart nodesStart) × ((Readable file functionStart log 0 (p .at / 5)) × (StepsRoom out roots at base 0 (stepsIn file functionStart log 0 (p .at / 5))))
+    pub steps-ready : (Context file functionStart source) × ((Readable file functionStart log 0 (p .at / 5)) × (StepsRoom out roots at base 0 (stepsIn file functionStart log 0 (p .at / 5))))
     steps-ready = (
       ready .context,
       (
@@ -150,7 +151,7 @@ module _ (file : List ℕ) (functionStart nodesStart n i : ℕ) (scratch roots o
       own : StepsPut out between roots rootsAfter at base 0 (conditionSteps file functionStart n i) r
       own = put-same out roots at base 0 between rootsAfter _ _ r (sym same-steps) put
 
-      pub form-ready : (n < nodeCount file) × ((Context file functionStart nodesStart) × ((i + bodyCount (scopeIn file functionStart) (expressionIn (nodesIn file) n) ≤ 65535)
+      pub form-ready : (n < nodeCount file) × ((Context file functionStart source) × ((i + bodyCount (scopeIn file functionStart) (expressionIn (nodesIn file) n) ≤ 65535)
           × (Room between (at + 8 * r .nodes) (base + r .nodes) (bodyForm (scopeIn file functionStart) (expressionIn (nodesIn file) n) i))))
       unfolding commandTree
       form-ready =

@@ -15,20 +15,21 @@ use Rattle.rewrite_events.specs.Events.{variableCount}
 use Rattle.write_nodes.specs.Numbering.{Room}
 use Rattle.write_nodes.proofs.TreeNodes.{room-left, room-right, room-above-two, numbered-two, room-as, numbered-as}
 use Rattle.write_bodies.specs.declared.Extent.{Extent}
-use Rattle.write_bodies.specs.Parts.{commandOf, eventsOf, statementTree, eventsAt, recordAt}
+use Rattle.write_bodies.specs.Parts.{commandOf, eventsOf, statementTree, eventsAt}
+use Rattle.file_decoded.specs.Slices.{recordAt}
 use Rattle.write_bodies.specs.Bodies.{StatementReady, StatementWritten}
 use Rattle.write_bodies.proofs.Commands.{sequence-command, sequence-events, sequence-variables}
 
-module _ (file : List ℕ) (functionStart nodesStart n i : ℕ) (scratch roots out : List ℕ) (at base : ℕ) (ready : StatementReady file functionStart nodesStart n i scratch roots out at base)
-    (r : NodeRecord) (same : r ≡ recordAt file nodesStart n) (kind : (recordAt file nodesStart n) .kind ≡ 17) where
+module _ (file : List ℕ) (functionStart : ℕ) (source : List ℕ) (n i : ℕ) (scratch roots out : List ℕ) (at base : ℕ) (ready : StatementReady file functionStart source n i scratch roots out at base)
+    (r : NodeRecord) (same : r ≡ recordAt source n) (kind : (recordAt source n) .kind ≡ 17) where
   own-kind : r .kind ≡ 17
-  own-kind = kind-as (recordAt file nodesStart n) r 17 (sym same) kind
+  own-kind = kind-as (recordAt source n) r 17 (sym same) kind
 
   pub parts-less : (r .first < n) × (r .second < n)
-  parts-less = steps-below file functionStart nodesStart (ready .context) n (ready .inside) r same own-kind
+  parts-less = steps-below file functionStart source (ready .context) n (ready .inside) r same own-kind
 
   is : statementIn (nodesIn file) n ≡ Statement.sequence (statementIn (nodesIn file) (r .first)) (statementIn (nodesIn file) (r .second))
-  is = sequence-is file functionStart nodesStart (ready .context) n (ready .inside) r same own-kind
+  is = sequence-is file functionStart source (ready .context) n (ready .inside) r same own-kind
 
   abbrev middle : ℕ
   middle = i + variableCount (eventsAt file functionStart (r .first) i)
@@ -52,7 +53,7 @@ module _ (file : List ℕ) (functionStart nodesStart n i : ℕ) (scratch roots o
   room-own : Room out at base (twoChildren 17 0 (statementTree file functionStart (r .first) i) (statementTree file functionStart (r .second) middle))
   room-own = room-as out at base _ _ tree-is (ready .room)
 
-  pub first-ready : StatementReady file functionStart nodesStart (r .first) i scratch roots out at base
+  pub first-ready : StatementReady file functionStart source (r .first) i scratch roots out at base
   first-ready =
       let less = parts-less .0 in
       let events = events-are in
@@ -71,7 +72,7 @@ module _ (file : List ℕ) (functionStart nodesStart n i : ℕ) (scratch roots o
     second-room = room-right out at base 17 0 _ _ room-own between (first .nodes) (w .written)
 
     pub second-ready : (scratchNow rootsNow : List ℕ) → length scratchNow ≡ length scratch → length rootsNow ≡ length roots
-        → StatementReady file functionStart nodesStart (r .second) (first .next) scratchNow rootsNow between (at + 8 * first .nodes) (base + first .nodes)
+        → StatementReady file functionStart source (r .second) (first .next) scratchNow rootsNow between (at + 8 * first .nodes) (base + first .nodes)
     second-ready scratchNow rootsNow a b =
         let less = parts-less .1 in
         let events = events-are in

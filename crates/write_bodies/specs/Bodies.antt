@@ -22,9 +22,9 @@ use Rattle.write_bodies.specs.Parts.{statementTree, eventsAt, branchTree
 use Rattle.write_bodies.specs.Parts.{conditionSteps, passageTree}
 
 -- A statement: node n, whose first variable is number i.
-pub record StatementReady (file : List ℕ) (functionStart nodesStart n i : ℕ) (scratch roots out : List ℕ) (at base : ℕ) : Type 0 where
+pub record StatementReady (file : List ℕ) (functionStart : ℕ) (source : List ℕ) (n i : ℕ) (scratch roots out : List ℕ) (at base : ℕ) : Type 0 where
   pub inside : n < nodeCount file
-  pub context : Context file functionStart nodesStart
+  pub context : Context file functionStart source
   pub space : 5 * length (eventsAt file functionStart n i) ≤ length scratch
   pub steps : length (eventsAt file functionStart n i) ≤ length roots
   pub few : i + variableCount (eventsAt file functionStart n i) < 65535
@@ -35,9 +35,9 @@ pub record StatementWritten (file : List ℕ) (functionStart n i : ℕ) (out aft
   pub next : r .next ≡ i + variableCount (eventsAt file functionStart n i)
 
 -- A branch: node n behind its guard, which is variable j.
-pub record BranchReady (file : List ℕ) (functionStart nodesStart n j : ℕ) (scratch roots out : List ℕ) (at base : ℕ) : Type 0 where
+pub record BranchReady (file : List ℕ) (functionStart : ℕ) (source : List ℕ) (n j : ℕ) (scratch roots out : List ℕ) (at base : ℕ) : Type 0 where
   pub inside : n < nodeCount file
-  pub context : Context file functionStart nodesStart
+  pub context : Context file functionStart source
   pub space : 5 * branchEvents file functionStart n j ≤ length scratch
   pub steps : branchEvents file functionStart n j ≤ length roots
   pub few : j + branchVariables file functionStart n j < 65535
@@ -48,9 +48,9 @@ pub record BranchWritten (file : List ℕ) (functionStart n j : ℕ) (out after 
   pub next : r .next ≡ j + branchVariables file functionStart n j
 
 -- A condition's steps and its form, where a conditional follows.
-pub record ConditionReady (file : List ℕ) (functionStart nodesStart n i : ℕ) (scratch roots out : List ℕ) (at base : ℕ) : Type 0 where
+pub record ConditionReady (file : List ℕ) (functionStart : ℕ) (source : List ℕ) (n i : ℕ) (scratch roots out : List ℕ) (at base : ℕ) : Type 0 where
   pub inside : n < nodeCount file
-  pub context : Context file functionStart nodesStart
+  pub context : Context file functionStart source
   pub space : 5 * length (conditionEvents file functionStart n i) ≤ length scratch
   pub few : i + variableCount (conditionEvents file functionStart n i) < 65535
   pub enough : length (conditionSteps file functionStart n i) ≤ length roots
@@ -84,10 +84,10 @@ module _ (file : List ℕ) (functionStart : ℕ) (own : NodeRecord) (j : ℕ) wh
   abbrev pub afterBranches : ℕ
   afterBranches = elseGuard + branchVariables file functionStart (own .third) elseGuard
 
-pub record BranchesReady (file : List ℕ) (functionStart nodesStart n : ℕ) (own : NodeRecord) (form j : ℕ)
+pub record BranchesReady (file : List ℕ) (functionStart : ℕ) (source : List ℕ) (n : ℕ) (own : NodeRecord) (form j : ℕ)
     (scratch roots out : List ℕ) (at base : ℕ) : Type 0 where
   pub inside : n < nodeCount file
-  pub context : Context file functionStart nodesStart
+  pub context : Context file functionStart source
   pub kind : own .kind ≡ 21
   pub space : 5 * branchesEvents file functionStart own j ≤ length scratch
   pub steps : branchesEvents file functionStart own j ≤ length roots
@@ -105,9 +105,9 @@ pub record BranchesWritten (file : List ℕ) (functionStart : ℕ) (own : NodeRe
   pub next : r .next ≡ afterBranches file functionStart own j
 
 -- A function's root statement and its verify.
-pub record PassageReady (file : List ℕ) (functionStart nodesStart private : ℕ) (verified : Bool) (scratch roots out : List ℕ)
+pub record PassageReady (file : List ℕ) (functionStart : ℕ) (source : List ℕ) (private : ℕ) (verified : Bool) (scratch roots out : List ℕ)
     (at base : ℕ) : Type 0 where
-  pub context : Context file functionStart nodesStart
+  pub context : Context file functionStart source
   pub root : rootAt file functionStart < nodeCount file
   pub space : 5 * length (eventsAt file functionStart (rootAt file functionStart) private) ≤ length scratch
   pub steps : length (eventsAt file functionStart (rootAt file functionStart) private) ≤ length roots
@@ -115,9 +115,9 @@ pub record PassageReady (file : List ℕ) (functionStart nodesStart private : �
   pub room : Room out at base (passageTree file functionStart private verified)
 
 -- A function's whole body.
-pub record BodyReady (file : List ℕ) (functionStart nodesStart private : ℕ) (verified : Bool) (scratch roots out : List ℕ)
+pub record BodyReady (file : List ℕ) (functionStart : ℕ) (source : List ℕ) (private : ℕ) (verified : Bool) (scratch roots out : List ℕ)
     (at base : ℕ) : Type 0 where
-  pub context : Context file functionStart nodesStart
+  pub context : Context file functionStart source
   pub root : rootAt file functionStart < nodeCount file
   pub privateIs : private ≡ privateIn file functionStart
   pub verifies : verified ≡ ltb 0 (length ((writtenIn file functionStart) .constraints))

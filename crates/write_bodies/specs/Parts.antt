@@ -53,10 +53,6 @@ module _ (file : List ℕ) (functionStart : ℕ) where
   abbrev pub conditionSteps : ℕ → ℕ → List Step
   conditionSteps n i = stepsOf (scopeIn file functionStart) (conditionEvents n i)
 
--- The record of node n.
-abbrev pub recordAt : List ℕ → ℕ → ℕ → NodeRecord
-recordAt file nodesStart n = nodeRecord file (nodesStart + 2 + 8 * n)
-
 -- The reads of the private ones among parameters that stand in a file from a place on, the first of them number k;
 -- the first variable is number i.
 abbrev pub openingSteps : List ℕ → ℕ → ℕ → ℕ → ℕ → List Step

@@ -1,5 +1,5 @@
 // 01, Rewriting: the nodes of a function's written body, statement by statement.
-use file_bytes::node_at;
+use file_decoded::node_at;
 use file_kinds::IF;
 use file_kinds::IF_BYTE;
 use file_kinds::SEQUENCE;
@@ -22,7 +22,7 @@ ghost use Rattle.file_accepted.specs.Context.{nodesIn};
 ghost use Rattle.write_stepped_statements.proofs.Rewritten.{isSimple};
 ghost use Rattle.write_bodies.specs.Bodies.{StatementReady, StatementWritten, BranchReady, BranchWritten, ConditionReady};
 ghost use Rattle.write_bodies.specs.Bodies.{ConditionWritten, BranchesReady, BranchesWritten};
-ghost use Rattle.write_bodies.specs.Parts.{recordAt};
+ghost use Rattle.file_decoded.specs.Slices.{recordAt};
 
 // How many nodes were written, and the number of the next variable.
 pub struct Extent {
@@ -42,7 +42,7 @@ pub struct Condition {
 fn write_simple(
     file: &[u8],
     function_at: usize,
-    nodes_at: usize,
+    source: &[u16],
     n: usize,
     i: usize,
     scratch: &mut [u16],
@@ -52,16 +52,16 @@ fn write_simple(
     base: usize,
 ) -> Extent
     requires { ⌜ (isSimple (statementIn (nodesIn (now file)) n) ≡ true)
-        × (StatementReady (now file) «function_at» «nodes_at» n i (now scratch) (now roots) (now out) at base) ⌝ }
+        × (StatementReady (now file) «function_at» (now source) n i (now scratch) (now roots) (now out) at base) ⌝ }
     ensures { λ r. ⌜ StatementWritten (now (file .entry)) «function_at» n i (now (out .entry)) (now (out .exit)) at base r ⌝ }
 {
     let start = Position { at: 0, variable: i };
-    let end = statement_log(file, function_at, nodes_at, n, 0, scratch, start);
+    let end = statement_log(file, function_at, source, n, 0, scratch, start);
     let entries = end.at / 5;
     let nodes = write_single(
         file,
         function_at,
-        nodes_at,
+        source,
         scratch,
         0,
         entries,
@@ -82,7 +82,7 @@ fn write_simple(
 fn write_condition(
     file: &[u8],
     function_at: usize,
-    nodes_at: usize,
+    source: &[u16],
     n: usize,
     i: usize,
     scratch: &mut [u16],
@@ -91,17 +91,17 @@ fn write_condition(
     at: usize,
     base: usize,
 ) -> Condition
-    requires { ⌜ ConditionReady (now file) «function_at» «nodes_at» n i (now scratch) (now roots) (now out) at base ⌝ }
+    requires { ⌜ ConditionReady (now file) «function_at» (now source) n i (now scratch) (now roots) (now out) at base ⌝ }
     ensures { λ r. ⌜ ConditionWritten (now (file .entry)) «function_at» n i (now (roots .entry)) (now (roots .exit))
         (now (out .entry)) (now (out .exit)) at base r ⌝ }
 {
     let start = Position { at: 0, variable: i };
-    let end = body_log(file, function_at, nodes_at, n, 0, scratch, start);
+    let end = body_log(file, function_at, source, n, 0, scratch, start);
     let entries = end.at / 5;
     let steps = put_steps(
         file,
         function_at,
-        nodes_at,
+        source,
         scratch,
         0,
         entries,
@@ -113,7 +113,7 @@ fn write_condition(
     );
     let place = at + 8 * steps.nodes;
     let first = base + steps.nodes;
-    let form = write_body_form(file, function_at, nodes_at, n, i, out, place, first);
+    let form = write_body_form(file, function_at, source, n, i, out, place, first);
     Condition {
         count: steps.count,
         nodes: steps.nodes,
@@ -126,7 +126,7 @@ fn write_condition(
 fn write_branch(
     file: &[u8],
     function_at: usize,
-    nodes_at: usize,
+    source: &[u16],
     n: usize,
     j: usize,
     scratch: &mut [u16],
@@ -135,14 +135,14 @@ fn write_branch(
     at: usize,
     base: usize,
 ) -> Extent
-    requires { ⌜ BranchReady (now file) «function_at» «nodes_at» n j (now scratch) (now roots) (now out) at base ⌝ }
+    requires { ⌜ BranchReady (now file) «function_at» (now source) n j (now scratch) (now roots) (now out) at base ⌝ }
     ensures { λ r. ⌜ BranchWritten (now (file .entry)) «function_at» n j (now (out .entry)) (now (out .exit)) at base r ⌝ }
 {
     put_guard(j, out, at, base);
     let inside = write_statement(
         file,
         function_at,
-        nodes_at,
+        source,
         n,
         j + 1,
         scratch,
@@ -162,7 +162,7 @@ fn write_branch(
 fn write_branches(
     file: &[u8],
     function_at: usize,
-    nodes_at: usize,
+    source: &[u16],
     n: usize,
     form: usize,
     j: usize,
@@ -172,18 +172,18 @@ fn write_branches(
     at: usize,
     base: usize,
 ) -> Extent
-    requires { ⌜ BranchesReady (now file) «function_at» «nodes_at» n (recordAt (now file) «nodes_at» n) form j (now scratch)
+    requires { ⌜ BranchesReady (now file) «function_at» (now source) n (recordAt (now source) n) form j (now scratch)
         (now roots) (now out) at base ⌝ }
-    ensures { λ r. ⌜ BranchesWritten (now (file .entry)) «function_at» (recordAt (now (file .entry)) «nodes_at» n) form j
+    ensures { λ r. ⌜ BranchesWritten (now (file .entry)) «function_at» (recordAt (now (source .entry)) n) form j
         (now (out .entry)) (now (out .exit)) at base r ⌝ }
 {
-    let node = node_at(file, nodes_at, n);
+    let node = node_at(source, n);
     let a = at + 8 * form;
     let b = base + form;
     let then = write_branch(
         file,
         function_at,
-        nodes_at,
+        source,
         node.second,
         j,
         scratch,
@@ -198,7 +198,7 @@ fn write_branches(
     let last = write_branch(
         file,
         function_at,
-        nodes_at,
+        source,
         node.third,
         k,
         scratch,
@@ -218,7 +218,7 @@ fn write_branches(
 fn write_conditional(
     file: &[u8],
     function_at: usize,
-    nodes_at: usize,
+    source: &[u16],
     n: usize,
     i: usize,
     scratch: &mut [u16],
@@ -227,15 +227,15 @@ fn write_conditional(
     at: usize,
     base: usize,
 ) -> Extent
-    requires { ⌜ ((recordAt (now file) «nodes_at» n) .kind ≡ 21)
-        × (StatementReady (now file) «function_at» «nodes_at» n i (now scratch) (now roots) (now out) at base) ⌝ }
+    requires { ⌜ ((recordAt (now source) n) .kind ≡ 21)
+        × (StatementReady (now file) «function_at» (now source) n i (now scratch) (now roots) (now out) at base) ⌝ }
     ensures { λ r. ⌜ StatementWritten (now (file .entry)) «function_at» n i (now (out .entry)) (now (out .exit)) at base r ⌝ }
 {
-    let first = node_at(file, nodes_at, n).first;
+    let first = node_at(source, n).first;
     let c = write_condition(
         file,
         function_at,
-        nodes_at,
+        source,
         first,
         i,
         scratch,
@@ -250,7 +250,7 @@ fn write_conditional(
     let rest = write_branches(
         file,
         function_at,
-        nodes_at,
+        source,
         n,
         c.form,
         c.next,
@@ -272,7 +272,7 @@ fn write_conditional(
 pub fn write_statement(
     file: &[u8],
     function_at: usize,
-    nodes_at: usize,
+    source: &[u16],
     n: usize,
     i: usize,
     scratch: &mut [u16],
@@ -281,16 +281,16 @@ pub fn write_statement(
     at: usize,
     base: usize,
 ) -> Extent
-    requires { ⌜ StatementReady (now file) «function_at» «nodes_at» n i (now scratch) (now roots) (now out) at base ⌝ }
+    requires { ⌜ StatementReady (now file) «function_at» (now source) n i (now scratch) (now roots) (now out) at base ⌝ }
     ensures { λ r. ⌜ StatementWritten (now (file .entry)) «function_at» n i (now (out .entry)) (now (out .exit)) at base r ⌝ }
 {
-    let node = node_at(file, nodes_at, n);
+    let node = node_at(source, n);
     let kind = node.kind;
     match kind {
         SEQUENCE => write_sequence(
             file,
             function_at,
-            nodes_at,
+            source,
             n,
             i,
             scratch,
@@ -302,7 +302,7 @@ pub fn write_statement(
         IF => write_conditional(
             file,
             function_at,
-            nodes_at,
+            source,
             n,
             i,
             scratch,
@@ -314,7 +314,7 @@ pub fn write_statement(
         _ => write_simple(
             file,
             function_at,
-            nodes_at,
+            source,
             n,
             i,
             scratch,
@@ -330,7 +330,7 @@ pub fn write_statement(
 fn write_sequence(
     file: &[u8],
     function_at: usize,
-    nodes_at: usize,
+    source: &[u16],
     n: usize,
     i: usize,
     scratch: &mut [u16],
@@ -339,15 +339,15 @@ fn write_sequence(
     at: usize,
     base: usize,
 ) -> Extent
-    requires { ⌜ ((recordAt (now file) «nodes_at» n) .kind ≡ 17)
-        × (StatementReady (now file) «function_at» «nodes_at» n i (now scratch) (now roots) (now out) at base) ⌝ }
+    requires { ⌜ ((recordAt (now source) n) .kind ≡ 17)
+        × (StatementReady (now file) «function_at» (now source) n i (now scratch) (now roots) (now out) at base) ⌝ }
     ensures { λ r. ⌜ StatementWritten (now (file .entry)) «function_at» n i (now (out .entry)) (now (out .exit)) at base r ⌝ }
 {
-    let node = node_at(file, nodes_at, n);
+    let node = node_at(source, n);
     let first = write_statement(
         file,
         function_at,
-        nodes_at,
+        source,
         node.first,
         i,
         scratch,
@@ -362,7 +362,7 @@ fn write_sequence(
     let second = write_statement(
         file,
         function_at,
-        nodes_at,
+        source,
         node.second,
         j,
         scratch,

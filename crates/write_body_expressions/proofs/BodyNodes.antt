@@ -14,6 +14,7 @@ use Rattle.write_variable_counts.proofs.Steps.{body-entry, body-operator, body-
 use Rattle.write_reads.specs.Forms.{bodyForm}
 use Rattle.write_body_expressions.proofs.Bodies.{body-of-constant, body-of-me, body-of-field, body-of-parameter, body-of-entry, body-of-operator, body-of-supplied-operator, body-of-negation, body-of-supplied-negation, body-of-reveal}
 use Rattle.write_body_expressions.proofs.Listed.{operator-kept, constant-kept}
+use Rattle.file_decoded.specs.Slices.{recordAt}
 
 abbrev pub bodyAt : List ℕ → ℕ → ℕ → ℕ → Tree
 bodyAt file functionStart n i = bodyForm (scopeIn file functionStart) (expressionIn (nodesIn file) n) i
@@ -24,51 +25,51 @@ countAt file functionStart n = bodyCount (scopeIn file functionStart) (expressio
 abbrev pub publicAt : List ℕ → ℕ → ℕ → Bool
 publicAt file functionStart n = isPublic (scopeIn file functionStart) (expressionIn (nodesIn file) n)
 
-module _ (file : List ℕ) (functionStart nodesStart : ℕ) (context : Context file functionStart nodesStart) (n : ℕ) (inside : n < nodeCount file) (r : NodeRecord)
-    (same : r ≡ nodeRecord file (nodesStart + 2 + 8 * n)) where
+module _ (file : List ℕ) (functionStart : ℕ) (source : List ℕ) (context : Context file functionStart source) (n : ℕ) (inside : n < nodeCount file) (r : NodeRecord)
+    (same : r ≡ recordAt source n) where
   pub constant-body : (i : ℕ) → r .kind ≡ 1 → r .first ≤ 65535 → bodyAt file functionStart n i ≡ leaf 1 (r .arg) (r .first) (r .second)
   constant-body i e small =
-      body-of-constant _ _ i _ _ (constant-is file functionStart nodesStart context n inside r same e) ∙ constant-kept file functionStart nodesStart context n inside r same e small
+      body-of-constant _ _ i _ _ (constant-is file functionStart source context n inside r same e) ∙ constant-kept file functionStart source context n inside r same e small
 
   pub field-body : (i : ℕ) → r .kind ≡ 3 → bodyAt file functionStart n i ≡ leaf 3 (r .arg) 0 0
-  field-body i e = body-of-field _ _ i _ (field-is file functionStart nodesStart context n inside r same e)
+  field-body i e = body-of-field _ _ i _ (field-is file functionStart source context n inside r same e)
 
   pub entry-body : (i : ℕ) → r .kind ≡ 4 → bodyAt file functionStart n i ≡ oneChild 4 (r .arg) (bodyAt file functionStart (r .first) i)
-  entry-body i e = body-of-entry _ _ i _ _ (entry-is file functionStart nodesStart context n inside r same e)
+  entry-body i e = body-of-entry _ _ i _ _ (entry-is file functionStart source context n inside r same e)
 
   pub parameter-body : (i : ℕ) → r .kind ≡ 5 → bodyAt file functionStart n i ≡ leaf 5 (r .arg) 0 0
-  parameter-body i e = body-of-parameter _ _ i _ (parameter-is file functionStart nodesStart context n inside r same e)
+  parameter-body i e = body-of-parameter _ _ i _ (parameter-is file functionStart source context n inside r same e)
 
   pub reveal-body : (i : ℕ) → r .kind ≡ 8 → bodyAt file functionStart n i ≡ leaf 9 0 i 0
-  reveal-body i e = body-of-reveal _ _ i _ _ (reveal-is file functionStart nodesStart context n inside r same e)
+  reveal-body i e = body-of-reveal _ _ i _ _ (reveal-is file functionStart source context n inside r same e)
 
   pub other-body : (i : ℕ) → Unlisted (r .kind) → bodyAt file functionStart n i ≡ leaf 2 0 0 0
-  other-body i u = body-of-me _ _ i (other-is file functionStart nodesStart context n inside r same u)
+  other-body i u = body-of-me _ _ i (other-is file functionStart source context n inside r same u)
 
   pub entry-count : r .kind ≡ 4 → countAt file functionStart (r .first) ≡ countAt file functionStart n
-  entry-count e = body-entry _ _ _ _ (entry-is file functionStart nodesStart context n inside r same e)
+  entry-count e = body-entry _ _ _ _ (entry-is file functionStart source context n inside r same e)
 
   module _ (flag : Bool) (found : flag ≡ publicAt file functionStart n) where
     pub operator-body : flag ≡ true → (i : ℕ) → r .kind ≡ 6 → (more : ℕ) → more ≡ countAt file functionStart (r .first)
         → bodyAt file functionStart n i ≡ twoChildren 6 (r .arg) (bodyAt file functionStart (r .first) i) (bodyAt file functionStart (r .second) (i + more))
     operator-body public i e more counted =
-        body-of-operator _ _ i _ _ _ (operator-is file functionStart nodesStart context n inside r same e) (sym found ∙ public)
+        body-of-operator _ _ i _ _ _ (operator-is file functionStart source context n inside r same e) (sym found ∙ public)
         ∙ ap (λ (code : ℕ). twoChildren 6 code (bodyAt file functionStart (r .first) i) (bodyAt file functionStart (r .second) (i + countAt file functionStart (r .first))))
-        (operator-kept file functionStart nodesStart context n inside r same e)
+        (operator-kept file functionStart source context n inside r same e)
         ∙ ap (λ (j : ℕ). twoChildren 6 (r .arg) (bodyAt file functionStart (r .first) i) (bodyAt file functionStart (r .second) (i + j))) (sym counted)
 
     pub operator-count : flag ≡ true → r .kind ≡ 6 → countAt file functionStart (r .first) + countAt file functionStart (r .second) ≡ countAt file functionStart n
-    operator-count public e = body-operator _ _ _ _ _ (operator-is file functionStart nodesStart context n inside r same e) (sym found ∙ public)
+    operator-count public e = body-operator _ _ _ _ _ (operator-is file functionStart source context n inside r same e) (sym found ∙ public)
 
     pub supplied-operator-body : flag ≡ false → (i : ℕ) → r .kind ≡ 6 → bodyAt file functionStart n i ≡ leaf 9 0 i 0
     supplied-operator-body private i e =
-        body-of-supplied-operator _ _ i _ _ _ (operator-is file functionStart nodesStart context n inside r same e) (sym found ∙ private)
+        body-of-supplied-operator _ _ i _ _ _ (operator-is file functionStart source context n inside r same e) (sym found ∙ private)
 
     pub negation-body : flag ≡ true → (i : ℕ) → r .kind ≡ 7 → bodyAt file functionStart n i ≡ oneChild 7 0 (bodyAt file functionStart (r .first) i)
-    negation-body public i e = body-of-negation _ _ i _ (negation-is file functionStart nodesStart context n inside r same e) (sym found ∙ public)
+    negation-body public i e = body-of-negation _ _ i _ (negation-is file functionStart source context n inside r same e) (sym found ∙ public)
 
     pub negation-count : flag ≡ true → r .kind ≡ 7 → countAt file functionStart (r .first) ≡ countAt file functionStart n
-    negation-count public e = body-negation _ _ _ (negation-is file functionStart nodesStart context n inside r same e) (sym found ∙ public)
+    negation-count public e = body-negation _ _ _ (negation-is file functionStart source context n inside r same e) (sym found ∙ public)
 
     pub supplied-negation-body : flag ≡ false → (i : ℕ) → r .kind ≡ 7 → bodyAt file functionStart n i ≡ leaf 9 0 i 0
-    supplied-negation-body private i e = body-of-supplied-negation _ _ i _ (negation-is file functionStart nodesStart context n inside r same e) (sym found ∙ private)
+    supplied-negation-body private i e = body-of-supplied-negation _ _ i _ (negation-is file functionStart source context n inside r same e) (sym found ∙ private)

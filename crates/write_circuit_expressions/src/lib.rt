@@ -1,5 +1,5 @@
 // 01, Rewriting: the nodes of an expression's form in a circuit, written behind others.
-use file_bytes::node_at;
+use file_decoded::node_at;
 use file_kinds::CONSTANT;
 use file_kinds::CONSTANT_BYTE;
 use file_kinds::ENTRY;
@@ -33,7 +33,7 @@ ghost use Rattle.write_reads.specs.Forms.{circuitForm, kindAt};
 pub fn write_circuit_form(
     file: &[u8],
     function_at: usize,
-    nodes_at: usize,
+    source: &[u16],
     n: usize,
     i: usize,
     out: &mut [u8],
@@ -41,29 +41,29 @@ pub fn write_circuit_form(
     base: usize,
 ) -> usize
     requires { ⌜ (n < nodeCount (now file))
-        × ((Context (now file) «function_at» «nodes_at»)
+        × ((Context (now file) «function_at» (now source))
         × ((i + circuitCount (scopeIn (now file) «function_at») (expressionIn (nodesIn (now file)) n) ≤ 65535)
         × (Room (now out) at base (circuitForm (scopeIn (now file) «function_at») (expressionIn (nodesIn (now file)) n) i)))) ⌝ }
     ensures { λ r. ⌜ Numbered (now (out .entry)) (now (out .exit)) at base
         (circuitForm (scopeIn (now (file .entry)) «function_at») (expressionIn (nodesIn (now (file .entry))) n) i) r ⌝ }
 {
-    let node = node_at(file, nodes_at, n);
+    let node = node_at(source, n);
     let kind = node.kind;
     let arg = node.arg as u8;
     match kind {
         CONSTANT => put_leaf(CONSTANT_BYTE, arg, node.first, node.second, out, at),
-        FIELD => put_read(is_public(file, function_at, nodes_at, n), i, out, at),
+        FIELD => put_read(is_public(file, function_at, source, n), i, out, at),
         ENTRY => {
-            let j = i + body_count(file, function_at, nodes_at, node.first);
-            put_read(is_public(file, function_at, nodes_at, n), j, out, at)
+            let j = i + body_count(file, function_at, source, node.first);
+            put_read(is_public(file, function_at, source, n), j, out, at)
         }
-        PARAMETER => put_read(is_public(file, function_at, nodes_at, n), i, out, at),
-        OPERATOR => write_circuit_operator(file, function_at, nodes_at, n, i, out, at, base),
+        PARAMETER => put_read(is_public(file, function_at, source, n), i, out, at),
+        OPERATOR => write_circuit_operator(file, function_at, source, n, i, out, at, base),
         NOT => {
             let part = write_circuit_form(
                 file,
                 function_at,
-                nodes_at,
+                source,
                 node.first,
                 i,
                 out,
@@ -72,7 +72,7 @@ pub fn write_circuit_form(
             );
             put_above_one(NOT_BYTE, 0, part, out, at, base)
         }
-        REVEAL => write_circuit_form(file, function_at, nodes_at, node.first, i, out, at, base),
+        REVEAL => write_circuit_form(file, function_at, source, node.first, i, out, at, base),
         _ => put_leaf(ME_BYTE, 0, 0, 0, out, at),
     }
 }
@@ -81,33 +81,33 @@ pub fn write_circuit_form(
 fn write_circuit_operator(
     file: &[u8],
     function_at: usize,
-    nodes_at: usize,
+    source: &[u16],
     n: usize,
     i: usize,
     out: &mut [u8],
     at: usize,
     base: usize,
 ) -> usize
-    requires { ⌜ (kindAt (now file) «nodes_at» n ≡ 6)
+    requires { ⌜ (kindAt (now source) n ≡ 6)
         × ((n < nodeCount (now file))
-        × ((Context (now file) «function_at» «nodes_at»)
+        × ((Context (now file) «function_at» (now source))
         × ((i + circuitCount (scopeIn (now file) «function_at») (expressionIn (nodesIn (now file)) n) ≤ 65535)
         × (Room (now out) at base (circuitForm (scopeIn (now file) «function_at») (expressionIn (nodesIn (now file)) n) i))))) ⌝ }
     ensures { λ r. ⌜ Numbered (now (out .entry)) (now (out .exit)) at base
         (circuitForm (scopeIn (now (file .entry)) «function_at») (expressionIn (nodesIn (now (file .entry))) n) i) r ⌝ }
 {
-    let node = node_at(file, nodes_at, n);
+    let node = node_at(source, n);
     let arg = node.arg as u8;
-    if is_public_division(file, function_at, nodes_at, n, node.arg) {
-        let j = i + body_count(file, function_at, nodes_at, node.first);
-        let k = j + body_count(file, function_at, nodes_at, node.second);
+    if is_public_division(file, function_at, source, n, node.arg) {
+        let j = i + body_count(file, function_at, source, node.first);
+        let k = j + body_count(file, function_at, source, node.second);
         put_leaf(VARIABLE_BYTE, 0, k, 0, out, at)
     } else {
-        let j = i + circuit_count(file, function_at, nodes_at, node.first);
-        let left = write_circuit_form(file, function_at, nodes_at, node.first, i, out, at, base);
+        let j = i + circuit_count(file, function_at, source, node.first);
+        let left = write_circuit_form(file, function_at, source, node.first, i, out, at, base);
         let a = at + 8 * left;
         let b = base + left;
-        let right = write_circuit_form(file, function_at, nodes_at, node.second, j, out, a, b);
+        let right = write_circuit_form(file, function_at, source, node.second, j, out, a, b);
         put_above_two(OPERATOR_BYTE, arg, left, right, out, at, base)
     }
 }

@@ -31,14 +31,14 @@ pub fn put_four(numbers: &mut [u16], noted: usize, guard: u16, variable: u16, ow
 fn put_circuit(
     file: &[u8],
     function_at: usize,
-    nodes_at: usize,
+    source: &[u16],
     log: &[u16],
     from: usize,
     out: &mut [u8],
     at: usize,
     base: usize,
 ) -> usize
-    requires { ⌜ (Context (now file) «function_at» «nodes_at»)
+    requires { ⌜ (Context (now file) «function_at» (now source))
         × ((EntryClaimable (now file) «function_at» (now log) from)
         × (Room (now out) at base (circuitAt (scopeIn (now file) «function_at») (nodesIn (now file)) (now log) from))) ⌝ }
     ensures { λ r. ⌜ Numbered (now (out .entry)) (now (out .exit)) at base
@@ -46,7 +46,7 @@ fn put_circuit(
 {
     let first = log[from + 1] as usize + 1;
     let n = log[from + 3] as usize;
-    write_circuit_form(file, function_at, nodes_at, n, first, out, at, base)
+    write_circuit_form(file, function_at, source, n, first, out, at, base)
 }
 
 // The numbers of one claim, whose circuit has this root.
@@ -69,7 +69,7 @@ fn put_claim(log: &[u16], from: usize, root: u16, numbers: &mut [u16], noted: us
 pub fn put_circuits(
     file: &[u8],
     function_at: usize,
-    nodes_at: usize,
+    source: &[u16],
     log: &[u16],
     from: usize,
     left: usize,
@@ -79,7 +79,7 @@ pub fn put_circuits(
     at: usize,
     base: usize,
 ) -> Circuits
-    requires { ⌜ (Context (now file) «function_at» «nodes_at»)
+    requires { ⌜ (Context (now file) «function_at» (now source))
         × ((Claimable (now file) «function_at» (now log) from left)
         × (CircuitsRoom (now out) (now numbers) at base noted (claimsIn (now file) «function_at» (now log) from left))) ⌝ }
     ensures { λ r. ⌜ CircuitsPut (now (out .entry)) (now (out .exit)) (now (numbers .entry)) (now (numbers .exit)) at base noted
@@ -88,12 +88,12 @@ pub fn put_circuits(
     if left == 0 {
         Circuits { count: 0, nodes: 0 }
     } else if log[from] == CLAIM_LOGGED {
-        let nodes = put_circuit(file, function_at, nodes_at, log, from, out, at, base);
+        let nodes = put_circuit(file, function_at, source, log, from, out, at, base);
         put_claim(log, from, (base + nodes - 1) as u16, numbers, noted);
         let later = put_circuits(
             file,
             function_at,
-            nodes_at,
+            source,
             log,
             from + 5,
             left - 1,
@@ -111,7 +111,7 @@ pub fn put_circuits(
         put_circuits(
             file,
             function_at,
-            nodes_at,
+            source,
             log,
             from + 5,
             left - 1,

@@ -28,8 +28,8 @@ use Rattle.write_bodies.specs.declared.Extent.{Extent}
 use Rattle.write_bodies.specs.Parts.{commandOf, statementTree, openingSteps, passageTree}
 use Rattle.write_bodies.specs.Bodies.{StatementReady, StatementWritten, PassageReady, BodyReady}
 
-module _ (file : List ℕ) (functionStart nodesStart private : ℕ) (verified : Bool) (scratch roots out : List ℕ) (at base : ℕ)
-    (ready : PassageReady file functionStart nodesStart private verified scratch roots out at base)
+module _ (file : List ℕ) (functionStart : ℕ) (source : List ℕ) (private : ℕ) (verified : Bool) (scratch roots out : List ℕ) (at base : ℕ)
+    (ready : PassageReady file functionStart source private verified scratch roots out at base)
     (end root : ℕ) (ends : end ≡ functionEnd file functionStart) (read : root ≡ twoBytesAt file (end - 2)) where
   root-is : root ≡ rootAt file functionStart
   root-is = read ∙ ap (λ (x : ℕ). twoBytesAt file (x - 2)) ends
@@ -41,9 +41,9 @@ module _ (file : List ℕ) (functionStart nodesStart private : ℕ) (verified : 
   room-body true room = room-left out at base 17 0 _ _ room
   room-body false room = room
 
-  pub root-ready : StatementReady file functionStart nodesStart root private scratch roots out at base
+  pub root-ready : StatementReady file functionStart source root private scratch roots out at base
   root-ready =
-      subst (λ (n : ℕ). StatementReady file functionStart nodesStart n private scratch roots out at base) (sym root-is)
+      subst (λ (n : ℕ). StatementReady file functionStart source n private scratch roots out at base) (sym root-is)
       (record {
         inside = ready .root;
         context = ready .context;
@@ -104,8 +104,8 @@ verify-ends : (constraints : List Constraint) (command : Command) → withVerify
 verify-ends [] command = refl
 verify-ends (c ∷ cs) command = rw (lt-ltb 0 (suc (length cs)) (omega arith))
 
-module _ (file : List ℕ) (functionStart nodesStart private : ℕ) (verified : Bool) (scratch roots out : List ℕ) (at base : ℕ)
-    (ready : BodyReady file functionStart nodesStart private verified scratch roots out at base) where
+module _ (file : List ℕ) (functionStart : ℕ) (source : List ℕ) (private : ℕ) (verified : Bool) (scratch roots out : List ℕ) (at base : ℕ)
+    (ready : BodyReady file functionStart source private verified scratch roots out at base) where
   abbrev privates : List ℕ
   privates = privateParameters 0 (map parameterOf (parameterRecords (byteAt file functionStart) file (functionStart + 1)))
 
@@ -174,7 +174,7 @@ module _ (file : List ℕ) (functionStart nodesStart private : ℕ) (verified : 
       rest-room = nested-rest-room out roots at base steps rest room-own enough between rootsAfter r put
 
       pub passage-ready : (rootsNow : List ℕ) → length rootsNow ≡ length rootsAfter - r .count → length rootsAfter ≡ length roots
-          → PassageReady file functionStart nodesStart private verified scratch rootsNow between (at + 8 * r .nodes) (base + r .nodes)
+          → PassageReady file functionStart source private verified scratch rootsNow between (at + 8 * r .nodes) (base + r .nodes)
       passage-ready rootsNow a b =
           let few = few-steps in
           let opened = put .count in

@@ -70,7 +70,7 @@ pub fn put_openings(
 pub fn write_passage(
     file: &[u8],
     function_at: usize,
-    nodes_at: usize,
+    source: &[u16],
     private: usize,
     verified: bool,
     scratch: &mut [u16],
@@ -79,7 +79,7 @@ pub fn write_passage(
     at: usize,
     base: usize,
 ) -> usize
-    requires { ⌜ PassageReady (now file) «function_at» «nodes_at» private verified (now scratch) (now roots) (now out) at base ⌝ }
+    requires { ⌜ PassageReady (now file) «function_at» (now source) private verified (now scratch) (now roots) (now out) at base ⌝ }
     ensures { λ r. ⌜ Numbered (now (out .entry)) (now (out .exit)) at base
         (passageTree (now (file .entry)) «function_at» private verified) r ⌝ }
 {
@@ -87,7 +87,7 @@ pub fn write_passage(
     let body = write_statement(
         file,
         function_at,
-        nodes_at,
+        source,
         root,
         private,
         scratch,
@@ -109,7 +109,7 @@ pub fn write_passage(
 pub fn write_function_body(
     file: &[u8],
     function_at: usize,
-    nodes_at: usize,
+    source: &[u16],
     private: usize,
     verified: bool,
     scratch: &mut [u16],
@@ -118,7 +118,7 @@ pub fn write_function_body(
     at: usize,
     base: usize,
 ) -> usize
-    requires { ⌜ BodyReady (now file) «function_at» «nodes_at» private verified (now scratch) (now roots) (now out) at base ⌝ }
+    requires { ⌜ BodyReady (now file) «function_at» (now source) private verified (now scratch) (now roots) (now out) at base ⌝ }
     ensures { λ r. ⌜ Numbered (now (out .entry)) (now (out .exit)) at base
         (commandTree ((writtenIn (now (file .entry)) «function_at») .body)) r ⌝ }
 {
@@ -140,7 +140,7 @@ pub fn write_function_body(
     let rest = write_passage(
         file,
         function_at,
-        nodes_at,
+        source,
         private,
         verified,
         scratch,

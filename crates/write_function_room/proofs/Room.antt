@@ -12,9 +12,9 @@ use Rattle.file_bytes.proofs.Sections.{count-of-nodes}
 use Rattle.theory_accepted.specs.Settled.{Settled}
 use Rattle.theory_accepted.proofs.Sentences.{accepted-settled}
 use Rattle.theory_trees.specs.Trees.{statementIn}
-use Rattle.file_accepted.specs.Context.{nodesIn, fieldsIn, parametersIn, scopeIn, Context}
+use Rattle.file_accepted.specs.Context.{nodesIn, fieldsIn, parametersIn, scopeIn, Known}
 use Rattle.file_accepted.specs.Functions.{functionStart, rootAt}
-use Rattle.file_accepted.proofs.Accepted.{few-functions, context-of}
+use Rattle.file_accepted.proofs.Accepted.{few-functions, known-of}
 use Rattle.file_accepted.proofs.Functions.{functions-count, function-in, root-below}
 use Rattle.rewrite_events.specs.Events.{variableCount}
 use Rattle.theory_trees.specs.Sizes.{statementSize}
@@ -68,8 +68,8 @@ module _ (file : List ℕ) (accepted : checkNumber file ≡ 0) where
     abbrev start : ℕ
     start = functionStart file f
 
-    pub function-context : Context file start (nodesAt file)
-    function-context = context-of file f (settled .counts) (settled .tables) (settled .numbers) (settled .sorts) inside
+    pub function-context : Known file start
+    function-context = known-of file f (settled .counts) (settled .tables) (settled .numbers) (settled .sorts) inside
 
     pub function-root : rootAt file start < nodeCount file
     function-root = root-below file f (settled .numbers) inside

@@ -7,7 +7,7 @@ use Rattle.definitions.specs.ContractFile.{Function, byteAt, fieldCount, nodesA
 use Rattle.definitions.specs.Rewriting.{always, WrittenFunction, rewriteFunction, rewrite, sizes, functionTrees, functionBytes}
 use Rattle.definitions.specs.Rewriting.{functionsBytes}
 use Rattle.theory_trees.specs.Trees.{statementIn}
-use Rattle.file_accepted.specs.Context.{Context, nodesIn, fieldsIn, parametersIn, scopeIn}
+use Rattle.file_accepted.specs.Context.{Known, nodesIn, fieldsIn, parametersIn, scopeIn}
 use Rattle.file_accepted.specs.Functions.{rootAt}
 use Rattle.rewrite_events.specs.Events.{Event, variableCount, statementEvents}
 use Rattle.write_variables.specs.Variables.{ownersFit}
@@ -40,7 +40,7 @@ nodesBefore file f = sizes (flatMap functionTrees (take f (writtenFunctions file
 -- The function that begins at a place can be written: its heading from a place of 49,152 bytes on, its nodes from a number of as many
 -- bytes on.
 pub record FunctionRoom (file : List ℕ) (at from base : ℕ) : Type 0 where
-  pub context : Context file at (nodesAt file)
+  pub context : Known file at
   pub root : rootAt file at < nodeCount file
   pub events : length (eventsIn file at) ≤ 1536
   pub variables : privateIn file at + variableCount (eventsIn file at) ≤ 1024

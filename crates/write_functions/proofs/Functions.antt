@@ -41,11 +41,11 @@ bytes-then ts t n =
 trees-length : (ts : List Tree) (n : ℕ) → length (flatMap nodeBytes (numberedAll n ts)) ≡ 8 * sizes ts
 trees-length ts n = nodes-length (numberedAll n ts) ∙ ap (λ (k : ℕ). 8 * k) (all-length ts n)
 
-module _ (file : List ℕ) (at nodesStart : ℕ) (log scratch roots numbers claims headings : List ℕ) (from : ℕ) (nodes : List ℕ) (base : ℕ)
-    (ready : FunctionReady file at nodesStart log scratch roots numbers claims headings from nodes base) where
-  pub circuits-ready : CircuitsReady file at nodesStart log numbers nodes base
+module _ (file : List ℕ) (at : ℕ) (source : List ℕ) (log scratch roots numbers claims headings : List ℕ) (from : ℕ) (nodes : List ℕ) (base : ℕ)
+    (ready : FunctionReady file at source log scratch roots numbers claims headings from nodes base) where
+  pub circuits-ready : CircuitsReady file at source log numbers nodes base
   circuits-ready =
-      record { from = from; room = ready .room; nodesPlace = ready .nodesPlace; logSpace = ready .logSpace; numberSpace = ready .numberSpace; nodeSpace = ready .nodeSpace }
+      record { from = from; room = ready .room; held = ready .held; logSpace = ready .logSpace; numberSpace = ready .numberSpace; nodeSpace = ready .nodeSpace }
 
   module _ (logAfter numbersAfter between : List ℕ) (parts : Parts) (written : CircuitsWritten file at logAfter numbersAfter nodes between base parts) where
     pub nodes-few : 8 * (base + parts .nodes) + 8 * size (commandTree ((writtenIn file at) .body)) ≤ 49152
@@ -73,14 +73,14 @@ module _ (file : List ℕ) (at nodesStart : ℕ) (log scratch roots numbers clai
         ap length (written .contents) ∙ stored-length nodes (8 * base) (flatMap nodeBytes (numberedAll base (circuitsIn file at))) (omega (arith, ready .nodeSpace, written .nodes))
 
     pub body-ready : (verified : Bool) → verified ≡ ltb 0 (parts .private + parts .claims)
-        → BodyReady file at nodesStart (parts .private) verified scratch roots between (8 * (base + parts .nodes)) (base + parts .nodes)
+        → BodyReady file at source (parts .private) verified scratch roots between (8 * (base + parts .nodes)) (base + parts .nodes)
     body-ready verified test =
         let few = nodes-few in
         let same = kept in
         let counted : parts .private + parts .claims ≡ length ((writtenIn file at) .constraints) =
         omega (arith, constraints-counted file at, written .told .private, written .told .claims) in
         record {
-          context = context-at file at nodesStart from base (ready .nodesPlace) (ready .room);
+          context = context-at file at source from base (ready .held) (ready .room);
           root = ready .room .root;
           privateIs = written .told .private;
           verifies = test ∙ ap (ltb 0) counted;

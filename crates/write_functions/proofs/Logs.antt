@@ -12,8 +12,9 @@ use Rattle.file_accepted.proofs.Nodes.{nodes-counted}
 use Rattle.theory_trees.specs.Trees.{statementIn}
 use Rattle.memory_buffer.specs.Buffer.{stored}
 use Rattle.memory_buffer.proofs.Storing.{stored-length}
-use Rattle.file_accepted.specs.Context.{Context, nodesIn, scopeIn}
+use Rattle.file_accepted.specs.Context.{Context, nodesIn, scopeIn, Source}
 use Rattle.file_accepted.specs.Functions.{rootAt}
+use Rattle.file_accepted.proofs.Sources.{context-with}
 use Rattle.rewrite_events.specs.Events.{variableCount, statementEvents}
 use Rattle.rewrite_log.specs.Entries.{Entries}
 use Rattle.rewrite_log.specs.declared.Position.{Position}
@@ -38,18 +39,18 @@ pub take-stored : (held values : List ℕ) (n : ℕ) → n ≡ length values →
 unfolding stored
 take-stored held values n e = ap (λ (k : ℕ). take k (values ++ drop (0 + length values) held)) e ∙ take-append-seam values (drop (0 + length values) held)
 
-pub context-at : (file : List ℕ) (at nodesStart from base : ℕ) → nodesStart ≡ nodesAt file → FunctionRoom file at from base → Context file at nodesStart
-context-at file at nodesStart from base e room = subst (Context file at) (sym e) (room .context)
+pub context-at : (file : List ℕ) (at : ℕ) (source : List ℕ) (from base : ℕ) → Source file source → FunctionRoom file at from base → Context file at source
+context-at file at source from base held room = context-with file at source (room .context) held
 
-module _ (file : List ℕ) (at nodesStart : ℕ) (log numbers out : List ℕ) (base : ℕ) (ready : CircuitsReady file at nodesStart log numbers out base) (private : ℕ)
+module _ (file : List ℕ) (at : ℕ) (source : List ℕ) (log numbers out : List ℕ) (base : ℕ) (ready : CircuitsReady file at source log numbers out base) (private : ℕ)
     (opened : private ≡ privateIn file at) where
-  pub ready-context : Context file at nodesStart
-  ready-context = context-at file at nodesStart (ready .from) base (ready .nodesPlace) (ready .room)
+  pub ready-context : Context file at source
+  ready-context = context-at file at source (ready .from) base (ready .held) (ready .room)
 
   same-events : statementOf file at 0 (rootAt file at) private ≡ eventsIn file at
   same-events = ap (statementOf file at 0 (rootAt file at)) opened
 
-  pub log-ready : Ready file at nodesStart (rootAt file at) log (startingAt private) (statementOf file at 0 (rootAt file at))
+  pub log-ready : Ready file at source (rootAt file at) log (startingAt private) (statementOf file at 0 (rootAt file at))
   log-ready =
       let long = ap length same-events in
       let many = ap variableCount same-events in

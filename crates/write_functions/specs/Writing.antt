@@ -9,7 +9,7 @@ use Rattle.definitions.specs.Rewriting.{Constraint, Tree, claimTrees, functionT
 use Rattle.definitions.specs.Rewriting.{functionBytes}
 use Rattle.theory_crossings.specs.Crossings.{crossings}
 use Rattle.memory_buffer.specs.Buffer.{stored}
-use Rattle.file_accepted.specs.Context.{nodesIn, scopeIn}
+use Rattle.file_accepted.specs.Context.{nodesIn, scopeIn, Source}
 use Rattle.rewrite_events.specs.Events.{variableCount, constraintsOf}
 use Rattle.rewrite_log.specs.Entries.{Entries}
 use Rattle.write_circuits.specs.Circuits.{sixesFrom}
@@ -34,10 +34,10 @@ pub record Told (file : List ℕ) (at base : ℕ) (log numbers : List ℕ) (r : 
   pub fours : 4 * r .claims ≤ length numbers
   pub bytes : sixesFrom numbers 0 (r .claims) ≡ constraintBytes base (constraintsIn file at)
 
-pub record CircuitsReady (file : List ℕ) (at nodesStart : ℕ) (log numbers out : List ℕ) (base : ℕ) : Type 0 where
+pub record CircuitsReady (file : List ℕ) (at : ℕ) (source : List ℕ) (log numbers out : List ℕ) (base : ℕ) : Type 0 where
   pub from : ℕ
   pub room : FunctionRoom file at from base
-  pub nodesPlace : nodesStart ≡ nodesAt file
+  pub held : Source file source
   pub logSpace : 7680 ≤ length log
   pub numberSpace : 6144 ≤ length numbers
   pub nodeSpace : 49152 ≤ length out
@@ -55,10 +55,10 @@ pub record HeadingReady (file : List ℕ) (at : ℕ) (log numbers claims heading
   pub claimSpace : 9216 ≤ length claims
   pub headingSpace : 49152 ≤ length headings
 
-pub record FunctionReady (file : List ℕ) (at nodesStart : ℕ) (log scratch roots numbers claims headings : List ℕ) (from : ℕ)
+pub record FunctionReady (file : List ℕ) (at : ℕ) (source : List ℕ) (log scratch roots numbers claims headings : List ℕ) (from : ℕ)
     (nodes : List ℕ) (base : ℕ) : Type 0 where
   pub room : FunctionRoom file at from base
-  pub nodesPlace : nodesStart ≡ nodesAt file
+  pub held : Source file source
   pub logSpace : 7680 ≤ length log
   pub scratchSpace : 7680 ≤ length scratch
   pub rootSpace : 1544 ≤ length roots

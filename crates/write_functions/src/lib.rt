@@ -34,23 +34,23 @@ pub struct Parts {
 fn write_circuits(
     file: &[u8],
     function_at: usize,
-    nodes_at: usize,
+    source: &[u16],
     log: &mut [u16],
     numbers: &mut [u16],
     out: &mut [u8],
     base: usize,
 ) -> Parts
-    requires { ⌜ CircuitsReady (now file) «function_at» «nodes_at» (now log) (now numbers) (now out) base ⌝ }
+    requires { ⌜ CircuitsReady (now file) «function_at» (now source) (now log) (now numbers) (now out) base ⌝ }
     ensures { λ r. ⌜ CircuitsWritten (now (file .entry)) «function_at» (now (log .exit)) (now (numbers .exit))
         (now (out .entry)) (now (out .exit)) base r ⌝ }
 {
     let parameters = byte_at(file, function_at);
     let private = count_private(file, function_at + 1, parameters);
-    let end = function_log(file, function_at, nodes_at, private, log);
+    let end = function_log(file, function_at, source, private, log);
     let circuits = put_circuits(
         file,
         function_at,
-        nodes_at,
+        source,
         log,
         0,
         end.at / 5,
@@ -105,7 +105,7 @@ fn write_heading(
 pub fn write_function(
     file: &[u8],
     function_at: usize,
-    nodes_at: usize,
+    source: &[u16],
     log: &mut [u16],
     scratch: &mut [u16],
     roots: &mut [u16],
@@ -116,18 +116,18 @@ pub fn write_function(
     nodes: &mut [u8],
     base: usize,
 ) -> Finished
-    requires { ⌜ FunctionReady (now file) «function_at» «nodes_at» (now log) (now scratch) (now roots) (now numbers) (now claims)
+    requires { ⌜ FunctionReady (now file) «function_at» (now source) (now log) (now scratch) (now roots) (now numbers) (now claims)
         (now headings) from (now nodes) base ⌝ }
     ensures { λ r. ⌜ FunctionWritten (now (file .entry)) «function_at» (now (headings .entry)) (now (headings .exit)) from
         (now (nodes .entry)) (now (nodes .exit)) base r ⌝ }
 {
-    let parts = write_circuits(file, function_at, nodes_at, log, numbers, nodes, base);
+    let parts = write_circuits(file, function_at, source, log, numbers, nodes, base);
     let verified = is_verified(parts.private + parts.claims);
     let first = base + parts.nodes;
     let body = write_function_body(
         file,
         function_at,
-        nodes_at,
+        source,
         parts.private,
         verified,
         scratch,

@@ -13,6 +13,7 @@ use Rattle.file_accepted.specs.Functions.{functionStart}
 use Rattle.memory_buffer.specs.Buffer.{stored}
 use Rattle.write_fields.specs.Fields.{fieldSection}
 use Rattle.write_function_room.specs.Functions.{writtenFunctions, headingsBefore, nodesBefore}
+use Rattle.file_accepted.specs.Context.{Source}
 
 -- The headings and the nodes of the first f functions.
 abbrev pub headingsOf : List ℕ → ℕ → List ℕ
@@ -54,11 +55,11 @@ pub record PartsPut (file h₀ h n₀ n : List ℕ) (at base : ℕ) (counts : Li
   pub crossings : counts ≡ sixteen (crossingsOf file (functionCount file))
 
 -- Function 0 begins at a place, and its heading goes behind the fields and the count of functions.
-pub record FunctionsReady (file : List ℕ) (first count nodesStart from : ℕ) (headings nodes : List ℕ) : Type 0 where
+pub record FunctionsReady (file : List ℕ) (first count : ℕ) (source : List ℕ) (from : ℕ) (headings nodes : List ℕ) : Type 0 where
   pub ready : Ready file headings nodes
   pub begins : first ≡ functionStart file 0
   pub counted : count ≡ functionCount file
-  pub nodesPlace : nodesStart ≡ nodesAt file
+  pub held : Source file source
   pub behindFields : from ≡ 1 + 3 * fieldCount file + 1
 
 -- Space that the writing of a function uses.

@@ -1,6 +1,8 @@
 // 01, Rewriting: the written file in two buffers, one of fields and functions' headings, one of nodes.
 use file_bytes::function_end;
 use file_bytes::read_layout;
+use file_decoded::node_room;
+use file_source::decode_source;
 use memory_append::append_byte;
 use write_crossings::Counts;
 use write_crossings::no_counts;
@@ -23,7 +25,7 @@ fn write_functions(
     file: &[u8],
     first: usize,
     count: usize,
-    nodes_at: usize,
+    source: &[u16],
     log: &mut [u16],
     scratch: &mut [u16],
     roots: &mut [u16],
@@ -33,7 +35,7 @@ fn write_functions(
     from: usize,
     nodes: &mut [u8],
 ) -> Functions
-    requires { ⌜ (FunctionsReady (now file) first count «nodes_at» from (now headings) (now nodes))
+    requires { ⌜ (FunctionsReady (now file) first count (now source) from (now headings) (now nodes))
         × (Scratch (now log) (now scratch) (now roots) (now numbers) (now claims)) ⌝ }
     ensures { λ r. ⌜ FunctionsPut (now (file .entry)) (functionCount (now (file .entry))) from
         (now (headings .entry)) (now (headings .exit)) (now (nodes .entry)) (now (nodes .exit))
@@ -50,7 +52,7 @@ fn write_functions(
         let written = write_function(
             file,
             function_at,
-            nodes_at,
+            source,
             log,
             scratch,
             roots,
@@ -81,6 +83,8 @@ pub fn write_parts(file: &[u8], headings: &mut [u8], nodes: &mut [u8]) -> Functi
     let layout = read_layout(file);
     let fields = append_field_section(file, headings, 0);
     let from = append_byte(layout.functions as u8, headings, fields);
+    let mut room = node_room();
+    let count = decode_source(file, &mut room[..]);
     let mut log = [0u16; 7680];
     let mut scratch = [0u16; 7680];
     let mut roots = [0u16; 1544];
@@ -90,7 +94,7 @@ pub fn write_parts(file: &[u8], headings: &mut [u8], nodes: &mut [u8]) -> Functi
         file,
         layout.functions_at + 1,
         layout.functions,
-        layout.nodes_at,
+        &room[..count],
         &mut log[..],
         &mut scratch[..],
         &mut roots[..],

@@ -5,6 +5,7 @@ use Prim.Native.Nat.{ℕ, _+_, _*_}
 use Rattle.definitions.specs.ContractFile.{Expression, Scope, nodeRecord}
 use Rattle.definitions.specs.Owners.{ownerOf}
 use Rattle.definitions.specs.Rewriting.{inBody, inCircuit, Tree, bodyTree, circuitTree}
+use Rattle.file_decoded.specs.Slices.{recordAt}
 
 abbrev pub bodyForm : Scope → Expression → ℕ → Tree
 bodyForm scope e i = bodyTree ((inBody (ownerOf scope) e i) .form)
@@ -17,5 +18,5 @@ abbrev pub readKind : Bool → ℕ
 readKind public = cond public 9 10
 
 -- The kind of node n, where the nodes begin at a place.
-abbrev pub kindAt : List ℕ → ℕ → ℕ → ℕ
-kindAt file nodesStart n = (nodeRecord file (nodesStart + 2 + 8 * n)) .kind
+abbrev pub kindAt : List ℕ → ℕ → ℕ
+kindAt source n = (recordAt source n) .kind

@@ -1,5 +1,5 @@
 // 01, Rewriting: the nodes of a statement that holds no other, without the steps before it.
-use file_bytes::node_at;
+use file_decoded::node_at;
 use file_kinds::ENTRY_TAKES;
 use file_kinds::ENTRY_TAKES_BYTE;
 use file_kinds::FIELD_TAKES;
@@ -41,23 +41,23 @@ pub fn is_private_place(file: &[u8], f: usize) -> bool
 pub fn placed_count(
     file: &[u8],
     function_at: usize,
-    nodes_at: usize,
+    source: &[u16],
     private: bool,
     n: usize,
 ) -> usize
     requires { ⌜ (n < nodeCount (now file))
-        × ((Context (now file) «function_at» «nodes_at»)
+        × ((Context (now file) «function_at» (now source))
         × (placedCount (scopeIn (now file) «function_at») private (expressionIn (nodesIn (now file)) n) ≤ 65535)) ⌝ }
     ensures { λ r. ⌜ r ≡ placedCount (scopeIn (now (file .entry)) «function_at») private (expressionIn (nodesIn (now (file .entry))) n) ⌝ }
 {
     if private {
-        if is_public(file, function_at, nodes_at, n) {
-            circuit_count(file, function_at, nodes_at, n) + 1
+        if is_public(file, function_at, source, n) {
+            circuit_count(file, function_at, source, n) + 1
         } else {
-            body_count(file, function_at, nodes_at, n)
+            body_count(file, function_at, source, n)
         }
     } else {
-        body_count(file, function_at, nodes_at, n)
+        body_count(file, function_at, source, n)
     }
 }
 
@@ -65,7 +65,7 @@ pub fn placed_count(
 pub fn write_placed_form(
     file: &[u8],
     function_at: usize,
-    nodes_at: usize,
+    source: &[u16],
     private: bool,
     n: usize,
     i: usize,
@@ -74,44 +74,44 @@ pub fn write_placed_form(
     base: usize,
 ) -> usize
     requires { ⌜ (n < nodeCount (now file))
-        × ((Context (now file) «function_at» «nodes_at»)
+        × ((Context (now file) «function_at» (now source))
         × ((i + placedCount (scopeIn (now file) «function_at») private (expressionIn (nodesIn (now file)) n) ≤ 65535)
         × (Room (now out) at base (placedForm (scopeIn (now file) «function_at») private (expressionIn (nodesIn (now file)) n) i)))) ⌝ }
     ensures { λ r. ⌜ Numbered (now (out .entry)) (now (out .exit)) at base
         (placedForm (scopeIn (now (file .entry)) «function_at») private (expressionIn (nodesIn (now (file .entry))) n) i) r ⌝ }
 {
     if private {
-        if is_public(file, function_at, nodes_at, n) {
+        if is_public(file, function_at, source, n) {
             put_leaf(VARIABLE_BYTE, 0, i, 0, out, at)
         } else {
-            write_body_form(file, function_at, nodes_at, n, i, out, at, base)
+            write_body_form(file, function_at, source, n, i, out, at, base)
         }
     } else {
-        write_body_form(file, function_at, nodes_at, n, i, out, at, base)
+        write_body_form(file, function_at, source, n, i, out, at, base)
     }
 }
 
 // How many variables node n makes, a statement that holds no other.
-pub fn statement_count(file: &[u8], function_at: usize, nodes_at: usize, n: usize) -> usize
+pub fn statement_count(file: &[u8], function_at: usize, source: &[u16], n: usize) -> usize
     requires { ⌜ (n < nodeCount (now file))
-        × ((Context (now file) «function_at» «nodes_at»)
+        × ((Context (now file) «function_at» (now source))
         × (simpleCount (scopeIn (now file) «function_at») (statementIn (nodesIn (now file)) n) ≤ 65535)) ⌝ }
     ensures { λ r. ⌜ r ≡ simpleCount (scopeIn (now (file .entry)) «function_at») (statementIn (nodesIn (now (file .entry))) n) ⌝ }
 {
-    let node = node_at(file, nodes_at, n);
+    let node = node_at(source, n);
     let kind = node.kind;
     match kind {
         SEQUENCE => 0,
         FIELD_TAKES => {
             let private = is_private_place(file, node.arg);
-            placed_count(file, function_at, nodes_at, private, node.first)
+            placed_count(file, function_at, source, private, node.first)
         }
         ENTRY_TAKES => {
             let private = is_private_place(file, node.arg);
-            let key = body_count(file, function_at, nodes_at, node.first);
-            key + placed_count(file, function_at, nodes_at, private, node.second)
+            let key = body_count(file, function_at, source, node.first);
+            key + placed_count(file, function_at, source, private, node.second)
         }
-        REQUIRE => body_count(file, function_at, nodes_at, node.first),
+        REQUIRE => body_count(file, function_at, source, node.first),
         IF => 0,
         _ => 0,
     }
@@ -121,28 +121,28 @@ pub fn statement_count(file: &[u8], function_at: usize, nodes_at: usize, n: usiz
 fn write_field_form(
     file: &[u8],
     function_at: usize,
-    nodes_at: usize,
+    source: &[u16],
     n: usize,
     i: usize,
     out: &mut [u8],
     at: usize,
     base: usize,
 ) -> usize
-    requires { ⌜ (kindAt (now file) «nodes_at» n ≡ 18)
+    requires { ⌜ (kindAt (now source) n ≡ 18)
         × ((n < nodeCount (now file))
-        × ((Context (now file) «function_at» «nodes_at»)
+        × ((Context (now file) «function_at» (now source))
         × ((i + simpleCount (scopeIn (now file) «function_at») (statementIn (nodesIn (now file)) n) ≤ 65535)
         × (Room (now out) at base (simpleForm (scopeIn (now file) «function_at») (statementIn (nodesIn (now file)) n) i))))) ⌝ }
     ensures { λ r. ⌜ Numbered (now (out .entry)) (now (out .exit)) at base
         (simpleForm (scopeIn (now (file .entry)) «function_at») (statementIn (nodesIn (now (file .entry))) n) i) r ⌝ }
 {
-    let node = node_at(file, nodes_at, n);
+    let node = node_at(source, n);
     let arg = node.arg as u8;
     let private = is_private_place(file, node.arg);
     let value = write_placed_form(
         file,
         function_at,
-        nodes_at,
+        source,
         private,
         node.first,
         i,
@@ -157,32 +157,32 @@ fn write_field_form(
 fn write_entry_form(
     file: &[u8],
     function_at: usize,
-    nodes_at: usize,
+    source: &[u16],
     n: usize,
     i: usize,
     out: &mut [u8],
     at: usize,
     base: usize,
 ) -> usize
-    requires { ⌜ (kindAt (now file) «nodes_at» n ≡ 19)
+    requires { ⌜ (kindAt (now source) n ≡ 19)
         × ((n < nodeCount (now file))
-        × ((Context (now file) «function_at» «nodes_at»)
+        × ((Context (now file) «function_at» (now source))
         × ((i + simpleCount (scopeIn (now file) «function_at») (statementIn (nodesIn (now file)) n) ≤ 65535)
         × (Room (now out) at base (simpleForm (scopeIn (now file) «function_at») (statementIn (nodesIn (now file)) n) i))))) ⌝ }
     ensures { λ r. ⌜ Numbered (now (out .entry)) (now (out .exit)) at base
         (simpleForm (scopeIn (now (file .entry)) «function_at») (statementIn (nodesIn (now (file .entry))) n) i) r ⌝ }
 {
-    let node = node_at(file, nodes_at, n);
+    let node = node_at(source, n);
     let arg = node.arg as u8;
     let private = is_private_place(file, node.arg);
-    let j = i + body_count(file, function_at, nodes_at, node.first);
-    let key = write_body_form(file, function_at, nodes_at, node.first, i, out, at, base);
+    let j = i + body_count(file, function_at, source, node.first);
+    let key = write_body_form(file, function_at, source, node.first, i, out, at, base);
     let a = at + 8 * key;
     let b = base + key;
     let value = write_placed_form(
         file,
         function_at,
-        nodes_at,
+        source,
         private,
         node.second,
         j,
@@ -197,23 +197,23 @@ fn write_entry_form(
 fn write_require_form(
     file: &[u8],
     function_at: usize,
-    nodes_at: usize,
+    source: &[u16],
     n: usize,
     i: usize,
     out: &mut [u8],
     at: usize,
     base: usize,
 ) -> usize
-    requires { ⌜ (kindAt (now file) «nodes_at» n ≡ 20)
+    requires { ⌜ (kindAt (now source) n ≡ 20)
         × ((n < nodeCount (now file))
-        × ((Context (now file) «function_at» «nodes_at»)
+        × ((Context (now file) «function_at» (now source))
         × ((i + simpleCount (scopeIn (now file) «function_at») (statementIn (nodesIn (now file)) n) ≤ 65535)
         × (Room (now out) at base (simpleForm (scopeIn (now file) «function_at») (statementIn (nodesIn (now file)) n) i))))) ⌝ }
     ensures { λ r. ⌜ Numbered (now (out .entry)) (now (out .exit)) at base
         (simpleForm (scopeIn (now (file .entry)) «function_at») (statementIn (nodesIn (now (file .entry))) n) i) r ⌝ }
 {
-    let node = node_at(file, nodes_at, n);
-    let condition = write_body_form(file, function_at, nodes_at, node.first, i, out, at, base);
+    let node = node_at(source, n);
+    let condition = write_body_form(file, function_at, source, node.first, i, out, at, base);
     put_above_one(REQUIRE_BYTE, 0, condition, out, at, base)
 }
 
@@ -221,7 +221,7 @@ fn write_require_form(
 pub fn write_statement_form(
     file: &[u8],
     function_at: usize,
-    nodes_at: usize,
+    source: &[u16],
     n: usize,
     i: usize,
     out: &mut [u8],
@@ -229,19 +229,19 @@ pub fn write_statement_form(
     base: usize,
 ) -> usize
     requires { ⌜ (n < nodeCount (now file))
-        × ((Context (now file) «function_at» «nodes_at»)
+        × ((Context (now file) «function_at» (now source))
         × ((i + simpleCount (scopeIn (now file) «function_at») (statementIn (nodesIn (now file)) n) ≤ 65535)
         × (Room (now out) at base (simpleForm (scopeIn (now file) «function_at») (statementIn (nodesIn (now file)) n) i)))) ⌝ }
     ensures { λ r. ⌜ Numbered (now (out .entry)) (now (out .exit)) at base
         (simpleForm (scopeIn (now (file .entry)) «function_at») (statementIn (nodesIn (now (file .entry))) n) i) r ⌝ }
 {
-    let node = node_at(file, nodes_at, n);
+    let node = node_at(source, n);
     let kind = node.kind;
     match kind {
         SEQUENCE => put_leaf(SKIP_BYTE, 0, 0, 0, out, at),
-        FIELD_TAKES => write_field_form(file, function_at, nodes_at, n, i, out, at, base),
-        ENTRY_TAKES => write_entry_form(file, function_at, nodes_at, n, i, out, at, base),
-        REQUIRE => write_require_form(file, function_at, nodes_at, n, i, out, at, base),
+        FIELD_TAKES => write_field_form(file, function_at, source, n, i, out, at, base),
+        ENTRY_TAKES => write_entry_form(file, function_at, source, n, i, out, at, base),
+        REQUIRE => write_require_form(file, function_at, source, n, i, out, at, base),
         IF => put_leaf(SKIP_BYTE, 0, 0, 0, out, at),
         _ => put_leaf(SKIP_BYTE, 0, 0, 0, out, at),
     }

@@ -16,7 +16,7 @@ ghost use Rattle.write_stepped_statements.specs.Single.{singleTree};
 pub fn write_single(
     file: &[u8],
     function_at: usize,
-    nodes_at: usize,
+    source: &[u16],
     log: &[u16],
     from: usize,
     left: usize,
@@ -28,7 +28,7 @@ pub fn write_single(
     base: usize,
 ) -> usize
     requires { ⌜ (n < nodeCount (now file))
-        × ((Context (now file) «function_at» «nodes_at»)
+        × ((Context (now file) «function_at» (now source))
         × ((i + simpleCount (scopeIn (now file) «function_at») (statementIn (nodesIn (now file)) n) ≤ 65535)
         × ((Readable (now file) «function_at» (now log) from left)
         × ((length (stepsIn (now file) «function_at» (now log) from left) ≤ length (now roots))
@@ -39,7 +39,7 @@ pub fn write_single(
     let steps = put_steps(
         file,
         function_at,
-        nodes_at,
+        source,
         log,
         from,
         left,
@@ -52,7 +52,7 @@ pub fn write_single(
     let rest = write_statement_form(
         file,
         function_at,
-        nodes_at,
+        source,
         n,
         i,
         out,

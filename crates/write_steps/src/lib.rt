@@ -29,7 +29,7 @@ pub struct Steps {
 pub fn put_step(
     file: &[u8],
     function_at: usize,
-    nodes_at: usize,
+    source: &[u16],
     variable: usize,
     n: usize,
     i: usize,
@@ -38,14 +38,14 @@ pub fn put_step(
     base: usize,
 ) -> usize
     requires { ⌜ (n < nodeCount (now file))
-        × ((Context (now file) «function_at» «nodes_at»)
+        × ((Context (now file) «function_at» (now source))
         × ((i + bodyCount (scopeIn (now file) «function_at») (expressionIn (nodesIn (now file)) n) ≤ 65535)
         × (Room (now out) at base
         (setting variable (bodyForm (scopeIn (now file) «function_at») (expressionIn (nodesIn (now file)) n) i))))) ⌝ }
     ensures { λ r. ⌜ Numbered (now (out .entry)) (now (out .exit)) at base
         (setting variable (bodyForm (scopeIn (now (file .entry)) «function_at») (expressionIn (nodesIn (now (file .entry))) n) i)) r ⌝ }
 {
-    let value = write_body_form(file, function_at, nodes_at, n, i, out, at, base);
+    let value = write_body_form(file, function_at, source, n, i, out, at, base);
     put_setting(variable, value, out, at, base)
 }
 
@@ -53,7 +53,7 @@ pub fn put_step(
 pub fn put_steps(
     file: &[u8],
     function_at: usize,
-    nodes_at: usize,
+    source: &[u16],
     log: &[u16],
     from: usize,
     left: usize,
@@ -63,7 +63,7 @@ pub fn put_steps(
     at: usize,
     base: usize,
 ) -> Steps
-    requires { ⌜ (Context (now file) «function_at» «nodes_at»)
+    requires { ⌜ (Context (now file) «function_at» (now source))
         × ((Readable (now file) «function_at» (now log) from left)
         × (StepsRoom (now out) (now roots) at base noted (stepsIn (now file) «function_at» (now log) from left))) ⌝ }
     ensures { λ r. ⌜ StepsPut (now (out .entry)) (now (out .exit)) (now (roots .entry)) (now (roots .exit)) at base noted
@@ -75,12 +75,12 @@ pub fn put_steps(
         let variable = log[from + 1] as usize;
         let n = log[from + 3] as usize;
         let i = log[from + 4] as usize;
-        let nodes = put_step(file, function_at, nodes_at, variable, n, i, out, at, base);
+        let nodes = put_step(file, function_at, source, variable, n, i, out, at, base);
         put_number(roots, noted, (base + nodes - 1) as u16);
         let later = put_steps(
             file,
             function_at,
-            nodes_at,
+            source,
             log,
             from + 5,
             left - 1,
@@ -98,7 +98,7 @@ pub fn put_steps(
         put_steps(
             file,
             function_at,
-            nodes_at,
+            source,
             log,
             from + 5,
             left - 1,

@@ -6,6 +6,6 @@ use Rattle.call_honest.proofs.log_body.Tie as tie
 pub log-body-spec : {M : Type 1} → statement M
 log-body-spec =
     tie.close (tie.spec
-    (λ c κs. log-ready _ _ _ _ _ (c .before .before .before .pre))
+    (λ c κs. log-ready _ _ _ _ _ (c .before .before .before .before .pre))
     (λ c. search needs)
-    (λ c. log-put _ _ _ _ _ (c .before .before .before .before .before .before .pre) _ _ (c .before .before .function-log .ensures)))
+    (λ c. log-put _ _ _ _ _ (c .before .before .before .before .before .before .before .pre) _ _ (c .before .before .function-log .ensures)))

@@ -1,6 +1,8 @@
--- The body is worked out from its root, on the addresses that the places give.
+-- The body is worked out from its root, on the addresses that the places give and on the file's nodes decoded.
 use mathlib.Core.Path.{refl}
+use native.Mathlib.Omega.{arith}
 use borrow.Author.Needs.{needs}
+use Rattle.call_ledgers.proofs.Ledgers.{taken-length}
 use Rattle.disclose_call.proofs.Bodies.{addresses-room, body-ready, body-disclosed}
 use Rattle.disclose_call.proofs.disclose_body.Statement.{statement}
 use Rattle.disclose_call.proofs.disclose_body.Tie as tie
@@ -11,9 +13,13 @@ disclose-body-spec =
     (λ c. search needs)
     (λ c κs. addresses-room _ _ _ _ _ _ _ (c .before .before .before .before .before .before .pre) _ refl)
     (λ c κs. search needs)
-    (λ c κs. c .before .before .before .before .before .before .before .before .before .pre .context .nearFunction)
     (λ c. search needs)
-    (λ c κs. body-ready _ _ _ _ _ _ _ (c .before .before .before .before .before .before .before .before .before .before .before .before .before .pre) _ (c .before .before .before .before .before .before .put-addresses .ensures) _ _ refl (c .before .before .before .before .read-layout .ensures .nodesStart) refl refl (c .before .before .before .root-at .ensures))
+    (λ c κs. (c .before .before .before .before .before .before .before .before .before .before .pre .accepted, omega (arith, c .before .node-room .ensures)))
+    (λ c κs. c .before .before .before .before .before .before .before .before .before .before .before .before .pre .context .nearFunction)
+    (λ c. search needs)
+    (λ c. taken-length _ _ (omega (arith, c .before .before .before .decode-source .ensures .1, c .before .before .before .before .before .node-room .ensures)))
+    (λ c. search needs)
+    (λ c κs. body-ready _ _ _ _ _ _ _ (c .before .before .before .before .before .before .before .before .before .before .before .before .before .before .before .before .before .pre) _ (c .before .before .before .before .before .before .before .before .before .before .put-addresses .ensures) _ _ _ (c .before .before .before .before .before .before .decode-source .ensures .0) refl refl refl (c .before .before .before .before .root-at .ensures))
     (λ c. search needs)
     (λ c. search needs)
-    (λ c. body-disclosed _ _ _ _ _ _ _ (c .before .before .before .before .before .before .before .before .before .before .before .before .before .before .before .before .before .before .pre) _ (c .before .before .before .before .before .before .before .before .before .before .before .put-addresses .ensures) _ _ _ _ (c .before .before .before .before .before .before .before .before .root-at .ensures) (c .before .before .before .before .disclose-statement .ensures)))
+    (λ c. body-disclosed _ _ _ _ _ _ _ (c .before .before .before .before .before .before .before .before .before .before .before .before .before .before .before .before .before .before .before .before .before .before .pre) _ (c .before .before .before .before .before .before .before .before .before .before .before .before .before .before .before .put-addresses .ensures) _ _ _ _ (c .before .before .before .before .before .before .before .before .before .root-at .ensures) (c .before .before .before .before .disclose-statement .ensures)))

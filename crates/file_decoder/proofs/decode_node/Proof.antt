@@ -21,4 +21,4 @@ decode-node-spec =
     let one = third .before .two-bytes-in .ensures .0 in let two = fourth .before .two-bytes-in2 .ensures .0 in
     let three = fifth .before .two-bytes-in3 .ensures .0 in
     node-put (args .file .now) (args .from) _ _ _ _ _ _ (args .at) _ _ _ _ _ (first .put .ensures) (second .put2 .ensures) (third .put3 .ensures) (fourth .put4 .ensures) (fifth .put5 .ensures)
-    (λ i. node (kind i) (arg i) (one i) (two i) (three i))))
+    (λ i. node (kind i) (arg i) (one i) (two i) (three i)) (first .before .byte-in .ensures .1) (second .before .byte-in2 .ensures .1)))

@@ -4,7 +4,7 @@ use Prim.Native.Nat.{ℕ, _-_, _/_, _≤_}
 use native.Mathlib.Omega.{arith}
 use lib.ListN.{length}
 use Rattle.file_decoded.specs.Slices.{nodesFrom}
-use Rattle.file_decoder.proofs.Steps.{NodesSo, no-nodes, nodes-more, nodes-done}
+use Rattle.file_decoder.proofs.Steps.{NodesSo, no-nodes, nodes-more, nodes-done, nodes-narrow}
 use borrow.Author.Needs.{needs}
 use Rattle.file_decoder.proofs.decode_nodes.Statement.{statement}
 use Rattle.file_decoder.proofs.decode_nodes.Tie as tie
@@ -28,4 +28,5 @@ decode-nodes-spec =
     (nodes-more (args .file .now) (args .from) (loop .n) _ _ so decoded, omega arith, decoded .kept .long ∙ long))
     (λ c. search needs)
     (λ c. let loop = c .before .loop in let args = c .before .before .before .before .args in let (so, _, long) = loop .inv in
-    (ap (λ (k : ℕ). nodesFrom (k / 5) (loop .nodes) 0) long ∙ nodes-done (args .file .now) (args .from) (loop .n) (length (args .nodes .now) / 5) (loop .nodes) (omega arith) so, long)))
+    ((ap (λ (k : ℕ). nodesFrom (k / 5) (loop .nodes) 0) long ∙ nodes-done (args .file .now) (args .from) (loop .n) (length (args .nodes .now) / 5) (loop .nodes) (omega arith) so, long),
+    nodes-narrow (args .file .now) (args .from) (loop .n) (loop .nodes) (omega arith) so)))

@@ -11,14 +11,14 @@ pub entry-slots-spec : {M : Type 1} → statement M
 entry-slots-spec =
     tie.close (tie.spec
     (λ c κs. search needs)
-    (λ c κs. key-ready _ _ _ _ _ _ _ _ (c .before .before .before .before .before .before .before .pre))
-    (λ c κs. let pre = c .before .before .before .before .before .before .before .before .before .before .before .before .pre in
+    (λ c κs. key-ready _ _ _ _ _ _ _ _ (c .before .before .before .before .before .before .before .before .pre))
+    (λ c κs. let pre = c .before .before .before .before .before .before .before .before .before .before .before .before .before .pre in
     let is-private-entry = c .before .before .before .before .before .before .before .is-private-entry .ensures in
     entry-ready _ _ _ _ _ _ _ _ pre _ _ _ _ _ _ _ is-private-entry (c .before .before .before .before .body-slots .ensures))
     (λ c κs. search needs) (λ c κs. search needs) (λ c. search needs)
-    (λ c κs. (c .before .before .before .before .before .before .before .before .before .before .before .before .before .before .before .before .before .before .before .pre .context .fewFields, omega arith))
+    (λ c κs. (c .before .before .before .before .before .before .before .before .before .before .before .before .before .before .before .before .before .before .before .before .pre .context .fewFields, omega arith))
     (λ c κs. search needs) (λ c. search needs) (λ c. search needs)
-    (λ c. let start = c .before .before .before .before .before .before .before .before .before .before .before .before .before .before .before .before .before .before .before .before .before .before .before .before in
+    (λ c. let start = c .before .before .before .before .before .before .before .before .before .before .before .before .before .before .before .before .before .before .before .before .before .before .before .before .before in
     let args = start .args in let pre = start .pre in
     let is-private-entry = c .before .before .before .before .before .before .before .before .before .before .before .before .before .before .before .before .before .before .before .is-private-entry .ensures in
     let body-slots = c .before .before .before .before .before .before .before .before .before .before .before .before .before .before .before .before .body-slots .ensures in

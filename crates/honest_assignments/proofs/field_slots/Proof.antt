@@ -7,10 +7,10 @@ pub field-slots-spec : {M : Type 1} → statement M
 field-slots-spec =
     tie.close (tie.spec
     (λ c κs. search needs)
-    (λ c κs. let start = c .before .before .before .before .before .before .before in let args = start .args in let pre = start .pre in
+    (λ c κs. let start = c .before .before .before .before .before .before .before .before in let args = start .args in let pre = start .pre in
     field-ready (args .file .now) _ (args .f) _ _ _ _ _ (c .before .before .is-private-field .ensures) pre)
     (λ c κs. search needs) (λ c κs. search needs) (λ c κs. search needs) (λ c. search needs) (λ c. search needs)
-    (λ c. let args = c .before .before .before .before .before .before .before .before .before .before .before .before .before .before .before .before .before .args in
+    (λ c. let args = c .before .before .before .before .before .before .before .before .before .before .before .before .before .before .before .before .before .before .args in
     let is-private-field = c .before .before .before .before .before .before .before .before .before .before .before .before .is-private-field .ensures in
     let place-slots = c .before .before .before .before .before .before .before .before .before .place-slots .ensures in
     let value = c .before .before .before .before .before .value .ensures in

@@ -9,5 +9,5 @@ use Rattle.honest_assignments.proofs.is_private_entry.Tie as tie
 
 pub is-private-entry-spec : {M : Type 1} → statement M
 is-private-entry-spec =
-    tie.close (tie.spec (λ c κs. search needs) (λ c κs. search needs) (λ c κs. search needs) (λ c. let args = c .before .before .before .before .args in
+    tie.close (tie.spec (λ c κs. search needs) (λ c κs. search needs) (λ c κs. search needs) (λ c. let args = c .before .before .before .before .before .args in
     private-is _ _ _ ((fieldAt (fieldsIn (args .file .now)) (args .f)) .owner) (nameOf (scopeIn (args .file .now) (args .function-at)) (nodeExpression (args .file .now) (args .key))) (c .place-code .ensures) (c .before .before .field-owner .ensures) (c .before .name-code .ensures)))

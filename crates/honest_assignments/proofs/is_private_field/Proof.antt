@@ -8,5 +8,5 @@ use Rattle.honest_assignments.proofs.is_private_field.Statement.{statem
 use Rattle.honest_assignments.proofs.is_private_field.Tie as tie
 
 pub is-private-field-spec : {M : Type 1} → statement M
-is-private-field-spec = tie.close (tie.spec (λ c κs. search needs) (λ c κs. search needs) (λ c. let args = c .before .before .before .args in
+is-private-field-spec = tie.close (tie.spec (λ c κs. search needs) (λ c κs. search needs) (λ c. let args = c .before .before .before .before .args in
     private-is _ _ 0 ((fieldAt (fieldsIn (args .file .now)) (args .f)) .owner) none (c .place-code .ensures) (c .before .field-owner .ensures) refl))

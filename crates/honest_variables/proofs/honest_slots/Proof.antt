@@ -23,25 +23,25 @@ pub honest-slots-spec : {M : Type 1} → statement M
 honest-slots-spec =
     tie.close (tie.spec Inv-loop μ-loop
     (λ c κs. search needs)
-    (λ c. omega (arith, c .before .before .before .before .before .pre .context .nearFunction))
-    (λ c κs. omega (arith, c .before .before .before .before .before .pre .context .nearFunction, c .byte-at .ensures .1))
-    (λ c. let args = c .before .before .before .before .before .before .args in
+    (λ c. omega (arith, c .before .before .before .before .before .before .pre .context .nearFunction))
+    (λ c κs. omega (arith, c .before .before .before .before .before .before .pre .context .nearFunction, c .byte-at .ensures .1))
+    (λ c. let args = c .before .before .before .before .before .before .before .args in
     (zeros-none (args .slots .now), (omega arith, (c .count-private .ensures ∙ ap (λ (n : ℕ). privateCount n (args .file .now) (args .function-at + 1)) (c .before .byte-at .ensures .0), refl))))
-    (λ c κs. omega (arith, c .before .before .before .before .before .before .before .before .before .pre .room))
+    (λ c κs. omega (arith, c .before .before .before .before .before .before .before .before .before .before .pre .room))
     (λ c. search needs) (λ c. search needs)
-    (λ c. let start = c .before .before .before .before .before .before .before .before .before .before .before .before in
+    (λ c. let start = c .before .before .before .before .before .before .before .before .before .before .before .before .before in
     let args-slots = start .args .slots .now in let pre-room = start .pre .room in
     let loop-i = c .before .before .before .before .before .loop .i in
     let (slots-is, (_, (private-is, _))) = c .before .before .before .before .before .loop .inv in
     (zeros-more args-slots _ _ loop-i (omega (arith, pre-room)) slots-is (c .before .before .put-slot .ensures), (omega arith, (private-is, search needs))))
-    (λ c κs. c .before .before .before .before .before .before .before .before .pre .context .nearFunction)
-    (λ c κs. let start = c .before .before .before .before .before .before .before .before .before .before .before in let args = start .args in
+    (λ c κs. c .before .before .before .before .before .before .before .before .before .pre .context .nearFunction)
+    (λ c κs. let start = c .before .before .before .before .before .before .before .before .before .before .before .before in let args = start .args in
     let pre = start .pre in let (_, (_, (private-is, slots-length))) = c .before .before .before .before .loop .inv in
-    body-startable (args .file .now) (args .function-at) (args .arguments .now) (args .caller) (args .numbers .now) (args .nodes-at) (args .slots .now) pre _ _ _ private-is (c .before .before .root-at .ensures) slots-length)
+    body-startable (args .file .now) (args .function-at) (args .arguments .now) (args .caller) (args .numbers .now) (args .source .now) (args .slots .now) pre _ _ _ private-is (c .before .before .root-at .ensures) slots-length)
     (λ c. search needs) (λ c. search needs)
-    (λ c. let start = c .before .before .before .before .before .before .before .before .before .before .before .before .before .before .before .before in
+    (λ c. let start = c .before .before .before .before .before .before .before .before .before .before .before .before .before .before .before .before .before in
     let args = start .args in let pre = start .pre in
     let loop-i = c .before .before .before .before .before .before .before .before .before .loop .i in
     let (slots-is, (_, (private-is, _))) = c .before .before .before .before .before .before .before .before .before .loop .inv in
     let root-at = c .before .before .before .before .before .before .before .root-at .ensures in
-    slots-done (args .file .now) (args .function-at) (args .arguments .now) (args .caller) (args .numbers .now) (args .nodes-at) (args .slots .now) pre _ _ _ _ _ loop-i _ private-is root-at (omega arith) slots-is (search needs) (c .before .before .before .before .statement-slots .ensures)))
+    slots-done (args .file .now) (args .function-at) (args .arguments .now) (args .caller) (args .numbers .now) (args .source .now) (args .slots .now) pre _ _ _ _ _ loop-i _ private-is root-at (omega arith) slots-is (search needs) (c .before .before .before .before .statement-slots .ensures)))

@@ -24,7 +24,7 @@ done-variables-fit-spec =
     (λ c. search needs) (λ c κs. search needs) (λ c. search needs) (λ c κs. search needs)
     (λ c. let k = c .before .before .before in
     let n = k .before .before .before .before in
-    let a = n .before .before .before .before .before .before .args in
+    let a = n .before .before .before .before .before .before .before .args in
     let file = a .file .now in
     let scope = scopeIn file (a .function-at) in
     c .variables-fit .ensures

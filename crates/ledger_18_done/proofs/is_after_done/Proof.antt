@@ -16,12 +16,12 @@ returns c = done-other (ledgerOf (c .before .before .before .before .args .l)) (
 returns-2 : tie.Need-returns-2
 unfolding ledgerOf
 returns-2 c =
-    let v = c .before .before .before .before in
-    let p = v .before .before .before .before .before .before .before in
+    let v = c .before .before .before .before .before in
+    let p = v .before .before .before .before .before .before .before .before .before .before in
     let k = p .before .before in
     let s = k .before .before .before .before .before in
     done-told (ledgerOf (s .args .l)) (s .args .file .now) (s .args .numbers .now) (s .pre .0) (s .pre .1) (k .function-start .result) (k .function-start .ensures .0) _ (p .put-parameters .ensures .stand) _ _ _
-    (v .put-variables .ensures .stand) (k .before .if1 .left) (v .before .before .before .before .parameters-fit .ensures) (v .before .before .before .if2 .taken) (c .done-variables-fit .ensures)
+    (v .put-variables .ensures .stand) (k .before .if1 .left) (v .before .before .before .before .before .before .before .parameters-fit .ensures) (v .before .before .before .before .before .before .if2 .taken) (c .done-variables-fit .ensures)
 
 returns-3 : tie.Need-returns-3
 unfolding ledgerOf
@@ -43,15 +43,16 @@ is-after-done-spec =
       k .function-start .ensures .1,
       parameters-few (s .args .file .now) (s .pre .0 .accepted .number) (s .args .l .function) _ (s .pre .1) (k .function-start .ensures .0),
     ))
-    (λ c κs. search needs) (λ c. search needs) (λ c κs. search needs) (λ c. search needs)
-    (λ c. sym (flat-cut _ _ 8 _ (c .before .before .before .before .before .before .before .before .before .put-parameters .ensures)))
+    (λ c κs. search needs) (λ c. search needs) (λ c κs. search needs) (λ c. search needs) (λ c κs. search needs)
+    (λ c. search needs) (λ c. search needs) (λ c. search needs)
+    (λ c. sym (flat-cut _ _ 8 _ (c .before .before .before .before .before .before .before .before .before .before .before .before .before .put-parameters .ensures)))
     (λ c. search needs)
-    (λ c. sym (flat-cut _ _ 1024 _ (c .before .before .before .put-variables .ensures)))
-    (λ c κs. let v = c .before .before .before in
-    let p = v .before .before .before .before .before .before .before in
+    (λ c. sym (flat-cut _ _ 1024 _ (c .before .before .before .before .put-variables .ensures)))
+    (λ c κs. let d = c .before .before .before .before .before .before .before in
+    let p = d .before .before .before .before .before .before .before in
     let k = p .before .before in
     let s = k .before .before .before .before .before in (
-      (room-at (s .args .file .now) (s .pre .0 .accepted .number) (s .args .l .function) _ (s .pre .1) (k .function-start .ensures .0), v .before .before .read-layout .ensures .nodesStart),
+      (room-at (s .args .file .now) (s .pre .0 .accepted .number) (s .args .l .function) _ (s .pre .1) (k .function-start .ensures .0), d .decode-source .ensures .0),
       omega (arith, flat-cut _ _ 8 _ (p .put-parameters .ensures), p .put-parameters .ensures .fits),
     ))
     returns-2

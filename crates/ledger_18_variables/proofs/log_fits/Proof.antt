@@ -27,7 +27,7 @@ log-fits-spec =
     (λ c. (omega arith, (omega arith, refl)))
     (λ c. search needs) (λ c. search needs) (λ c. search needs) (λ c. search needs) (λ c. search needs)
     (λ c. let k = c .before .before .before in
-    let a = k .before .before .before .before .before .args in (
+    let a = k .before .before .before .before .before .before .args in (
       omega arith,
       (
         omega arith,
@@ -35,15 +35,15 @@ log-fits-spec =
       ),
     ))
     (λ c. search needs) (λ c. search needs) (λ c. search needs)
-    (λ c. omega (arith, c .shared-slice-known6 .given (c .before .before .before .before .loop .i + 3)))
-    (λ c κs. let (context, _) = c .before .before .before .before .before .before .before .before .before .pre in context)
+    (λ c. omega (arith, c .shared-slice-known7 .given (c .before .before .before .before .loop .i + 3)))
+    (λ c κs. let (context, _) = c .before .before .before .before .before .before .before .before .before .before .pre in context)
     (λ c. search needs) (λ c. search needs) (λ c. search needs)
-    (λ c. omega (arith, c .shared-slice-known7 .given (c .before .before .before .before .before .before .loop .i + 2)))
+    (λ c. omega (arith, c .shared-slice-known8 .given (c .before .before .before .before .before .before .loop .i + 2)))
     (λ c κs. search needs) (λ c κs. search needs) (λ c. search needs) (λ c. search needs) (λ c. search needs)
     (λ c. let if1-left = c .before .before .before .before .before .before .if1 .left in
     let entry-type = c .before .before .before .before .entry-type in let code-reader = c .before .before .code-reader in
     let k = c .before .before .before .before .before .before .before .before .before in
-    let a = k .before .before .before .before .before .args in (
+    let a = k .before .before .before .before .before .before .args in (
       omega arith,
       (
         omega arith,
@@ -55,10 +55,10 @@ log-fits-spec =
     (λ c. let if1-left = c .before .before .before .before .before .before .if1 .left in
     let entry-type = c .before .before .before .before .entry-type in let code-reader = c .before .before .code-reader in
     let k = c .before .before .before .before .before .before .before .before .before in
-    let a = k .before .before .before .before .before .args in
+    let a = k .before .before .before .before .before .before .args in
     entry-stops (a .file .now) (a .function-at) (a .addresses .now) (a .log .now) (k .loop .i) (omega arith) (contentsOf (a .flat .now)) (k .loop .p) _ (k .loop .inv .1 .1) _
     (entry-type .result) (code-reader .result) (entry-type .ensures) (code-reader .ensures)
     (c .before .variable-fits-at .ensures) if1-left (c .if2 .left))
     (λ c. let k = c .before in
-    let a = k .before .before .before .before .before .args in
+    let a = k .before .before .before .before .before .before .args in
     log-done (a .file .now) (a .function-at) (a .addresses .now) (a .log .now) (k .loop .i) (a .flat .now) (k .loop .p) _ (omega arith) (k .loop .inv .1 .1)))

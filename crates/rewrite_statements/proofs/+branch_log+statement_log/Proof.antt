@@ -13,30 +13,30 @@ use Rattle.rewrite_statements.proofs.statement_log.Reads as statement-l
 use Rattle.rewrite_statements.proofs.statement_log.Kinds as statement-log-kinds
 use Rattle.rewrite_statements.proofs.+branch_log+statement_log.Lts-statement_log as statement-log-lts
 use Rattle.rewrite_log.proofs.log_entry.Reads as log-entry-reads
-use Rattle.file_bytes.proofs.node_at.Reads as node-at-reads
+use Rattle.file_decoded.proofs.node_at.Reads as node-at-reads
 use Rattle.rewrite_expressions.proofs.body_log.Reads as body-log-reads
 use Rattle.rewrite_assignments.proofs.assign_entry_log.Reads as assign-entry-log-reads
 use Rattle.rewrite_assignments.proofs.assign_field_log.Reads as assign-field-log-reads
 use Rattle.rewrite_statements.proofs.+branch_log+statement_log.{statement}
 use Rattle.rewrite_statements.proofs.+branch_log+statement_log.Tie.{close}
 
-abbrev μ-branch-log : Measures 2 branch-log-kinds.ps ℕ
+abbrev μ-branch-log : Measures 3 branch-log-kinds.ps ℕ
 μ-branch-log κs a = 2 * a .1 .1 .1 .0 + 1
 
-abbrev μ-statement-log : Measures 2 statement-log-kinds.ps ℕ
+abbrev μ-statement-log : Measures 3 statement-log-kinds.ps ℕ
 μ-statement-log κs a = 2 * a .1 .1 .1 .0
 
-abbrev branch-log-at : ℕ → In 2 branch-log-kinds.ps
-branch-log-at t = and 2 branch-log-kinds.ps (is 2 branch-log-kinds.ps μ-branch-log t) branch-log.Pre
+abbrev branch-log-at : ℕ → In 3 branch-log-kinds.ps
+branch-log-at t = and 3 branch-log-kinds.ps (is 3 branch-log-kinds.ps μ-branch-log t) branch-log.Pre
 
-abbrev branch-log-below : ℕ → In 2 branch-log-kinds.ps
-branch-log-below t = and 2 branch-log-kinds.ps (falls 2 branch-log-kinds.ps _<_ μ-branch-log t) branch-log.Pre
+abbrev branch-log-below : ℕ → In 3 branch-log-kinds.ps
+branch-log-below t = and 3 branch-log-kinds.ps (falls 3 branch-log-kinds.ps _<_ μ-branch-log t) branch-log.Pre
 
-abbrev statement-log-at : ℕ → In 2 statement-log-kinds.ps
-statement-log-at t = and 2 statement-log-kinds.ps (is 2 statement-log-kinds.ps μ-statement-log t) statement-log.Pre
+abbrev statement-log-at : ℕ → In 3 statement-log-kinds.ps
+statement-log-at t = and 3 statement-log-kinds.ps (is 3 statement-log-kinds.ps μ-statement-log t) statement-log.Pre
 
-abbrev statement-log-below : ℕ → In 2 statement-log-kinds.ps
-statement-log-below t = and 2 statement-log-kinds.ps (falls 2 statement-log-kinds.ps _<_ μ-statement-log t) statement-log.Pre
+abbrev statement-log-below : ℕ → In 3 statement-log-kinds.ps
+statement-log-below t = and 3 statement-log-kinds.ps (falls 3 statement-log-kinds.ps _<_ μ-statement-log t) statement-log.Pre
 
 abbrev branch-log-claims : ℕ → branch-log-lts.Claims
 branch-log-claims t = (log-entry-reads.Asked, log-entry-reads.Learnt, statement-log-below t, statement-log.Post)
@@ -60,13 +60,13 @@ statement-log-claims t = (
 -- What is logged of a branch and of a sequence stands above the other answers: another guard or order is refused here first.
 branch-returns : (t : ℕ) → branch-log-lts.Need-returns (branch-log-claims t) (branch-log-at t) branch-log.Post
 branch-returns t c =
-    let (_, ready) = c .before .before .before .before .before .before .before .before .before .before .pre in
+    let (_, ready) = c .before .before .before .before .before .before .before .before .before .before .before .pre in
     let log-entry = c .before .before .before .before .before .before .log-entry .ensures in
     branch-done _ _ _ _ _ _ ready _ _ log-entry _ _ (c .before .before .statement-log .ensures)
 
 sequence-returns : (t : ℕ) → statement-log-lts.Need-returns (statement-log-claims t) (statement-log-at t) statement-log.Post
 sequence-returns t c =
-    let start = c .before .before .before .before .before .before .before .before .before .before .before .before in
+    let start = c .before .before .before .before .before .before .before .before .before .before .before .before .before in
     let args-guard = start .args .guard in let (_, ready) = start .pre in
     let node-at-same = c .before .before .before .before .before .before .before .before .before .node-at .ensures .same in
     let match-keys1 = c .before .before .before .before .before .before .before .before .match .keys1 in
@@ -76,38 +76,38 @@ sequence-returns t c =
 pub +branch-log+statement-log-spec : {M : Type 1} → statement M
 +branch-log+statement-log-spec = close μ-branch-log μ-statement-log (λ t. branch-log-lts.spec (branch-log-claims t)
     (branch-log-at t) branch-log.Post
-    (λ c κs. let (_, ready) = c .before .before .before .pre in (guard-slot _ _ _ _ _ _ ready, guard-small _ _ _ _ _ _ ready))
-    (λ c. let (_, ready) = c .before .before .before .before .before .before .pre in omega (arith, guard-slot _ _ _ _ _ _ ready .few))
-    (λ c. let (_, ready) = c .before .before .before .before .before .before .pre in omega (arith, guard-slot _ _ _ _ _ _ ready .few))
-    (λ c κs. let (_, ready) = c .before .before .before .before .before .before .before .pre in
+    (λ c κs. let (_, ready) = c .before .before .before .before .pre in (guard-slot _ _ _ _ _ _ ready, guard-small _ _ _ _ _ _ ready))
+    (λ c. let (_, ready) = c .before .before .before .before .before .before .before .pre in omega (arith, guard-slot _ _ _ _ _ _ ready .few))
+    (λ c. let (_, ready) = c .before .before .before .before .before .before .before .pre in omega (arith, guard-slot _ _ _ _ _ _ ready .few))
+    (λ c κs. let (_, ready) = c .before .before .before .before .before .before .before .before .pre in
     (omega arith, inside-ready _ _ _ _ _ _ ready _ _ (c .before .before .before .log-entry .ensures)))
     (λ c. c .before .before .statement-log .kept .1 .1 .1 .1 .1 .0 ∙ c .before .before .before .before .before .before .log-entry .kept .0)
     (branch-returns t))
     λ t. statement-log-lts.spec (statement-log-claims t)
     (statement-log-at t) statement-log.Post
-    (λ c κs. let (_, ready) = c .before .before .pre in (ready .context .nearNodes, omega (arith, ready .inside, ready .context .fewNodes)))
-    (λ c κs. let start = c .before .before .before .before .before in let args-guard = start .args .guard in let (_, ready) = start .pre in
+    (λ c κs. let (_, ready) = c .before .before .before .pre in (ready .context .narrow, omega (arith, ready .inside, ready .context .long)))
+    (λ c κs. let start = c .before .before .before .before .before .before in let args-guard = start .args .guard in let (_, ready) = start .pre in
     let node-at-same = c .before .before .node-at .ensures .same in let match-keys1 = c .before .match .keys1 in
     let less = steps-less _ _ _ args-guard _ _ _ ready _ node-at-same match-keys1 in (omega arith, first-ready _ _ _ args-guard _ _ _ ready _ node-at-same match-keys1))
-    (λ c κs. let start = c .before .before .before .before .before .before .before .before .before in let args-guard = start .args .guard in
+    (λ c κs. let start = c .before .before .before .before .before .before .before .before .before .before in let args-guard = start .args .guard in
     let (_, ready) = start .pre in let node-at-same = c .before .before .before .before .before .before .node-at .ensures .same in
     let match-keys1 = c .before .before .before .before .before .match .keys1 in
     let less = steps-less _ _ _ args-guard _ _ _ ready _ node-at-same match-keys1 in (omega arith, second-ready _ _ _ args-guard _ _ _ ready _ node-at-same match-keys1 _ _ (c .before .before .before .statement-log .ensures)))
-    (λ c κs. let start = c .before .before .before .before .before in let args-guard = start .args .guard in let (_, ready) = start .pre in
+    (λ c κs. let start = c .before .before .before .before .before .before in let args-guard = start .args .guard in let (_, ready) = start .pre in
     let node-at = c .before .before .node-at .ensures in
     (node-at .smallArg, assign-field-ready _ _ _ args-guard _ _ _ ready _ (node-at .same) (c .before .match .keys2)))
-    (λ c κs. let start = c .before .before .before .before .before in let args-guard = start .args .guard in let (_, ready) = start .pre in
+    (λ c κs. let start = c .before .before .before .before .before .before in let args-guard = start .args .guard in let (_, ready) = start .pre in
     let node-at = c .before .before .node-at .ensures in let match-keys3 = c .before .match .keys3 in
     ((node-at .smallArg, entry-value-inside _ _ _ args-guard _ _ _ ready _ (node-at .same) match-keys3), assign-entry-ready _ _ _ args-guard _ _ _ ready _ (node-at .same) match-keys3))
-    (λ c κs. let (_, ready) = c .before .before .before .before .before .pre in
-    require-ready _ _ _ (c .before .before .before .before .before .args .guard) _ _ _ ready _ (c .before .before .node-at .ensures .same) (c .before .match .keys4))
-    (λ c κs. let (_, ready) = c .before .before .before .before .before .pre in
-    condition-ready _ _ _ (c .before .before .before .before .before .args .guard) _ _ _ ready _ (c .before .before .node-at .ensures .same) (c .before .match .keys5))
-    (λ c κs. let start = c .before .before .before .before .before .before .before .before .before in let args-guard = start .args .guard in
+    (λ c κs. let (_, ready) = c .before .before .before .before .before .before .pre in
+    require-ready _ _ _ (c .before .before .before .before .before .before .args .guard) _ _ _ ready _ (c .before .before .node-at .ensures .same) (c .before .match .keys4))
+    (λ c κs. let (_, ready) = c .before .before .before .before .before .before .pre in
+    condition-ready _ _ _ (c .before .before .before .before .before .before .args .guard) _ _ _ ready _ (c .before .before .node-at .ensures .same) (c .before .match .keys5))
+    (λ c κs. let start = c .before .before .before .before .before .before .before .before .before .before in let args-guard = start .args .guard in
     let (_, ready) = start .pre in let node-at-same = c .before .before .before .before .before .before .node-at .ensures .same in
     let match-keys5 = c .before .before .before .before .before .match .keys5 in
     let less = branches-less _ _ _ args-guard _ _ _ ready _ node-at-same match-keys5 in (omega arith, then-ready _ _ _ args-guard _ _ _ ready _ node-at-same match-keys5 _ _ (c .before .before .before .body-log2 .ensures)))
-    (λ c κs. let start = c .before .before .before .before .before .before .before .before .before .before .before .before .before in
+    (λ c κs. let start = c .before .before .before .before .before .before .before .before .before .before .before .before .before .before in
     let args-guard = start .args .guard in let (_, ready) = start .pre in
     let node-at-same = c .before .before .before .before .before .before .before .before .before .before .node-at .ensures .same in
     let match-keys5 = c .before .before .before .before .before .before .before .before .before .match .keys5 in
@@ -116,27 +116,27 @@ pub +branch-log+statement-log-spec : {M : Type 1} → statement M
     (λ c. c .before .before .statement-log2 .kept .1 .1 .1 .1 .1 .0 ∙ c .before .before .before .before .before .before .statement-log .kept .1 .1 .1 .1 .1 .0)
     (sequence-returns t)
     (λ c. c .before .before .assign-field-log .kept .1 .1 .1 .1 .1 .1 .0)
-    (λ c. let start = c .before .before .before .before .before .before .before .before in let args-guard = start .args .guard in
+    (λ c. let start = c .before .before .before .before .before .before .before .before .before in let args-guard = start .args .guard in
     let (_, ready) = start .pre in let node-at-same = c .before .before .before .before .before .node-at .ensures .same in
     assign-field-logged _ _ _ args-guard _ _ _ ready _ node-at-same (c .before .before .before .before .match .keys2) _ _ (c .before .before .assign-field-log .ensures))
     (λ c. c .before .before .assign-entry-log .kept .1 .1 .1 .1 .1 .1 .1 .0)
-    (λ c. let start = c .before .before .before .before .before .before .before .before in let args-guard = start .args .guard in
+    (λ c. let start = c .before .before .before .before .before .before .before .before .before in let args-guard = start .args .guard in
     let (_, ready) = start .pre in let node-at-same = c .before .before .before .before .before .node-at .ensures .same in
     assign-entry-logged _ _ _ args-guard _ _ _ ready _ node-at-same (c .before .before .before .before .match .keys3) _ _ (c .before .before .assign-entry-log .ensures))
     (λ c. c .before .before .body-log .kept .1 .1 .1 .1 .1 .0)
-    (λ c. let start = c .before .before .before .before .before .before .before .before in let args-guard = start .args .guard in
+    (λ c. let start = c .before .before .before .before .before .before .before .before .before in let args-guard = start .args .guard in
     let (_, ready) = start .pre in let node-at-same = c .before .before .before .before .before .node-at .ensures .same in
     require-logged _ _ _ args-guard _ _ _ ready _ node-at-same (c .before .before .before .before .match .keys4) _ _ (c .before .before .body-log .ensures))
     (λ c. let body-log2-kept = c .before .before .before .before .before .before .before .before .before .before .body-log2 .kept .1 .1 .1 .1 .1 .0 in
     let branch-log-kept = c .before .before .before .before .before .before .branch-log .kept .1 .1 .1 .1 .0 in
     c .before .before .branch-log2 .kept .1 .1 .1 .1 .0 ∙ branch-log-kept ∙ body-log2-kept)
-    (λ c. let start = c .before .before .before .before .before .before .before .before .before .before .before .before .before .before .before .before in
+    (λ c. let start = c .before .before .before .before .before .before .before .before .before .before .before .before .before .before .before .before .before in
     let args-guard = start .args .guard in let (_, ready) = start .pre in
     let node-at-same = c .before .before .before .before .before .before .before .before .before .before .before .before .before .node-at .ensures .same in
     let match-keys5 = c .before .before .before .before .before .before .before .before .before .before .before .before .match .keys5 in
     let body-log2 = c .before .before .before .before .before .before .before .before .before .before .body-log2 .ensures in
     let branch-log-2 = c .before .before .before .before .before .before .branch-log .ensures in
     conditional-logged _ _ _ args-guard _ _ _ ready _ node-at-same match-keys5 _ _ body-log2 _ _ branch-log-2 _ _ (c .before .before .branch-log2 .ensures))
-    (λ c. let (_, ready) = c .before .before .before .before .pre in
+    (λ c. let (_, ready) = c .before .before .before .before .before .pre in
     let u = c .match .rest in
-    still-logged _ _ _ (c .before .before .before .before .args .guard) _ _ _ ready _ (c .before .node-at .ensures .same) (record { sequence = u .0 .0 .0 .0 .1; assignField = u .0 .0 .0 .1; assignEntry = u .0 .0 .1; require = u .0 .1; conditional = u .1 }))
+    still-logged _ _ _ (c .before .before .before .before .before .args .guard) _ _ _ ready _ (c .before .node-at .ensures .same) (record { sequence = u .0 .0 .0 .0 .1; assignField = u .0 .0 .0 .1; assignEntry = u .0 .0 .1; require = u .0 .1; conditional = u .1 }))

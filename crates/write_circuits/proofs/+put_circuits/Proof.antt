@@ -14,14 +14,14 @@ use Rattle.write_circuits.proofs.put_claim.Reads as put-claim-reads
 use Rattle.write_circuits.proofs.+put_circuits.{statement}
 use Rattle.write_circuits.proofs.+put_circuits.Tie.{close}
 
-abbrev μ-put-circuits : Measures 4 put-circuits-kinds.ps ℕ
+abbrev μ-put-circuits : Measures 5 put-circuits-kinds.ps ℕ
 μ-put-circuits κs a = a .1 .1 .1 .1 .1 .0
 
-abbrev put-circuits-at : ℕ → In 4 put-circuits-kinds.ps
-put-circuits-at t = and 4 put-circuits-kinds.ps (is 4 put-circuits-kinds.ps μ-put-circuits t) put-circuits.Pre
+abbrev put-circuits-at : ℕ → In 5 put-circuits-kinds.ps
+put-circuits-at t = and 5 put-circuits-kinds.ps (is 5 put-circuits-kinds.ps μ-put-circuits t) put-circuits.Pre
 
-abbrev put-circuits-below : ℕ → In 4 put-circuits-kinds.ps
-put-circuits-below t = and 4 put-circuits-kinds.ps (falls 4 put-circuits-kinds.ps _<_ μ-put-circuits t) put-circuits.Pre
+abbrev put-circuits-below : ℕ → In 5 put-circuits-kinds.ps
+put-circuits-below t = and 5 put-circuits-kinds.ps (falls 5 put-circuits-kinds.ps _<_ μ-put-circuits t) put-circuits.Pre
 
 abbrev put-circuits-claims : ℕ → put-circuits-lts.Claims
 put-circuits-claims t = (put-circuit-reads.Asked, put-circuit-reads.Learnt, put-claim-reads.Asked, put-claim-reads.Learnt, put-circuits-below t, put-circuits.Post)
@@ -29,7 +29,7 @@ put-circuits-claims t = (put-circuit-reads.Asked, put-circuit-reads.Learnt, put-
 -- What is put for a claim stands above the other answers: another root, or numbers in another place, are refused here first.
 claim-returns : (t : ℕ) → put-circuits-lts.Need-returns-2 (put-circuits-claims t) (put-circuits-at t) put-circuits.Post
 claim-returns t c =
-    let (_, (_, (_, circuits-room))) = c .before .before .before .before .before .before .before .before .before .before .before .before .before .before .before .before .before .before .before .before .before .before .before .before .pre in
+    let (_, (_, (_, circuits-room))) = c .before .before .before .before .before .before .before .before .before .before .before .before .before .before .before .before .before .before .before .before .before .before .before .before .before .pre in
     let if1-left = c .before .before .before .before .before .before .before .before .before .before .before .before .before .before .before .before .before .before .before .if1 .left in
     let if2-taken = c .before .before .before .before .before .before .before .before .before .before .before .before .before .before .before .before .before .if2 .taken in
     let put-circuit = c .before .before .before .before .before .before .before .before .before .before .before .before .before .before .before .put-circuit .ensures in
@@ -41,72 +41,72 @@ pub +put-circuits-spec : {M : Type 1} → statement M
 +put-circuits-spec =
     close μ-put-circuits
     (λ t. put-circuits-lts.spec (put-circuits-claims t) (put-circuits-at t) put-circuits.Post
-    (λ c. let (_, (_, (claimable, _))) = c .before .before .before .before .before .pre in
-    let some = c .if1 .left in
-    omega (arith, c .before .before .before .before .before .good .1 .1 .1 .0, claimable .space))
     (λ c. let (_, (_, (claimable, _))) = c .before .before .before .before .before .before .pre in
+    let some = c .if1 .left in
+    omega (arith, c .before .before .before .before .before .before .good .1 .1 .1 .0, claimable .space))
+    (λ c. let (_, (_, (claimable, _))) = c .before .before .before .before .before .before .before .pre in
     let some = c .before .if1 .left in
     omega (arith, claimable .space))
-    (λ c κs. let (_, (context, (claimable, circuits-room))) = c .before .before .before .before .before .before .before .before .pre in
+    (λ c κs. let (_, (context, (claimable, circuits-room))) = c .before .before .before .before .before .before .before .before .before .pre in
     let if1-left = c .before .before .before .if1 .left in let if2-taken = c .before .if2 .taken in
     (context, (claimable-first _ _ _ _ _ if1-left claimable if2-taken, room-circuit _ _ _ _ _ _ _ (room-same _ _ _ _ _ _ _ (claims-claim _ _ _ _ _ if1-left if2-taken) circuits-room))))
-    (λ c. let (_, (_, (_, circuits-room))) = c .before .before .before .before .before .before .before .before .before .before .before .pre in
+    (λ c. let (_, (_, (_, circuits-room))) = c .before .before .before .before .before .before .before .before .before .before .before .before .pre in
     let if1-left = c .before .before .before .before .before .before .if1 .left in
     let fits = root-fits _ _ _ _ _ _ _ (room-same _ _ _ _ _ _ _ (claims-claim _ _ _ _ _ if1-left (c .before .before .before .before .if2 .taken)) circuits-room) _ _ (c .before .before .put-circuit .ensures) in
     omega arith)
-    (λ c. let (_, (_, (_, circuits-room))) = c .before .before .before .before .before .before .before .before .before .before .before .pre in
+    (λ c. let (_, (_, (_, circuits-room))) = c .before .before .before .before .before .before .before .before .before .before .before .before .pre in
     let if1-left = c .before .before .before .before .before .before .if1 .left in
     let fits = root-fits _ _ _ _ _ _ _ (room-same _ _ _ _ _ _ _ (claims-claim _ _ _ _ _ if1-left (c .before .before .before .before .if2 .taken)) circuits-room) _ _ (c .before .before .put-circuit .ensures) in
     omega arith)
-    (λ c. let (_, (_, (_, circuits-room))) = c .before .before .before .before .before .before .before .before .before .before .before .pre in
+    (λ c. let (_, (_, (_, circuits-room))) = c .before .before .before .before .before .before .before .before .before .before .before .before .pre in
     let if1-left = c .before .before .before .before .before .before .if1 .left in
     let fits = root-fits _ _ _ _ _ _ _ (room-same _ _ _ _ _ _ _ (claims-claim _ _ _ _ _ if1-left (c .before .before .before .before .if2 .taken)) circuits-room) _ _ (c .before .before .put-circuit .ensures) in
     omega arith)
-    (λ c κs. let (_, (_, (claimable, circuits-room))) = c .before .before .before .before .before .before .before .before .before .before .before .before .pre in
+    (λ c κs. let (_, (_, (claimable, circuits-room))) = c .before .before .before .before .before .before .before .before .before .before .before .before .before .pre in
     let if1-left = c .before .before .before .before .before .before .before .if1 .left in
     let if2-taken = c .before .before .before .before .before .if2 .taken in
     ((claimable-first _ _ _ _ _ if1-left claimable if2-taken) .space, room-four _ _ _ _ _ _ _ (room-same _ _ _ _ _ _ _ (claims-claim _ _ _ _ _ if1-left if2-taken) circuits-room)))
-    (λ c. let good = c .before .before .before .before .before .before .before .before .before .before .before .before .before .before .before .good .1 .1 .1 .0 in
-    let (_, (_, (claimable, _))) = c .before .before .before .before .before .before .before .before .before .before .before .before .before .before .before .pre in
+    (λ c. let good = c .before .before .before .before .before .before .before .before .before .before .before .before .before .before .before .before .good .1 .1 .1 .0 in
+    let (_, (_, (claimable, _))) = c .before .before .before .before .before .before .before .before .before .before .before .before .before .before .before .before .pre in
     let if1-left = c .before .before .before .before .before .before .before .before .before .before .if1 .left in
     let some = if1-left in
     omega (arith, good, claimable .space))
     (λ c. let some = c .before .before .before .before .before .before .before .before .before .before .if1 .left in
     omega arith)
-    (λ c. let good = c .before .before .before .before .before .before .before .before .before .before .before .before .before .before .before .before .good .1 .1 .1 .1 .1 .1 .0 in
-    let (_, (_, (_, circuits-room))) = c .before .before .before .before .before .before .before .before .before .before .before .before .before .before .before .before .pre in
+    (λ c. let good = c .before .before .before .before .before .before .before .before .before .before .before .before .before .before .before .before .before .good .1 .1 .1 .1 .1 .1 .0 in
+    let (_, (_, (_, circuits-room))) = c .before .before .before .before .before .before .before .before .before .before .before .before .before .before .before .before .before .pre in
     let if1-left = c .before .before .before .before .before .before .before .before .before .before .before .if1 .left in
     let if2-taken = c .before .before .before .before .before .before .before .before .before .if2 .taken in
     let inside = room-four _ _ _ _ _ _ _ (room-same _ _ _ _ _ _ _ (claims-claim _ _ _ _ _ if1-left if2-taken) circuits-room) in
     omega (arith, good))
-    (λ c. let (_, (_, (_, circuits-room))) = c .before .before .before .before .before .before .before .before .before .before .before .before .before .before .before .before .before .pre in
+    (λ c. let (_, (_, (_, circuits-room))) = c .before .before .before .before .before .before .before .before .before .before .before .before .before .before .before .before .before .before .pre in
     let if1-left = c .before .before .before .before .before .before .before .before .before .before .before .before .if1 .left in
     let if2-taken = c .before .before .before .before .before .before .before .before .before .before .if2 .taken in
     let put-circuit = c .before .before .before .before .before .before .before .before .put-circuit .ensures in
     let fits = root-fits _ _ _ _ _ _ _ (room-same _ _ _ _ _ _ _ (claims-claim _ _ _ _ _ if1-left if2-taken) circuits-room) _ _ put-circuit in
     omega arith)
-    (λ c. let good = c .before .before .before .before .before .before .before .before .before .before .before .before .before .before .before .before .before .good .1 .1 .1 .1 .1 .1 .1 .1 .0 in
-    let (_, (_, (_, circuits-room))) = c .before .before .before .before .before .before .before .before .before .before .before .before .before .before .before .before .before .pre in
+    (λ c. let good = c .before .before .before .before .before .before .before .before .before .before .before .before .before .before .before .before .before .before .good .1 .1 .1 .1 .1 .1 .1 .1 .0 in
+    let (_, (_, (_, circuits-room))) = c .before .before .before .before .before .before .before .before .before .before .before .before .before .before .before .before .before .before .pre in
     let if1-left = c .before .before .before .before .before .before .before .before .before .before .before .before .if1 .left in
     let if2-taken = c .before .before .before .before .before .before .before .before .before .before .if2 .taken in
     let put-circuit = c .before .before .before .before .before .before .before .before .put-circuit in
     let fits = root-fits _ _ _ _ _ _ _ (room-same _ _ _ _ _ _ _ (claims-claim _ _ _ _ _ if1-left if2-taken) circuits-room) _ _ (put-circuit .ensures) in
     let later = room-circuits _ _ _ _ _ _ _ (room-same _ _ _ _ _ _ _ (claims-claim _ _ _ _ _ if1-left if2-taken) circuits-room) _ _ _ (record { circuit = put-circuit .ensures; claim = c .before .before .before .before .put-claim .ensures }) in
     omega (arith, later .bytes, put-circuit .kept .1 .1 .1 .1 .1 .0, good))
-    (λ c. let (_, (_, (_, circuits-room))) = c .before .before .before .before .before .before .before .before .before .before .before .before .before .before .before .before .before .pre in
+    (λ c. let (_, (_, (_, circuits-room))) = c .before .before .before .before .before .before .before .before .before .before .before .before .before .before .before .before .before .before .pre in
     let if1-left = c .before .before .before .before .before .before .before .before .before .before .before .before .if1 .left in
     let if2-taken = c .before .before .before .before .before .before .before .before .before .before .if2 .taken in
     let put-circuit = c .before .before .before .before .before .before .before .before .put-circuit .ensures in
     let fits = root-fits _ _ _ _ _ _ _ (room-same _ _ _ _ _ _ _ (claims-claim _ _ _ _ _ if1-left if2-taken) circuits-room) _ _ put-circuit in
     omega arith)
-    (λ c κs. let (_, (context, (claimable, circuits-room))) = c .before .before .before .before .before .before .before .before .before .before .before .before .before .before .before .before .before .pre in
+    (λ c κs. let (_, (context, (claimable, circuits-room))) = c .before .before .before .before .before .before .before .before .before .before .before .before .before .before .before .before .before .before .pre in
     let if1-left = c .before .before .before .before .before .before .before .before .before .before .before .before .if1 .left in
     let if2-taken = c .before .before .before .before .before .before .before .before .before .before .if2 .taken in
     let put-circuit = c .before .before .before .before .before .before .before .before .put-circuit .ensures in
     let some = if1-left in
     (omega arith, (context, (claimable-next _ _ _ _ _ if1-left claimable, room-circuits _ _ _ _ _ _ _ (room-same _ _ _ _ _ _ _ (claims-claim _ _ _ _ _ if1-left if2-taken) circuits-room) _ _ _ (record { circuit = put-circuit; claim = c .before .before .before .before .put-claim .ensures })))))
-    (λ c. let good = c .before .before .before .before .before .before .before .before .before .before .before .before .before .before .before .before .before .before .before .before .before .before .before .good .1 .1 .1 .1 .1 .1 .0 in
-    let (_, (_, (_, circuits-room))) = c .before .before .before .before .before .before .before .before .before .before .before .before .before .before .before .before .before .before .before .before .before .before .before .pre in
+    (λ c. let good = c .before .before .before .before .before .before .before .before .before .before .before .before .before .before .before .before .before .before .before .before .before .before .before .before .good .1 .1 .1 .1 .1 .1 .0 in
+    let (_, (_, (_, circuits-room))) = c .before .before .before .before .before .before .before .before .before .before .before .before .before .before .before .before .before .before .before .before .before .before .before .before .pre in
     let if1-left = c .before .before .before .before .before .before .before .before .before .before .before .before .before .before .before .before .before .before .if1 .left in
     let if2-taken = c .before .before .before .before .before .before .before .before .before .before .before .before .before .before .before .before .if2 .taken in
     let put-circuit = c .before .before .before .before .before .before .before .before .before .before .before .before .before .before .put-circuit .ensures in
@@ -114,7 +114,7 @@ pub +put-circuits-spec : {M : Type 1} → statement M
     let put-circuits-count = c .before .before .before .before .before .put-circuits .ensures .count in
     let later = room-circuits _ _ _ _ _ _ _ (room-same _ _ _ _ _ _ _ (claims-claim _ _ _ _ _ if1-left if2-taken) circuits-room) _ _ _ (record { circuit = put-circuit; claim = put-claim .ensures }) in
     omega (arith, later .space, put-circuits-count, put-claim .kept .1 .1 .1 .0, good))
-    (λ c. let (_, (_, (_, circuits-room))) = c .before .before .before .before .before .before .before .before .before .before .before .before .before .before .before .before .before .before .before .before .before .before .before .before .pre in
+    (λ c. let (_, (_, (_, circuits-room))) = c .before .before .before .before .before .before .before .before .before .before .before .before .before .before .before .before .before .before .before .before .before .before .before .before .before .pre in
     let if1-left = c .before .before .before .before .before .before .before .before .before .before .before .before .before .before .before .before .before .before .before .if1 .left in
     let if2-taken = c .before .before .before .before .before .before .before .before .before .before .before .before .before .before .before .before .before .if2 .taken in
     let put-circuit = c .before .before .before .before .before .before .before .before .before .before .before .before .before .before .before .put-circuit .ensures in
@@ -122,12 +122,12 @@ pub +put-circuits-spec : {M : Type 1} → statement M
     let put-circuits-nodes = c .before .before .before .before .before .before .put-circuits .ensures .nodes in
     let later = room-circuits _ _ _ _ _ _ _ (room-same _ _ _ _ _ _ _ (claims-claim _ _ _ _ _ if1-left if2-taken) circuits-room) _ _ _ (record { circuit = put-circuit; claim = put-claim }) in
     omega (arith, later .numbers, put-circuits-nodes))
-    (λ c. let (_, (_, (claimable, _))) = c .before .before .before .before .before .before .before .pre in
+    (λ c. let (_, (_, (claimable, _))) = c .before .before .before .before .before .before .before .before .pre in
     let some = c .before .before .if1 .left in
-    omega (arith, c .before .before .before .before .before .before .before .good .1 .1 .1 .0, claimable .space))
+    omega (arith, c .before .before .before .before .before .before .before .before .good .1 .1 .1 .0, claimable .space))
     (λ c. let some = c .before .before .if1 .left in
     omega arith)
-    (λ c κs. let (_, (context, (claimable, circuits-room))) = c .before .before .before .before .before .before .before .before .before .pre in
+    (λ c κs. let (_, (context, (claimable, circuits-room))) = c .before .before .before .before .before .before .before .before .before .before .pre in
     let if1-left = c .before .before .before .before .if1 .left in
     let some = if1-left in
     (omega arith, (context, (claimable-next _ _ _ _ _ if1-left claimable, room-same _ _ _ _ _ _ _ (claims-other _ _ _ _ _ if1-left (c .before .before .if2 .left)) circuits-room))))

@@ -10,13 +10,13 @@ use Rattle.write_simple_statements.proofs.write_require_form.Tie as tie
 pub write-require-form-spec : {M : Type 1} → statement M
 write-require-form-spec =
     tie.close
-    (tie.spec (λ c κs. let (_, (_, (context, _))) = c .before .before .pre in (context .nearNodes, omega (arith, context .fewNodes))) (λ c κs. let (kind-at-is, (n-bound, (context, (i-bound, room)))) = c .before .before .before .before .pre in
+    (tie.spec (λ c κs. let (_, (_, (context, _))) = c .before .before .before .pre in (context .narrow, omega (arith, context .long))) (λ c κs. let (kind-at-is, (n-bound, (context, (i-bound, room)))) = c .before .before .before .before .before .pre in
     let node-at-same = c .before .node-at .ensures .same in
     let less = required-below _ _ _ context _ n-bound _ node-at-same (kind-as _ _ 20 (sym node-at-same) kind-at-is) in
     let h = require-count _ _ _ context _ n-bound _ node-at-same (kind-as _ _ 20 (sym node-at-same) kind-at-is) in
-    (omega arith, (context, (omega (arith, i-bound), room-one _ _ _ _ _ _ (room-as _ _ _ _ _ (require-form _ _ _ context _ n-bound _ node-at-same _ (kind-as _ _ 20 (sym node-at-same) kind-at-is)) room))))) (λ c κs. let (kind-at-is, (n-bound, (context, (_, room)))) = c .before .before .before .before .before .before .before .before .pre in
+    (omega arith, (context, (omega (arith, i-bound), room-one _ _ _ _ _ _ (room-as _ _ _ _ _ (require-form _ _ _ context _ n-bound _ node-at-same _ (kind-as _ _ 20 (sym node-at-same) kind-at-is)) room))))) (λ c κs. let (kind-at-is, (n-bound, (context, (_, room)))) = c .before .before .before .before .before .before .before .before .before .pre in
     let node-at-same = c .before .before .before .before .before .node-at .ensures .same in
-    room-above-one _ _ _ _ _ _ (room-as _ _ _ _ _ (require-form _ _ _ context _ n-bound _ node-at-same _ (kind-as _ _ 20 (sym node-at-same) kind-at-is)) room) _ _ (c .before .before .before .write-body-form .ensures)) (λ c. c .before .before .put-above-one .kept .1 .1 .1 .0 ∙ c .before .before .before .before .before .before .write-body-form .kept .1 .1 .1 .1 .1 .0) (λ c. let (kind-at-is, (n-bound, (context, (_, room)))) = c .before .before .before .before .before .before .before .before .before .before .before .pre in
+    room-above-one _ _ _ _ _ _ (room-as _ _ _ _ _ (require-form _ _ _ context _ n-bound _ node-at-same _ (kind-as _ _ 20 (sym node-at-same) kind-at-is)) room) _ _ (c .before .before .before .write-body-form .ensures)) (λ c. c .before .before .put-above-one .kept .1 .1 .1 .0 ∙ c .before .before .before .before .before .before .write-body-form .kept .1 .1 .1 .1 .1 .0) (λ c. let (kind-at-is, (n-bound, (context, (_, room)))) = c .before .before .before .before .before .before .before .before .before .before .before .before .pre in
     let node-at-same = c .before .before .before .before .before .before .before .before .node-at .ensures .same in
     let write-body-form = c .before .before .before .before .before .before .write-body-form .ensures in
     let put-above-one = c .before .before .put-above-one .ensures in

@@ -1,0 +1,4 @@
+pub mod Members
+pub mod Parts
+pub mod Uses
+pub mod Columns
