@@ -1,8 +1,8 @@
 // "18. The ledger isn't well formed": a ledger after a done call.
 use file_decoded::node_room;
 use file_functions::function_start;
-use file_source::decode_source;
 use file_kinds::PARAMETER_CODES_END;
+use file_source::decode_source;
 use ledger_18_parameters::parameters_fit;
 use ledger_18_parts::put_parameters;
 use ledger_18_parts::put_variables;

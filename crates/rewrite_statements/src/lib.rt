@@ -1,7 +1,7 @@
 // The events of a function's statements, logged in their order.
 use file_bytes::function_end;
-use file_decoded::node_at;
 use file_bytes::two_bytes_at;
+use file_decoded::node_at;
 use file_kinds::ENTRY_TAKES;
 use file_kinds::FIELD_TAKES;
 use file_kinds::IF;
@@ -42,15 +42,7 @@ pub fn branch_log(
         last: 0,
     };
     let q = log_entry(log, p, entry, 1);
-    statement_log(
-        file,
-        function_at,
-        source,
-        n,
-        (variable + 1) as u16,
-        log,
-        q,
-    )
+    statement_log(file, function_at, source, n, (variable + 1) as u16, log, q)
 }
 
 // The events of statement n under a guard, behind those that the log holds.

@@ -60,16 +60,7 @@ pub fn write_circuit_form(
         PARAMETER => put_read(is_public(file, function_at, source, n), i, out, at),
         OPERATOR => write_circuit_operator(file, function_at, source, n, i, out, at, base),
         NOT => {
-            let part = write_circuit_form(
-                file,
-                function_at,
-                source,
-                node.first,
-                i,
-                out,
-                at,
-                base,
-            );
+            let part = write_circuit_form(file, function_at, source, node.first, i, out, at, base);
             put_above_one(NOT_BYTE, 0, part, out, at, base)
         }
         REVEAL => write_circuit_form(file, function_at, source, node.first, i, out, at, base),

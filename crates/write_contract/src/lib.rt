@@ -1,30 +1,94 @@
 // 01, Rewriting: a contract file checked and written into lent memory.
 use check_contract::check;
 use check_refusals::is_refused;
+use file_bytes::read_layout;
 use write_crossings::no_counts;
 use write_output::Answer;
 use write_output::hand_out;
 use write_parts::write_parts;
 ghost use mathlib.Core.Path.{_≡_};
+ghost use Prim.Native.Nat.{_≤_};
 ghost use lib.ListN.{length};
+ghost use Rattle.definitions.specs.ContractFile.{nodeCount};
 ghost use Rattle.definitions.specs.Numbers.{checkNumber};
 ghost use Rattle.definitions.specs.Crossings.{crossingsAfterWriting};
 ghost use Rattle.definitions.specs.Rewriting.{writeNumber, writtenLength, outputAfterWriting};
+ghost use Rattle.write_parts.specs.Parts.{Ready, Scratch};
 ghost use Rattle.write_output.specs.Answers.{Promised};
 
-// Both parts are made in buffers that always suffice; what is handed out is copied from them.
-fn write_accepted(file: &[u8], out: &mut [u8]) -> Answer
-    requires { ⌜ checkNumber (now file) ≡ 0 ⌝ }
+// Both parts are made in buffers that suffice for the file's nodes; what is handed out is copied from them.
+fn write_in(
+    file: &[u8],
+    log: &mut [u16],
+    scratch: &mut [u16],
+    roots: &mut [u16],
+    numbers: &mut [u16],
+    claims: &mut [u8],
+    headings: &mut [u8],
+    nodes: &mut [u8],
+    out: &mut [u8],
+) -> Answer
+    requires { ⌜ (Ready (now file) (now headings) (now nodes))
+        × (Scratch (now file) (now log) (now scratch) (now roots) (now numbers) (now claims)) ⌝ }
     ensures { λ r. ⌜ Promised (now (file .entry)) (now (out .entry)) (now (out .exit)) (r .number) (r .length)
         (r .counts .crossings) ⌝ }
 {
-    let mut headings = [0u8; 49152];
-    let mut nodes = [0u8; 49152];
-    let parts = write_parts(file, &mut headings[..], &mut nodes[..]);
+    let parts = write_parts(file, log, scratch, roots, numbers, claims, headings, nodes);
     let end = parts.extent.end;
     let count = parts.extent.nodes;
     let bytes = 8 * count;
     hand_out(&headings[..end], &nodes[..bytes], count, parts.counts, out)
+}
+
+// Most contracts are short: what they need costs less to clear.
+fn write_short(file: &[u8], out: &mut [u8]) -> Answer
+    requires { ⌜ (checkNumber (now file) ≡ 0) × (nodeCount (now file) ≤ 64) ⌝ }
+    ensures { λ r. ⌜ Promised (now (file .entry)) (now (out .entry)) (now (out .exit)) (r .number) (r .length)
+        (r .counts .crossings) ⌝ }
+{
+    let mut log = [0u16; 960];
+    let mut scratch = [0u16; 960];
+    let mut roots = [0u16; 200];
+    let mut numbers = [0u16; 768];
+    let mut claims = [0u8; 1152];
+    let mut headings = [0u8; 9172];
+    let mut nodes = [0u8; 9172];
+    write_in(
+        file,
+        &mut log[..],
+        &mut scratch[..],
+        &mut roots[..],
+        &mut numbers[..],
+        &mut claims[..],
+        &mut headings[..],
+        &mut nodes[..],
+        out,
+    )
+}
+
+fn write_long(file: &[u8], out: &mut [u8]) -> Answer
+    requires { ⌜ checkNumber (now file) ≡ 0 ⌝ }
+    ensures { λ r. ⌜ Promised (now (file .entry)) (now (out .entry)) (now (out .exit)) (r .number) (r .length)
+        (r .counts .crossings) ⌝ }
+{
+    let mut log = [0u16; 7680];
+    let mut scratch = [0u16; 7680];
+    let mut roots = [0u16; 1544];
+    let mut numbers = [0u16; 6144];
+    let mut claims = [0u8; 9216];
+    let mut headings = [0u8; 37844];
+    let mut nodes = [0u8; 37844];
+    write_in(
+        file,
+        &mut log[..],
+        &mut scratch[..],
+        &mut roots[..],
+        &mut numbers[..],
+        &mut claims[..],
+        &mut headings[..],
+        &mut nodes[..],
+        out,
+    )
 }
 
 // Wrong writers that this rules out: one that writes a byte before it refuses; one that leaves a byte behind the written file changed; one
@@ -43,5 +107,10 @@ pub fn write(file: &[u8], out: &mut [u8]) -> Answer
             counts: no_counts(),
         };
     }
-    write_accepted(file, out)
+    let layout = read_layout(file);
+    if layout.nodes <= 64 {
+        write_short(file, out)
+    } else {
+        write_long(file, out)
+    }
 }

@@ -23,8 +23,8 @@ use Rattle.write_variables.specs.Variables.{ownersFit}
 use Rattle.write_parameters.specs.Parameters.{privateCount}
 use Rattle.write_room.specs.Sizes.{bodiesSize}
 use Rattle.write_room.proofs.Functions.{private-length, rewritten-weight}
-use Rattle.write_room.proofs.Room.{nodes-suffice, room-suffices}
-use Rattle.write_function_room.specs.Functions.{functionIn, privateIn, eventsIn, headingsBefore, nodesBefore, FunctionRoom}
+use Rattle.write_room.proofs.Room.{nodes-suffice, room-suffices, room-by-nodes}
+use Rattle.write_function_room.specs.Functions.{functionIn, privateIn, eventsIn, headingsBefore, nodesBefore, mostBytes, FunctionRoom}
 use Rattle.write_function_room.proofs.Sparse.{variables-sparse}
 use Rattle.rewrite_event_owners.proofs.Files.{owners-listed}
 use Rattle.write_function_room.proofs.Owners.{owners-fit}
@@ -64,6 +64,9 @@ module _ (file : List ℕ) (accepted : checkNumber file ≡ 0) where
   pub file-fits : headingsBefore file (functionCount file) + 2 + 8 * nodesBefore file (functionCount file) ≤ 49152
   file-fits = omega (arith, room-suffices file accepted, written-length file)
 
+  pub file-fits-by-nodes : headingsBefore file (functionCount file) + 2 + 8 * nodesBefore file (functionCount file) ≤ mostBytes file
+  file-fits-by-nodes = omega (arith, room-by-nodes file accepted, written-length file, count-of-nodes file)
+
   module _ (f : ℕ) (inside : f < functionCount file) where
     abbrev start : ℕ
     start = functionStart file f
@@ -78,15 +81,21 @@ module _ (file : List ℕ) (accepted : checkNumber file ≡ 0) where
     body = statementIn (nodesIn file) (rootAt file start)
 
     -- The nodes of the body are nodes of the file.
-    body-small : statementSize body ≤ 512
-    body-small =
+    body-within-nodes : statementSize body ≤ nodeCount file
+    body-within-nodes =
         let same = ap (λ (g : Function). statementSize (g .body)) (function-in file f inside) in
         let counted = functions-count file in
         let one = body-within ((contractOf (sectionsOf file)) .functions) f (omega arith) in
-        omega (arith, nodes-suffice file accepted, count-of-nodes file, function-context .fewNodes)
+        omega (arith, nodes-suffice file accepted, count-of-nodes file)
+
+    body-small : statementSize body ≤ 512
+    body-small = omega (arith, body-within-nodes, function-context .fewNodes)
+
+    events-by-nodes : length (eventsIn file start) ≤ 3 * nodeCount file
+    events-by-nodes = omega (arith, statement-length (scopeIn file start) body always (privateIn file start), body-within-nodes)
 
     events-few : length (eventsIn file start) ≤ 1536
-    events-few = omega (arith, statement-length (scopeIn file start) body always (privateIn file start), body-small)
+    events-few = omega (arith, events-by-nodes, function-context .fewNodes)
 
     variables-few : privateIn file start + variableCount (eventsIn file start) ≤ 1024
     variables-few =
@@ -105,10 +114,13 @@ module _ (file : List ℕ) (accepted : checkNumber file ≡ 0) where
           context = function-context;
           root = function-root;
           events = events-few;
+          eventsByNodes = events-by-nodes;
           variables = variables-few;
           owners = owners-small;
           heading = omega (arith, file-fits, headings-before-step file f inside);
           nodes = omega (arith, file-fits, before-step file f inside);
+          headingByNodes = omega (arith, file-fits-by-nodes, headings-before-step file f inside);
+          nodesByNodes = omega (arith, file-fits-by-nodes, before-step file f inside);
         }
 
     pub function-room-alone : FunctionRoom file start 0 0
@@ -119,10 +131,13 @@ module _ (file : List ℕ) (accepted : checkNumber file ≡ 0) where
           context = function-context;
           root = function-root;
           events = events-few;
+          eventsByNodes = events-by-nodes;
           variables = variables-few;
           owners = owners-small;
           heading = omega (arith, body-small);
           nodes = omega (arith, body-small);
+          headingByNodes = omega (arith, body-within-nodes);
+          nodesByNodes = omega (arith, body-within-nodes);
         }
 
 -- The count that code makes of the private parameters.

@@ -37,13 +37,20 @@ headingsBefore file f = 1 + 3 * fieldCount file + 1 + length (functionsBytes 0 (
 abbrev pub nodesBefore : List ℕ → ℕ → ℕ
 nodesBefore file f = sizes (flatMap functionTrees (take f (writtenFunctions file)))
 
--- The function that begins at a place can be written: its heading from a place of 49,152 bytes on, its nodes from a number of as many
+-- As many bytes as a file of so many nodes is ever written in; 49,152 are more.
+abbrev pub mostBytes : List ℕ → ℕ
+mostBytes file = 5076 + 64 * nodeCount file
+
+-- The function that begins at a place can be written: its heading from a place of so many bytes on, its nodes from a number of as many
 -- bytes on.
 pub record FunctionRoom (file : List ℕ) (at from base : ℕ) : Type 0 where
   pub context : Known file at
   pub root : rootAt file at < nodeCount file
   pub events : length (eventsIn file at) ≤ 1536
+  pub eventsByNodes : length (eventsIn file at) ≤ 3 * nodeCount file
   pub variables : privateIn file at + variableCount (eventsIn file at) ≤ 1024
   pub owners : ownersFit (eventsIn file at)
   pub heading : from + length (functionBytes base (writtenIn file at)) ≤ 49152
   pub nodes : 8 * (base + sizes (functionTrees (writtenIn file at))) ≤ 49152
+  pub headingByNodes : from + length (functionBytes base (writtenIn file at)) ≤ mostBytes file
+  pub nodesByNodes : 8 * (base + sizes (functionTrees (writtenIn file at))) ≤ mostBytes file

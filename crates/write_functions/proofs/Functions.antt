@@ -25,7 +25,7 @@ use Rattle.write_nodes.specs.Numbering.{treeBytes, Numbered}
 use Rattle.write_nodes.proofs.TreeNodes.{nodes-append, run-then}
 use Rattle.write_trees.proofs.Functions.{numbered-append, all-length}
 use Rattle.write_bodies.specs.Bodies.{BodyReady}
-use Rattle.write_function_room.specs.Functions.{writtenIn, eventsIn}
+use Rattle.write_function_room.specs.Functions.{writtenIn, eventsIn, mostBytes}
 use Rattle.write_functions.specs.declared.Parts.{Parts}
 use Rattle.write_functions.specs.Writing.{circuitsIn, CircuitsReady, CircuitsWritten, HeadingReady, FunctionReady, FunctionWritten}
 use Rattle.write_functions.proofs.Written.{constraints-few, constraints-counted, trees-are, trees-counted}
@@ -51,6 +51,9 @@ module _ (file : List ℕ) (at : ℕ) (source : List ℕ) (log scratch roots num
     pub nodes-few : 8 * (base + parts .nodes) + 8 * size (commandTree ((writtenIn file at) .body)) ≤ 49152
     nodes-few = omega (arith, ready .room .nodes, trees-counted file at, written .nodes)
 
+    nodes-fit : 8 * (base + parts .nodes) + 8 * size (commandTree ((writtenIn file at) .body)) ≤ mostBytes file
+    nodes-fit = omega (arith, ready .room .nodesByNodes, trees-counted file at, written .nodes)
+
     pub constraints-fit : parts .private + parts .claims ≤ 65535
     constraints-fit =
         omega (arith, written .told .private, written .told .claims, constraints-few (scopeIn file at) (eventsIn file at), ready .room .events, ready .room .variables)
@@ -69,13 +72,14 @@ module _ (file : List ℕ) (at : ℕ) (source : List ℕ) (log scratch roots num
     kept : length between ≡ length nodes
     kept =
         let long = trees-length (circuitsIn file at) base in
-        let few = nodes-few in
+        let few = nodes-fit in
         ap length (written .contents) ∙ stored-length nodes (8 * base) (flatMap nodeBytes (numberedAll base (circuitsIn file at))) (omega (arith, ready .nodeSpace, written .nodes))
 
     pub body-ready : (verified : Bool) → verified ≡ ltb 0 (parts .private + parts .claims)
         → BodyReady file at source (parts .private) verified scratch roots between (8 * (base + parts .nodes)) (base + parts .nodes)
     body-ready verified test =
         let few = nodes-few in
+        let fit = nodes-fit in
         let same = kept in
         let counted : parts .private + parts .claims ≡ length ((writtenIn file at) .constraints) =
         omega (arith, constraints-counted file at, written .told .private, written .told .claims) in
@@ -84,8 +88,8 @@ module _ (file : List ℕ) (at : ℕ) (source : List ℕ) (log scratch roots num
           root = ready .room .root;
           privateIs = written .told .private;
           verifies = test ∙ ap (ltb 0) counted;
-          space = omega (arith, ready .room .events, ready .scratchSpace);
-          steps = omega (arith, ready .room .events, ready .rootSpace);
+          space = omega (arith, ready .room .eventsByNodes, ready .scratchSpace);
+          steps = omega (arith, ready .room .eventsByNodes, ready .rootSpace);
           few = omega (arith, ready .room .variables);
           room = record { bytes = omega (arith, ready .nodeSpace); numbers = omega arith };
         }
@@ -105,7 +109,7 @@ module _ (file : List ℕ) (at : ℕ) (source : List ℕ) (log scratch roots num
           let circuits = circuitsIn file at in
           let tree = commandTree ((writtenIn file at) .body) in
           let long = trees-length circuits base in
-          let few = nodes-few in
+          let few = nodes-fit in
           let later : after ≡ stored between (8 * (base + sizes circuits)) (treeBytes (base + sizes circuits) tree) = rw (written .nodes) at (put .contents) in
           run-then nodes between after (flatMap nodeBytes (numberedAll base circuits)) (treeBytes (base + sizes circuits) tree) (8 * base) (8 * (base + sizes circuits)) (written .contents) later
           (omega arith) (omega (arith, ready .nodeSpace, written .nodes))

@@ -4,7 +4,7 @@ use mathlib.Core.List.{List}
 use Prim.Native.Nat.{ℕ, _+_, _*_, _-_, _≤_}
 use native.Mathlib.Omega.{arith}
 use lib.ListN.{length, take}
-use Rattle.definitions.specs.ContractFile.{byteAt}
+use Rattle.definitions.specs.ContractFile.{byteAt, nodeCount}
 use Rattle.definitions.specs.Rewriting.{sizes, commandTree, functionTrees, constraintBytes, functionBytes}
 use Rattle.theory_trees.specs.Trees.{statementIn}
 use Rattle.memory_append.specs.Append.{Appended}
@@ -36,8 +36,8 @@ heading-parts file at base log entries fit =
 
 module _ (file : List ℕ) (at : ℕ) (log numbers claims headings : List ℕ) (from : ℕ) (parts : Parts) (base total : ℕ)
     (ready : HeadingReady file at log numbers claims headings from parts base total) where
-  claims-few : parts .claims ≤ 1536
-  claims-few = omega (arith, ready .told .claims, constraints-few (scopeIn file at) (eventsIn file at), ready .room .events)
+  claims-few : parts .claims ≤ 3 * nodeCount file
+  claims-few = omega (arith, ready .told .claims, constraints-few (scopeIn file at) (eventsIn file at), ready .room .eventsByNodes)
 
   pub claims-asked : (4 * parts .claims ≤ length numbers) × (0 + 6 * parts .claims ≤ length claims)
   claims-asked = (ready .told .fours, omega (arith, claims-few, ready .claimSpace))
@@ -67,7 +67,7 @@ module _ (file : List ℕ) (at : ℕ) (log numbers claims headings : List ℕ) (
           near = ready .room .context .nearFunction;
           variables = omega (arith, ready .told .made, ready .room .variables);
           constraints = omega (arith, ready .room .variables, ready .room .events);
-          bytes = omega (arith, ready .room .heading, ready .headingSpace);
+          bytes = omega (arith, ready .room .headingByNodes, ready .headingSpace);
         }
 
     pub heading-written : (after : List ℕ) (end : ℕ)

@@ -57,7 +57,7 @@ module _ (file : List ℕ) (at : ℕ) (source : List ℕ) (log numbers out : Lis
       record {
         inside = ready .room .root;
         context = ready-context;
-        room = record { space = omega (arith, ready .room .events, ready .logSpace); few = omega (arith, ready .room .variables) };
+        room = record { space = omega (arith, ready .room .eventsByNodes, ready .logSpace); few = omega (arith, ready .room .variables) };
       }
 
   module _ (logAfter : List ℕ) (end : Position) (logged : Logged (nodesIn file) log logAfter (startingAt private) end (statementOf file at 0 (rootAt file at) private)) where
@@ -79,7 +79,7 @@ module _ (file : List ℕ) (at : ℕ) (source : List ℕ) (log numbers out : Lis
     log-kept : length logAfter ≡ length log
     log-kept =
         let long = entries-length (nodesIn file) (eventsIn file at) (logged .numbers) entries in
-        ap length (logged .held) ∙ stored-length log 0 (logged .numbers) (omega (arith, ready .room .events, ready .logSpace))
+        ap length (logged .held) ∙ stored-length log 0 (logged .numbers) (omega (arith, ready .room .eventsByNodes, ready .logSpace))
 
     trees-logged : treesOf (claimsIn file at logAfter 0 (length (eventsIn file at))) ≡ circuitsIn file at
     trees-logged = circuits-logged (scopeIn file at) (nodesIn file) logAfter (eventsIn file at) (logged .numbers) entries 0 holds
@@ -103,9 +103,9 @@ module _ (file : List ℕ) (at : ℕ) (source : List ℕ) (log numbers out : Lis
           claimable file at (nodes-counted file) logAfter (eventsIn file at) (logged .numbers) entries 0 holds
               (claims-few (scopeIn file at) (statementEvents (scopeIn file at) (statementIn (nodesIn file) (rootAt file at)) always) (privateIn file at) within few),
           record {
-            bytes = omega (arith, ready .room .nodes, ready .nodeSpace);
+            bytes = omega (arith, ready .room .nodesByNodes, ready .nodeSpace);
             numbers = omega (arith, ready .room .nodes);
-            space = omega (arith, ready .room .events, ready .numberSpace);
+            space = omega (arith, ready .room .eventsByNodes, ready .numberSpace);
           },
         )
 
@@ -141,10 +141,10 @@ module _ (file : List ℕ) (at : ℕ) (source : List ℕ) (log numbers out : Lis
             told = record {
               private = opened;
               made = omega (arith, logged .variable);
-              logged = omega (arith, ready .room .events, ready .logSpace);
+              logged = omega (arith, ready .room .eventsByNodes, ready .logSpace);
               entries = subst (Entries (nodesIn file) (eventsIn file at)) (sym front) entries;
               claims = count-is;
-              fours = omega (arith, count-is, ready .room .events, ready .numberSpace);
+              fours = omega (arith, count-is, ready .room .eventsByNodes, ready .numberSpace);
               bytes = bytes-are;
             };
             contents = put-all .contents ∙ ap (λ (ts : List Tree). stored out (8 * base) (flatMap nodeBytes (numberedAll base ts))) trees-logged;

@@ -4,7 +4,7 @@ use mathlib.Core.List.{List}
 use Prim.Native.Nat.{ℕ, _+_, _*_, _≤_}
 use lib.ListN.{length, take}
 use Rattle.definitions.specs.Basics.{flatMap}
-use Rattle.definitions.specs.ContractFile.{nodesAt}
+use Rattle.definitions.specs.ContractFile.{nodeCount}
 use Rattle.definitions.specs.Rewriting.{Constraint, Tree, claimTrees, functionTrees, sizes, numberedAll, nodeBytes, constraintBytes}
 use Rattle.definitions.specs.Rewriting.{functionBytes}
 use Rattle.theory_crossings.specs.Crossings.{crossings}
@@ -13,7 +13,7 @@ use Rattle.file_accepted.specs.Context.{nodesIn, scopeIn, Source}
 use Rattle.rewrite_events.specs.Events.{variableCount, constraintsOf}
 use Rattle.rewrite_log.specs.Entries.{Entries}
 use Rattle.write_circuits.specs.Circuits.{sixesFrom}
-use Rattle.write_function_room.specs.Functions.{writtenIn, privateIn, eventsIn, FunctionRoom}
+use Rattle.write_function_room.specs.Functions.{writtenIn, privateIn, eventsIn, mostBytes, FunctionRoom}
 use Rattle.write_functions.specs.declared.Parts.{Parts}
 use Rattle.write_functions.specs.declared.Finished.{Finished}
 
@@ -38,9 +38,9 @@ pub record CircuitsReady (file : List ℕ) (at : ℕ) (source : List ℕ) (log n
   pub from : ℕ
   pub room : FunctionRoom file at from base
   pub held : Source file source
-  pub logSpace : 7680 ≤ length log
-  pub numberSpace : 6144 ≤ length numbers
-  pub nodeSpace : 49152 ≤ length out
+  pub logSpace : 15 * nodeCount file ≤ length log
+  pub numberSpace : 12 * nodeCount file ≤ length numbers
+  pub nodeSpace : mostBytes file ≤ length out
 
 pub record CircuitsWritten (file : List ℕ) (at : ℕ) (log numbers out after : List ℕ) (base : ℕ) (r : Parts) : Type 0 where
   pub told : Told file at base log numbers r
@@ -52,20 +52,20 @@ pub record HeadingReady (file : List ℕ) (at : ℕ) (log numbers claims heading
   pub room : FunctionRoom file at from base
   pub told : Told file at base log numbers parts
   pub whole : total ≡ sizes (functionTrees (writtenIn file at))
-  pub claimSpace : 9216 ≤ length claims
-  pub headingSpace : 49152 ≤ length headings
+  pub claimSpace : 18 * nodeCount file ≤ length claims
+  pub headingSpace : mostBytes file ≤ length headings
 
 pub record FunctionReady (file : List ℕ) (at : ℕ) (source : List ℕ) (log scratch roots numbers claims headings : List ℕ) (from : ℕ)
     (nodes : List ℕ) (base : ℕ) : Type 0 where
   pub room : FunctionRoom file at from base
   pub held : Source file source
-  pub logSpace : 7680 ≤ length log
-  pub scratchSpace : 7680 ≤ length scratch
-  pub rootSpace : 1544 ≤ length roots
-  pub numberSpace : 6144 ≤ length numbers
-  pub claimSpace : 9216 ≤ length claims
-  pub headingSpace : 49152 ≤ length headings
-  pub nodeSpace : 49152 ≤ length nodes
+  pub logSpace : 15 * nodeCount file ≤ length log
+  pub scratchSpace : 15 * nodeCount file ≤ length scratch
+  pub rootSpace : 3 * nodeCount file + 8 ≤ length roots
+  pub numberSpace : 12 * nodeCount file ≤ length numbers
+  pub claimSpace : 18 * nodeCount file ≤ length claims
+  pub headingSpace : mostBytes file ≤ length headings
+  pub nodeSpace : mostBytes file ≤ length nodes
 
 pub record FunctionWritten (file : List ℕ) (at : ℕ) (headings headingsAfter : List ℕ) (from : ℕ) (nodes nodesAfter : List ℕ)
     (base : ℕ) (r : Finished) : Type 0 where

@@ -4,7 +4,7 @@ use mathlib.Core.List.{List, _∷_, _++_, map}
 use Prim.Native.Nat.{ℕ, _+_, _*_, _≤_}
 use lib.ListN.{length, take}
 use Rattle.definitions.specs.Basics.{flatMap}
-use Rattle.definitions.specs.ContractFile.{fieldCount, functionCount, nodesAt}
+use Rattle.definitions.specs.ContractFile.{fieldCount, functionCount, nodeCount}
 use Rattle.definitions.specs.Numbers.{checkNumber}
 use Rattle.definitions.specs.Crossings.{sixteen}
 use Rattle.definitions.specs.Rewriting.{functionTrees, numberedAll, nodeBytes, functionsBytes}
@@ -12,7 +12,7 @@ use Rattle.theory_crossings.specs.Crossings.{crossings}
 use Rattle.file_accepted.specs.Functions.{functionStart}
 use Rattle.memory_buffer.specs.Buffer.{stored}
 use Rattle.write_fields.specs.Fields.{fieldSection}
-use Rattle.write_function_room.specs.Functions.{writtenFunctions, headingsBefore, nodesBefore}
+use Rattle.write_function_room.specs.Functions.{writtenFunctions, headingsBefore, nodesBefore, mostBytes}
 use Rattle.file_accepted.specs.Context.{Source}
 
 -- The headings and the nodes of the first f functions.
@@ -35,8 +35,8 @@ nodePart file = nodesOf file (functionCount file)
 -- An accepted file, and room for all that can be written of one.
 pub record Ready (file headings nodes : List ℕ) : Type 0 where
   pub accepted : checkNumber file ≡ 0
-  pub headingSpace : 49152 ≤ length headings
-  pub nodeSpace : 49152 ≤ length nodes
+  pub headingSpace : mostBytes file ≤ length headings
+  pub nodeSpace : mostBytes file ≤ length nodes
 
 -- The first f functions stand in the buffers; the next one begins where they end.
 pub record FunctionsPut (file : List ℕ) (f from : ℕ) (h₀ h n₀ n : List ℕ) (at base : ℕ) (counts : List ℕ) : Type 0 where
@@ -62,10 +62,10 @@ pub record FunctionsReady (file : List ℕ) (first count : ℕ) (source : List �
   pub held : Source file source
   pub behindFields : from ≡ 1 + 3 * fieldCount file + 1
 
--- Space that the writing of a function uses.
-pub record Scratch (log scratch roots numbers claims : List ℕ) : Type 0 where
-  pub logSpace : 7680 ≤ length log
-  pub scratchSpace : 7680 ≤ length scratch
-  pub rootSpace : 1544 ≤ length roots
-  pub numberSpace : 6144 ≤ length numbers
-  pub claimSpace : 9216 ≤ length claims
+-- Space that the writing of a function uses, by the file's nodes.
+pub record Scratch (file log scratch roots numbers claims : List ℕ) : Type 0 where
+  pub logSpace : 15 * nodeCount file ≤ length log
+  pub scratchSpace : 15 * nodeCount file ≤ length scratch
+  pub rootSpace : 3 * nodeCount file + 8 ≤ length roots
+  pub numberSpace : 12 * nodeCount file ≤ length numbers
+  pub claimSpace : 18 * nodeCount file ≤ length claims

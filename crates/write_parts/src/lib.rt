@@ -36,7 +36,7 @@ fn write_functions(
     nodes: &mut [u8],
 ) -> Functions
     requires { ⌜ (FunctionsReady (now file) first count (now source) from (now headings) (now nodes))
-        × (Scratch (now log) (now scratch) (now roots) (now numbers) (now claims)) ⌝ }
+        × (Scratch (now file) (now log) (now scratch) (now roots) (now numbers) (now claims)) ⌝ }
     ensures { λ r. ⌜ FunctionsPut (now (file .entry)) (functionCount (now (file .entry))) from
         (now (headings .entry)) (now (headings .exit)) (now (nodes .entry)) (now (nodes .exit))
         (r .extent .end) (r .extent .nodes) (r .counts .crossings) ⌝ }
@@ -74,9 +74,19 @@ fn write_functions(
     }
 }
 
-// The whole file: fields, count of functions, functions.
-pub fn write_parts(file: &[u8], headings: &mut [u8], nodes: &mut [u8]) -> Functions
-    requires { ⌜ Ready (now file) (now headings) (now nodes) ⌝ }
+// The whole file: fields, count of functions, functions. The first five buffers are scratch space.
+pub fn write_parts(
+    file: &[u8],
+    log: &mut [u16],
+    scratch: &mut [u16],
+    roots: &mut [u16],
+    numbers: &mut [u16],
+    claims: &mut [u8],
+    headings: &mut [u8],
+    nodes: &mut [u8],
+) -> Functions
+    requires { ⌜ (Ready (now file) (now headings) (now nodes))
+        × (Scratch (now file) (now log) (now scratch) (now roots) (now numbers) (now claims)) ⌝ }
     ensures { λ r. ⌜ PartsPut (now (file .entry)) (now (headings .entry)) (now (headings .exit))
         (now (nodes .entry)) (now (nodes .exit)) (r .extent .end) (r .extent .nodes) (r .counts .crossings) ⌝ }
 {
@@ -85,21 +95,16 @@ pub fn write_parts(file: &[u8], headings: &mut [u8], nodes: &mut [u8]) -> Functi
     let from = append_byte(layout.functions as u8, headings, fields);
     let mut room = node_room();
     let count = decode_source(file, &mut room[..]);
-    let mut log = [0u16; 7680];
-    let mut scratch = [0u16; 7680];
-    let mut roots = [0u16; 1544];
-    let mut numbers = [0u16; 6144];
-    let mut claims = [0u8; 9216];
     write_functions(
         file,
         layout.functions_at + 1,
         layout.functions,
         &room[..count],
-        &mut log[..],
-        &mut scratch[..],
-        &mut roots[..],
-        &mut numbers[..],
-        &mut claims[..],
+        log,
+        scratch,
+        roots,
+        numbers,
+        claims,
         headings,
         from,
         nodes,

@@ -2,7 +2,7 @@
 use mathlib.Core.Path.{_≡_, refl, ap}
 use mathlib.Core.Bool.{cond}
 use mathlib.Core.List.{List, [], _∷_, map}
-use Prim.Native.Nat.{ℕ, zero, suc, _≤_}
+use Prim.Native.Nat.{ℕ, zero, suc, _+_, _*_, _≤_}
 use borrow.Author.Tests.{le-ltb}
 use native.Mathlib.Omega.{arith}
 use lib.Dec.{ltb}
@@ -36,9 +36,10 @@ nodes-suffice file accepted =
     let covered = trees-covered nodes falling roots (rw m (roots-inside file accepted)) (λ n l. used-once file accepted n (omega arith)) in
     omega arith
 
-pub room-suffices : (file : List ℕ) → checkNumber file ≡ 0 → length (writtenFile file) ≤ 49152
+-- 64 bytes for each node, and 5,076 for all fields and the functions' own.
+pub room-by-nodes : (file : List ℕ) → checkNumber file ≡ 0 → length (writtenFile file) ≤ 5076 + 64 * length ((sectionsOf file) .nodes)
 unfolding writtenFile contractOf
-room-suffices file accepted =
+room-by-nodes file accepted =
     let s = sectionsOf file in
     let nodes = map nodeOf (s .nodes) in
     let few = counts file accepted in
@@ -47,6 +48,9 @@ room-suffices file accepted =
     let f = length-map (s .fields) fieldOf in
     let g = length-map (s .functions) (functionOf nodes) in
     omega arith
+
+pub room-suffices : (file : List ℕ) → checkNumber file ≡ 0 → length (writtenFile file) ≤ 49152
+room-suffices file accepted = omega (arith, room-by-nodes file accepted, counts file accepted .nodes)
 
 -- So number 16 is never given in that room: the number of writing is the file's own.
 pub room-is-never-short : (file : List ℕ) → writeNumber file 49152 ≡ checkNumber file

@@ -27,6 +27,7 @@ decode-nodes-spec =
     let decoded = called .decode-node .ensures in
     (nodes-more (args .file .now) (args .from) (loop .n) _ _ so decoded, omega arith, decoded .kept .long ∙ long))
     (λ c. search needs)
-    (λ c. let loop = c .before .loop in let args = c .before .before .before .before .args in let (so, _, long) = loop .inv in
-    ((ap (λ (k : ℕ). nodesFrom (k / 5) (loop .nodes) 0) long ∙ nodes-done (args .file .now) (args .from) (loop .n) (length (args .nodes .now) / 5) (loop .nodes) (omega arith) so, long),
-    nodes-narrow (args .file .now) (args .from) (loop .n) (loop .nodes) (omega arith) so)))
+    (λ c. let loop = c .before .loop in let args = c .before .before .before .before .args in let (so, _, long) = loop .inv in (
+      (ap (λ (k : ℕ). nodesFrom (k / 5) (loop .nodes) 0) long ∙ nodes-done (args .file .now) (args .from) (loop .n) (length (args .nodes .now) / 5) (loop .nodes) (omega arith) so, long),
+      nodes-narrow (args .file .now) (args .from) (loop .n) (loop .nodes) (omega arith) so,
+    )))

@@ -20,6 +20,7 @@ decode-source-spec =
     (λ c. let start = c .before .before .before .before .before .before .before .before .before in
     let layout = c .before .before .before .before .before .before .read-layout .ensures in
     let decoded = c .before .before .decode-nodes .ensures in
-    let long = length-take-le _ (start .args .room .now) (nodes-fit _ (start .pre .0) _ layout (start .args .room .now) (start .pre .1)) in
-    (source-put _ (start .pre .0) _ layout _ _ _ long (decoded .0 .1) (decoded .1) (decoded .0 .0),
-    front-long _ (start .pre .0) _ layout (c .before .before .decode-nodes .last .1 .1 .0) (start .args .room .now) (start .pre .1) (decoded .0 .1))))
+    let long = length-take-le _ (start .args .room .now) (nodes-fit _ (start .pre .0) _ layout (start .args .room .now) (start .pre .1)) in (
+      source-put _ (start .pre .0) _ layout _ _ _ long (decoded .0 .1) (decoded .1) (decoded .0 .0),
+      front-long _ (start .pre .0) _ layout (c .before .before .decode-nodes .last .1 .1 .0) (start .args .room .now) (start .pre .1) (decoded .0 .1),
+    )))

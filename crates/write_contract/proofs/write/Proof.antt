@@ -16,6 +16,9 @@ write-spec =
     (λ c. let tested = c .before in
     let some = refuses (tested .before .before .check .result) _ (tested .before .is-refused .ensures) (tested .if1 .taken) in
     refused (tested .before .before .before .before .before .args .file .now) _ _ _ (tested .before .before .check .ensures) (omega (arith, some)) (c .no-counts .ensures))
-    (λ c κs. sym (c .before .before .before .check .ensures) ∙ accepts _ _ (c .before .before .is-refused .ensures) (c .before .if1 .left))
-    (λ c. search needs)
-    (λ c. search needs))
+    (λ c κs. search needs)
+    (λ c κs. let layout = c .before .before .before .read-layout .ensures in let accepted = c .before .before .before .before in
+    (sym (accepted .before .before .check .ensures) ∙ accepts _ _ (accepted .before .is-refused .ensures) (accepted .if1 .left), omega (arith, layout .nodes)))
+    (λ c κs. let accepted = c .before .before .before .before in
+    sym (accepted .before .before .check .ensures) ∙ accepts _ _ (accepted .before .is-refused .ensures) (accepted .if1 .left))
+    (λ c. search needs) (λ c. search needs) (λ c. search needs) (λ c. search needs))

@@ -12,20 +12,19 @@ pub write-parts-spec : {M : Type 1} → statement M
 write-parts-spec =
     tie.close (tie.spec
     (λ c κs. search needs)
-    (λ c κs. let start = c .before .before .before .before .before in let args-file = start .args .file .now in let pre = start .pre in
+    (λ c κs. let start = c .before .before .before .before .before .before .before .before .before .before in let args-file = start .args .file .now in let pre = start .pre .0 in
     let l = accepted-fields args-file (pre .accepted) in (l, omega (arith, l .few, pre .headingSpace)))
     (λ c. search needs)
-    (λ c κs. let start = c .before .before .before .before .before .before .before .before .before .before in let args-file = start .args .file .now in
-    let pre = start .pre in let append-field-section = c .before .before .before .before .append-field-section .ensures in
+    (λ c κs. let start = c .before .before .before .before .before .before .before .before .before .before .before .before .before .before .before in let args-file = start .args .file .now in
+    let pre = start .pre .0 in let append-field-section = c .before .before .before .before .append-field-section .ensures in
     let l = accepted-fields args-file (pre .accepted) in let p = append-field-section .place in let n = section-length args-file in let long = appended-length _ _ _ _ _ append-field-section (omega (arith, l .few, pre .headingSpace)) in omega (arith, l .few, pre .headingSpace))
     (λ c κs. search needs)
     (λ c. search needs)
     (λ c κs. search needs)
     (λ c. search needs) (λ c. search needs)
     (λ c. search needs)
-    (λ c. search needs) (λ c. search needs) (λ c. search needs) (λ c. search needs) (λ c. search needs)
-    (λ c κs. let start = c .before .before .before .before .before .before .before .before .before .before .before .before .before .before .before .before .before .before .before .before .before .before .before .before .before .before in
-    let args-file = start .args .file .now in let pre = start .pre in
+    (λ c κs. let start = c .before .before .before .before .before .before .before .before .before .before .before .before .before .before .before .before .before .before .before .before .before .before .before .before .before .before .before .before .before .before .before in
+    let args-file = start .args .file .now in let pre = start .pre .0 in
     let read-layout = c .before .before .before .before .before .before .before .before .before .before .before .before .before .before .before .before .before .before .before .before .before .before .read-layout .ensures in
     let append-field-section = c .before .before .before .before .before .before .before .before .before .before .before .before .before .before .before .before .before .before .before .before .append-field-section .ensures in
     let append-byte = c .before .before .before .before .before .before .before .before .before .before .before .before .before .before .before .append-byte .ensures in
@@ -45,13 +44,15 @@ write-parts-spec =
         held = c .before .before .before .before .before .before .before .before .before .before .decode-source .ensures .0;
         behindFields = omega arith;
       },
-      record { logSpace = search needs; scratchSpace = search needs; rootSpace = search needs; numberSpace = search needs; claimSpace = search needs },
+      start .pre .1,
     ))
-    (λ c. omega (arith, c .before .before .before .before .before .before .before .before .before .write-functions .kept, c .before .before .before .before .before .before .before .before .before .before .before .before .before .before .before .before .before .before .before .before .before .before .before .before .before .append-byte .kept, c .before .before .before .before .before .before .before .before .before .before .before .before .before .before .before .before .before .before .before .before .before .before .before .before .before .before .before .before .before .before .append-field-section .kept)) (λ c. search needs)
-    (λ c. let start = c .before .before .before .before .before .before .before .before .before .before .before .before .before .before .before .before .before .before .before .before .before .before .before .before .before .before .before .before .before .before .before .before .before .before .before .before in
-    let args-file = start .args .file .now in let pre = start .pre in
-    let read-layout-functions = c .before .before .before .before .before .before .before .before .before .before .before .before .before .before .before .before .before .before .before .before .before .before .before .before .before .before .before .before .before .before .before .before .read-layout .ensures .functions in
-    let append-field-section = c .before .before .before .before .before .before .before .before .before .before .before .before .before .before .before .before .before .before .before .before .before .before .before .before .before .before .before .before .before .before .append-field-section .ensures in
-    let append-byte = c .before .before .before .before .before .before .before .before .before .before .before .before .before .before .before .before .before .before .before .before .before .before .before .before .before .append-byte .ensures in
-    let write-functions = c .before .before .before .before .before .before .before .before .before .write-functions .ensures in
+    (λ c. c .before .before .before .before .before .before .before .before .before .before .before .before .before .before .write-functions .kept .1 .1 .1 .1 .0) (λ c. search needs) (λ c. search needs) (λ c. search needs) (λ c. search needs)
+    (λ c. omega (arith, c .before .before .before .before .before .before .before .before .before .before .before .before .before .before .write-functions .kept, c .before .before .before .before .before .before .before .before .before .before .before .before .before .before .before .before .before .before .before .before .before .before .before .before .before .before .before .before .before .before .append-byte .kept, c .before .before .before .before .before .before .before .before .before .before .before .before .before .before .before .before .before .before .before .before .before .before .before .before .before .before .before .before .before .before .before .before .before .before .before .append-field-section .kept))
+    (λ c. search needs)
+    (λ c. let start = c .before .before .before .before .before .before .before .before .before .before .before .before .before .before .before .before .before .before .before .before .before .before .before .before .before .before .before .before .before .before .before .before .before .before .before .before .before .before .before .before .before .before .before .before .before .before in
+    let args-file = start .args .file .now in let pre = start .pre .0 in
+    let read-layout-functions = c .before .before .before .before .before .before .before .before .before .before .before .before .before .before .before .before .before .before .before .before .before .before .before .before .before .before .before .before .before .before .before .before .before .before .before .before .before .read-layout .ensures .functions in
+    let append-field-section = c .before .before .before .before .before .before .before .before .before .before .before .before .before .before .before .before .before .before .before .before .before .before .before .before .before .before .before .before .before .before .before .before .before .before .before .append-field-section .ensures in
+    let append-byte = c .before .before .before .before .before .before .before .before .before .before .before .before .before .before .before .before .before .before .before .before .before .before .before .before .before .before .before .before .before .before .append-byte .ensures in
+    let write-functions = c .before .before .before .before .before .before .before .before .before .before .before .before .before .before .write-functions .ensures in
     parts-put args-file _ _ _ _ _ _ _ _ _ _ _ _ (pre .headingSpace) (accepted-fields args-file (pre .accepted) .few) read-layout-functions append-field-section append-byte write-functions))
