@@ -57,8 +57,42 @@ fn call_addresses(
     );
 }
 
-// The memory that a walk needs is made here.
-fn walk_called(
+// The memory that a walk needs is made here; that for a contract of at most 64 nodes costs less to clear.
+fn walk_short(
+    file: &[u8],
+    function_at: usize,
+    source: &[u16],
+    addresses: &[u32],
+    parameters: &[u32],
+    places: &mut [u32],
+    variables: &mut [u32],
+) -> bool
+    requires { ⌜ (Source (now file) (now source)) × (FunctionRoom (now file) «function_at» 0 0) × (length (now source) ≤ 320) ⌝ }
+    ensures { λ r. ⌜ Walked (now (file .entry)) «function_at» (now (addresses .entry)) (now (parameters .entry))
+        (stateOf (now (places .entry)) (now (variables .entry))) (stateOf (now (places .exit)) (now (variables .exit))) r ⌝ }
+{
+    let mut log = [0u16; 960];
+    let mut numbers = [0u16; 800];
+    let mut scratch = [0u16; 960];
+    let mut roots = [0u16; 200];
+    let mut nodes = [0u8; 9172];
+    walk_function(
+        file,
+        function_at,
+        source,
+        addresses,
+        &mut log[..],
+        &mut numbers[..],
+        &mut scratch[..],
+        &mut roots[..],
+        &mut nodes[..],
+        parameters,
+        places,
+        variables,
+    )
+}
+
+fn walk_long(
     file: &[u8],
     function_at: usize,
     source: &[u16],
@@ -75,7 +109,7 @@ fn walk_called(
     let mut numbers = [0u16; 6176];
     let mut scratch = [0u16; 7680];
     let mut roots = [0u16; 1544];
-    let mut nodes = [0u8; 49152];
+    let mut nodes = [0u8; 37844];
     walk_function(
         file,
         function_at,
@@ -90,6 +124,42 @@ fn walk_called(
         places,
         variables,
     )
+}
+
+fn walk_called(
+    file: &[u8],
+    function_at: usize,
+    source: &[u16],
+    addresses: &[u32],
+    parameters: &[u32],
+    places: &mut [u32],
+    variables: &mut [u32],
+) -> bool
+    requires { ⌜ (Source (now file) (now source)) × (FunctionRoom (now file) «function_at» 0 0) ⌝ }
+    ensures { λ r. ⌜ Walked (now (file .entry)) «function_at» (now (addresses .entry)) (now (parameters .entry))
+        (stateOf (now (places .entry)) (now (variables .entry))) (stateOf (now (places .exit)) (now (variables .exit))) r ⌝ }
+{
+    if source.len() <= 320 {
+        walk_short(
+            file,
+            function_at,
+            source,
+            addresses,
+            parameters,
+            places,
+            variables,
+        )
+    } else {
+        walk_long(
+            file,
+            function_at,
+            source,
+            addresses,
+            parameters,
+            places,
+            variables,
+        )
+    }
 }
 
 // What a failed call shows: its public parameters.

@@ -14,7 +14,7 @@ use Rattle.definitions.specs.Ledger.{callNumber}
 use Rattle.definitions.specs.View.{disclosedOn, disclosedNumber, disclosedLength, outputAfterDisclosing}
 use Rattle.memory_buffer.proofs.Storing.{front-stored}
 use Rattle.memory_append.specs.Append.{Appended}
-use Rattle.disclose_output.specs.declared.Answer.{Answer}
+use Rattle.memory_answer.specs.declared.Answer.{Answer}
 use Rattle.disclose_output.specs.Handing.{HandedOver}
 use Rattle.disclose_output.proofs.Refusals.{refused-first}
 use Rattle.disclose_call.specs.Disclosed.{DisclosedTo}

@@ -11,7 +11,7 @@ use Rattle.definitions.specs.View.{disclosedNumber, disclosedLength, outputAfte
 use Rattle.theory_trees.specs.Trees.{statementIn}
 use Rattle.file_accepted.specs.Context.{Known, nodesIn, fieldsIn, scopeIn}
 use Rattle.file_accepted.specs.Functions.{rootAt}
-use Rattle.disclose_output.specs.declared.Answer.{Answer}
+use Rattle.memory_answer.specs.declared.Answer.{Answer}
 
 -- What the body of the function that begins at a place discloses, where the places hold these numbers.
 unfoldable pub bodyDiscloses : List ℕ → ℕ → ℕ → List ℕ → List ℕ → ℕ → List ℕ

@@ -9,7 +9,7 @@ use lib.ListN.{length, getD, set, take, drop}
 use Rattle.memory_buffer.specs.Buffer.{stored}
 use Rattle.memory_buffer.proofs.Storing.{stored-one}
 use Rattle.memory_append.proofs.Appending.{copied-next}
-use Rattle.disclose_output.specs.declared.Answer.{Answer}
+use Rattle.memory_answer.specs.declared.Answer.{Answer}
 use Rattle.disclose_output.specs.Handing.{HandedOver}
 
 front : (held values : List ℕ) → stored held 0 values ≡ values ++ drop (length values) held

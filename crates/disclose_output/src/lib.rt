@@ -1,5 +1,6 @@
 // 01, Runs and views: number 21 of a request for a call's disclosures, "its party is above 15, or its output is too short", behind the
 // call's own number; the disclosed values handed over where they fit.
+use memory_answer::Answer;
 ghost use mathlib.Core.Path.{_≡_};
 ghost use mathlib.Core.List.{[], _∷_};
 ghost use Prim.Native.Nat.{_≤_};
@@ -9,12 +10,6 @@ ghost use Rattle.definitions.specs.Basics.{firstThatHolds};
 ghost use Rattle.definitions.specs.Numbers.{orElse};
 ghost use Rattle.memory_buffer.specs.Buffer.{stored};
 ghost use Rattle.disclose_output.specs.Handing.{HandedOver};
-
-// A number, 0 where the values were handed over, and how many they are.
-pub struct Answer {
-    pub number: u8,
-    pub length: usize,
-}
 
 // What refuses before anything is worked out: the call's own number, then that of a party that is none.
 pub fn refusal(number: u8, party: u8) -> u8

@@ -21,23 +21,20 @@ module _ (file : List ℕ) (accepted : checkNumber file ≡ 0) (l : Layout) (is 
   pub nodes-few : 5 * l .nodes ≤ 2560
   nodes-few = omega (arith, is .nodes, few-nodes file (accepted-settled file accepted .counts))
 
-  pub nodes-fit : (room : List ℕ) → 2560 ≤ length room → 5 * l .nodes ≤ length room
-  nodes-fit room big = omega (arith, nodes-few)
-
   -- The front of the room is as long as the nodes.
   pub front-long : (part room : List ℕ) → 2560 ≤ length room → length part ≡ length (take (5 * l .nodes) room)
       → (5 * l .nodes ≤ length (part ++ drop (5 * l .nodes) room)) × (5 * l .nodes ≡ length (take (5 * l .nodes) (part ++ drop (5 * l .nodes) room)))
   front-long part room big long =
-      let fit = nodes-fit room big in
+      let fit : 5 * l .nodes ≤ length room = omega (arith, nodes-few) in
       let taken = length-take-le (5 * l .nodes) room fit in
       let whole : length (part ++ drop (5 * l .nodes) room) ≡ length room =
       length-append part (drop (5 * l .nodes) room) ∙ omega (arith, length-drop (5 * l .nodes) room) in
       let there : 5 * l .nodes ≤ length (part ++ drop (5 * l .nodes) room) = omega arith in
       (there, sym (length-take-le (5 * l .nodes) (part ++ drop (5 * l .nodes) room) there))
 
-  pub nodes-there : (k : ℕ) → k ≡ 5 * l .nodes → l .«nodes_at» + 2 + 8 * (k / 5) ≤ length file
+  pub nodes-end : l .«nodes_at» + 2 + 8 * l .nodes ≡ length file
   unfolding endsWrongly
-  nodes-there k e =
+  nodes-end =
       let ends = eqb-true (length file) (fileEnd file) (not-false _ (accepted-settled file accepted .ends)) in
       omega (arith, is .nodes, is .nodesStart)
 

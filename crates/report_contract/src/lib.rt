@@ -2,7 +2,7 @@
 // 02, Note 2: it prints the counts that writing hands back, and counts nothing itself. Note 3: their total stands last.
 use check_refusals::is_refused;
 use file_bytes::read_layout;
-use report_output::Answer;
+use memory_answer::Answer;
 use report_output::hand_out;
 use report_text::report_lines;
 use write_contract::write;

@@ -1,12 +1,7 @@
 // "16. The lent output is too short": the report's text handed out where it fits.
+use memory_answer::Answer;
 use memory_append::append;
 ghost use Rattle.write_output.specs.Answers.{HandedOut};
-
-// The number, and the length of the text: 0 where the number is not.
-pub struct Answer {
-    pub number: u8,
-    pub length: usize,
-}
 
 // A text that fits stands at the front of the output; of one that does not, nothing is written.
 pub fn hand_out(text: &[u8], out: &mut [u8]) -> Answer

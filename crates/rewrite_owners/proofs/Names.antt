@@ -1,5 +1,5 @@
 -- The name and the owner code of an expression, by its kind, from the codes of its parts.
-use mathlib.Core.Path.{_≡_, ap, sym, _∙_}
+use mathlib.Core.Path.{_≡_, refl, ap, sym, _∙_}
 use mathlib.Core.Bool.{true, cond}
 use mathlib.Core.Option.{none, some}
 use Prim.Native.Nat.{ℕ}
@@ -9,6 +9,7 @@ use Rattle.definitions.specs.Numbers.{targetInTables}
 use Rattle.rewrite_owners.specs.Codes.{nameCode, partsCode, placeCode}
 use Rattle.rewrite_owners.proofs.Codes.{parts-code, place-code, target-code, public-test}
 use lib.Dec.{eqb}
+use borrow.Author.Tests.{eq-eqb, ne-eqb}
 
 -- Expressions are given by what they are equal to, as code learns it.
 module _ (scope : Scope) (e : Expression) where
@@ -72,11 +73,19 @@ module _ (scope : Scope) (e : Expression) where
   unfolding ownerOf
   owned-parameter r p h k = rw h k
 
-  pub owned-operator : (r a b : ℕ) (o : Operator) (left right : Expression) → e ≡ Expression.operator o left right → a ≡ ownerCode (ownerOf scope left)
-      → b ≡ ownerCode (ownerOf scope right) → r ≡ partsCode a b → r ≡ ownerCode (ownerOf scope e)
-  unfolding ownerOf
-  owned-operator r a b o left right h k m p =
-      rw h (p ∙ ap (λ (x : ℕ). partsCode x b) k ∙ ap (partsCode (ownerCode (ownerOf scope left))) m ∙ sym (parts-code (ownerOf scope left) (ownerOf scope right)))
+  -- What the left operand decides, and what the right one does where the left is public.
+  module _ (a : ℕ) (o : Operator) (left right : Expression) (h : e ≡ Expression.operator o left right) (k : a ≡ ownerCode (ownerOf scope left)) where
+    operator-code : (b : ℕ) → b ≡ ownerCode (ownerOf scope right) → ownerCode (ownerOf scope e) ≡ partsCode a b
+    unfolding ownerOf
+    operator-code b m =
+        ap (λ (x : Expression). ownerCode (ownerOf scope x)) h ∙ parts-code (ownerOf scope left) (ownerOf scope right)
+        ∙ ap (λ (x : ℕ). partsCode x (ownerCode (ownerOf scope right))) (sym k) ∙ ap (partsCode a) (sym m)
+
+    pub owned-by-left : (a ≡ 0 → ⊥) → 1 ≡ ownerCode (ownerOf scope e)
+    owned-by-left private = rw (operator-code (ownerCode (ownerOf scope right)) refl, ne-eqb a 0 private)
+
+    pub owned-by-right : (r b : ℕ) → a ≡ 0 → b ≡ ownerCode (ownerOf scope right) → r ≡ partsCode b 0 → r ≡ ownerCode (ownerOf scope e)
+    owned-by-right r b public m p = rw (operator-code b m, eq-eqb a 0 public) p
 
   pub owned-negation : (r a : ℕ) (part : Expression) → e ≡ Expression.negation part → a ≡ ownerCode (ownerOf scope part) → r ≡ partsCode a 0
       → r ≡ ownerCode (ownerOf scope e)

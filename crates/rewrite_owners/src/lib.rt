@@ -129,7 +129,7 @@ pub fn name_code(file: &[u8], function_at: usize, source: &[u16], n: usize) -> u
     }
 }
 
-// The owner code of node n.
+// The owner code of node n. An operator whose left operand is private is not gone through further.
 pub fn owner_code(file: &[u8], function_at: usize, source: &[u16], n: usize) -> u8
     requires { ⌜ (n < nodeCount (now file)) × (Context (now file) «function_at» (now source)) ⌝ }
     ensures { λ r. ⌜ r ≡ ownerCode (ownerOf (scopeIn (now (file .entry)) «function_at») (expressionIn (nodesIn (now (file .entry))) n)) ⌝ }
@@ -145,9 +145,11 @@ pub fn owner_code(file: &[u8], function_at: usize, source: &[u16], n: usize) -> 
         ),
         PARAMETER => parameter_code(file, function_at, node.arg),
         OPERATOR => {
-            let left = owner_code(file, function_at, source, node.first);
-            let right = owner_code(file, function_at, source, node.second);
-            parts_code(left, right)
+            if owner_code(file, function_at, source, node.first) == 0 {
+                parts_code(owner_code(file, function_at, source, node.second), 0)
+            } else {
+                1
+            }
         }
         NOT => parts_code(owner_code(file, function_at, source, node.first), 0),
         REVEAL => node.arg as u8,

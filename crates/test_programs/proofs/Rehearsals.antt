@@ -23,7 +23,7 @@ use Rattle.deploy.specs.declared.Deployment.{Deployment}
 use Rattle.deploy.specs.Deployments.{nothingDeployed, Deployed}
 use Rattle.call.specs.declared.Called.{Called}
 use Rattle.call.specs.Calls.{CalledOn}
-use Rattle.view_bytes.specs.declared.Answer.{Answer}
+use Rattle.memory_answer.specs.declared.Answer.{Answer}
 use Rattle.view_bytes.specs.Views.{Viewed}
 use Rattle.rehearse_scripts.specs.declared.Call.{Call}
 use Rattle.rehearse_scripts.specs.Scripts.{addressesEnd, callCount, callAt, argumentsOf, isScript, fileOf, addressesOf}

@@ -17,7 +17,7 @@ use Rattle.deploy.specs.declared.Deployment.{Deployment}
 use Rattle.deploy.specs.Deployments.{Deployed}
 use Rattle.call.specs.declared.Called.{Called}
 use Rattle.call.specs.Calls.{CalledOn}
-use Rattle.view_bytes.specs.declared.Answer.{Answer}
+use Rattle.memory_answer.specs.declared.Answer.{Answer}
 use Rattle.view_bytes.specs.Views.{Viewed}
 
 -- A party's look at a ledger struct by `view`: the lent memory before and after it, and the answer.

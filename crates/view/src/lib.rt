@@ -1,7 +1,7 @@
 // 01, Runs and views: a party's view of a ledger, whatever ledger it is.
 use ledger_18_test::is_well_formed;
 use ledger_struct::Ledger;
-use view_bytes::Answer;
+use memory_answer::Answer;
 use view_bytes::tested_view;
 ghost use Rattle.ledger_struct.specs.Ledgers.{ledgerOf};
 ghost use Rattle.view_bytes.specs.Views.{Viewed};

@@ -12,7 +12,7 @@ use Rattle.definitions.specs.Basics.{firstThatHolds}
 use Rattle.definitions.specs.Ledger as ledger
 use Rattle.definitions.specs.Ledger.{isWellFormed}
 use Rattle.definitions.specs.View.{viewBytes, viewNumber, viewLength, outputAfterView}
-use Rattle.view_bytes.specs.declared.Answer.{Answer}
+use Rattle.memory_answer.specs.declared.Answer.{Answer}
 use Rattle.view_bytes.specs.Views.{IsViewLength, Viewed}
 
 second-holds : (a c : Bool) → (a || true || c) ≡ true

@@ -6,7 +6,7 @@ use lib.ListN.{length}
 use Rattle.definitions.specs.Basics.{twoBytes}
 use Rattle.definitions.specs.Ledger as ledger
 use Rattle.definitions.specs.View.{viewBytes, viewNumber, viewLength, outputAfterView}
-use Rattle.view_bytes.specs.declared.Answer.{Answer}
+use Rattle.memory_answer.specs.declared.Answer.{Answer}
 
 unfoldable pub headBytes : ledger.Ledger → List ℕ
 headBytes l = twoBytes (l .call) ++ (l .function ∷ l .caller ∷ l .outcome ∷ [])

@@ -1,5 +1,6 @@
 // A party's view of a ledger, as bytes over a lent output.
 use ledger_struct::Ledger;
+use memory_answer::Answer;
 ghost use mathlib.Core.Path.{_≡_};
 ghost use lib.ListN.{length};
 ghost use Prim.Native.Nat.{_+_, _*_, _≤_};
@@ -8,12 +9,6 @@ ghost use Rattle.definitions.specs.Ledger.{isWellFormed};
 ghost use Rattle.definitions.specs.View.{viewBytes};
 ghost use Rattle.ledger_struct.specs.Ledgers.{ledgerOf};
 ghost use Rattle.view_bytes.specs.Views.{headBytes, IsViewLength, Viewed};
-
-// The number of a view's request, and how many bytes are written.
-pub struct Answer {
-    pub number: u8,
-    pub length: usize,
-}
 
 // How long a view is, whoever looks.
 pub fn view_length(l: Ledger) -> usize

@@ -31,7 +31,7 @@ use Rattle.walk_narrow_trees.specs.Narrow.{Bytes, functionNodes, WrittenBack}
 use Rattle.walk_narrow_trees.proofs.Functions.{function-back}
 use Rattle.walk_function_nodes.specs.declared.Extent.{Extent}
 use Rattle.walk_function_nodes.specs.Functions.{FunctionReady, FunctionPut}
-use Rattle.walk_function_nodes.proofs.Parts.{sizes-are, constraints-bound}
+use Rattle.walk_function_nodes.proofs.Parts.{sizes-are, constraints-by-nodes}
 use Rattle.walk_function.specs.Walks.{LastReady, WalkReady}
 use Rattle.write_trees.proofs.Numbers.{constraint-numbers-length}
 
@@ -46,7 +46,7 @@ module _ (file : List ℕ) (at : ℕ) (source : List ℕ) (log numbers scratch r
         (record {
           inside = ready .room .root;
           context = context-here;
-          room = record { space = omega (arith, ready .room .events, ready .logSpace); few = omega (arith, ready .room .variables) };
+          room = record { space = omega (arith, ready .room .eventsByNodes, ready .logSpace); few = omega (arith, ready .room .variables) };
         })
 
     module _ (logAfter : List ℕ) (end : Position) (logged : Logged (nodesIn file) log logAfter (startingAt private) end (statementOf file at 0 (rootAt file at) private)) where
@@ -71,11 +71,11 @@ module _ (file : List ℕ) (at : ℕ) (source : List ℕ) (log numbers scratch r
                         held = stored-holds log logAfter (events-logged .numbers) 0 (omega arith) (events-logged .held);
                         count = entries-are;
                       };
-                  space = omega (arith, entries-are, ready .room .events, ready .numbersSpace);
-                  bytes = omega (arith, ready .room .nodes, ready .nodesSpace);
+                  space = omega (arith, entries-are, ready .room .eventsByNodes, ready .numbersSpace);
+                  bytes = omega (arith, ready .room .nodesByNodes, ready .nodesSpace);
                 };
-            scratchSpace = omega (arith, entries-are, ready .room .events, ready .scratchSpace);
-            rootsSpace = omega (arith, entries-are, ready .room .events, ready .rootsSpace);
+            scratchSpace = omega (arith, entries-are, ready .room .eventsByNodes, ready .scratchSpace);
+            rootsSpace = omega (arith, entries-are, ready .room .eventsByNodes, ready .rootsSpace);
           }
 
   module _ (bytes : Bytes file) (numbersAfter nodesAfter : List ℕ) (r : Extent) (put : FunctionPut (writtenIn file at) numbers numbersAfter nodes nodesAfter r) where
@@ -97,20 +97,20 @@ module _ (file : List ℕ) (at : ℕ) (source : List ℕ) (log numbers scratch r
         (omega (arith, put .constraints, constraint-numbers-length 0 (function .constraints)))
 
     nodes-kept : length nodesAfter ≡ length nodes
-    nodes-kept = ap length (put .contents) ∙ stored-length nodes 0 (functionNodes function) (omega (arith, node-count, ready .room .nodes, ready .nodesSpace))
+    nodes-kept = ap length (put .contents) ∙ stored-length nodes 0 (functionNodes function) (omega (arith, node-count, ready .room .nodesByNodes, ready .nodesSpace))
 
     numbers-kept : length numbersAfter ≡ length numbers
     numbers-kept =
         ap length (put .noted)
         ∙ stored-length numbers 0 (constraintNumbers 0 (function .constraints))
-        (omega (arith, constraint-numbers-length 0 (function .constraints), constraints-bound file at (ready .room), ready .numbersSpace))
+        (omega (arith, constraint-numbers-length 0 (function .constraints), constraints-by-nodes file at (ready .room), ready .numbersSpace))
 
     pub last-ready : LastReady nodesAfter (r .nodes) numbersAfter (r .constraints) file
     last-ready =
         record {
           some = omega (arith, put .nodes, sizes-are file at, size-positive (commandTree (function .body)));
-          bytes = omega (arith, nodes-kept, put .nodes, ready .room .nodes, ready .nodesSpace);
-          space = omega (arith, numbers-kept, put .constraints, constraints-bound file at (ready .room), ready .numbersSpace);
+          bytes = omega (arith, nodes-kept, put .nodes, ready .room .nodesByNodes, ready .nodesSpace);
+          space = omega (arith, numbers-kept, put .constraints, constraints-by-nodes file at (ready .room), ready .numbersSpace);
           readable = rw nodes-front (back .readable);
           fewFields = context-here .fewFields;
         }

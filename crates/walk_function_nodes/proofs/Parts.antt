@@ -6,7 +6,7 @@ use Prim.Native.Nat.{ℕ, suc, _+_, _*_, _≤_}
 use native.Mathlib.Omega.{arith}
 use lib.ListN.{length}
 use Rattle.definitions.specs.Basics.{flatMap}
-use Rattle.definitions.specs.ContractFile.{Parameter, Scope, nodesAt}
+use Rattle.definitions.specs.ContractFile.{Parameter, Scope, nodeCount}
 use Rattle.definitions.specs.Rewriting.{always, Constraint, WrittenFunction, privateParameters, openings, heldUnder, Tree, size, sizes, numberedAll, nodeBytes, commandTree, claimTrees, functionTrees}
 use Rattle.theory_laws.proofs.Written.{opening-count, sizes-append}
 use Rattle.theory_trees.specs.Trees.{statementIn}
@@ -90,6 +90,9 @@ module _ (file : List ℕ) (at : ℕ) where
 
   pub constraints-bound : FunctionRoom file at 0 0 → length (written .constraints) ≤ 1544
   constraints-bound room = omega (arith, count-is, few-private room, constraints-few (scopeIn file at) (eventsIn file at), room .events)
+
+  pub constraints-by-nodes : FunctionRoom file at 0 0 → length (written .constraints) ≤ 3 * nodeCount file + 8
+  constraints-by-nodes room = omega (arith, count-is, few-private room, constraints-few (scopeIn file at) (eventsIn file at), room .eventsByNodes)
 
   pub room-context : (source : List ℕ) → Source file source → FunctionRoom file at 0 0 → Context file at source
   room-context source held room = context-with file at source (room .context) held

@@ -2,7 +2,7 @@
 use borrow.Author.Needs.{needs}
 use native.Mathlib.Omega.{arith}
 use Rattle.file_accepted.proofs.Nodes.{constant-is, field-is, entry-is, parameter-is, operator-is, negation-is, reveal-is, other-is, key-below, operands-below, part-below}
-use Rattle.rewrite_owners.proofs.Names.{owned-constant, owned-me, owned-field, owned-entry, owned-parameter, owned-operator, owned-negation, owned-reveal}
+use Rattle.rewrite_owners.proofs.Names.{owned-constant, owned-me, owned-field, owned-entry, owned-parameter, owned-by-left, owned-by-right, owned-negation, owned-reveal}
 use Rattle.rewrite_owners.proofs.Targets.{target-listed}
 use Prim.Native.Nat.{ℕ, _<_}
 use borrow.Fn.Kinds.{In}
@@ -47,8 +47,8 @@ pub +owner-code-spec : {M : Type 1} → statement M
     (λ c κs. let (_, (n-bound, context)) = c .before .before .before .before .pre in
     let less = operands-below _ _ _ context _ n-bound _ (c .before .node-at .ensures .same) (c .match .keys5) in
     (omega arith, (omega arith, context)))
-    (λ c κs. let (_, (n-bound, context)) = c .before .before .before .before .before .pre in
-    let less = operands-below _ _ _ context _ n-bound _ (c .before .before .node-at .ensures .same) (c .before .match .keys5) in
+    (λ c κs. let (_, (n-bound, context)) = c .before .before .before .before .before .before .pre in
+    let less = operands-below _ _ _ context _ n-bound _ (c .before .before .before .node-at .ensures .same) (c .before .before .match .keys5) in
     (omega arith, (omega arith, context)))
     (λ c κs. search needs)
     (λ c κs. let (_, (n-bound, context)) = c .before .before .before .before .pre in
@@ -63,8 +63,10 @@ pub +owner-code-spec : {M : Type 1} → statement M
     owned-entry _ _ _ _ _ _ _ (entry-is _ _ _ context _ n-bound _ (c .before .before .before .before .node-at .ensures .same) (c .before .before .before .match .keys3)) (c .before .before .field-owner2 .ensures) (c .before .name-code .ensures) (c .place-code2 .ensures))
     (λ c. let (_, (n-bound, context)) = c .before .before .before .before .before .pre in
     owned-parameter _ _ _ _ (parameter-is _ _ _ context _ n-bound _ (c .before .before .node-at .ensures .same) (c .before .match .keys4)) (c .parameter-code .ensures))
-    (λ c. let (_, (n-bound, context)) = c .before .before .before .before .before .before .before .pre in
-    owned-operator _ _ _ _ _ _ _ _ (operator-is _ _ _ context _ n-bound _ (c .before .before .before .before .node-at .ensures .same) (c .before .before .before .match .keys5)) (c .before .before .owner-code .ensures) (c .before .owner-code2 .ensures) (c .parts-code .ensures))
+    (λ c. let (_, (n-bound, context)) = c .before .before .before .before .before .before .before .before .pre in
+    owned-by-right _ _ _ _ _ _ (operator-is _ _ _ context _ n-bound _ (c .before .before .before .before .before .node-at .ensures .same) (c .before .before .before .before .match .keys5)) (c .before .before .before .owner-code .ensures) _ _ (c .before .before .if1 .taken) (c .before .owner-code2 .ensures) (c .parts-code .ensures))
+    (λ c. let (_, (n-bound, context)) = c .before .before .before .before .before .before .pre in
+    owned-by-left _ _ _ _ _ _ (operator-is _ _ _ context _ n-bound _ (c .before .before .before .node-at .ensures .same) (c .before .before .match .keys5)) (c .before .owner-code .ensures) (c .if1 .left))
     (λ c. let (_, (n-bound, context)) = c .before .before .before .before .before .before .pre in
     owned-negation _ _ _ _ _ (negation-is _ _ _ context _ n-bound _ (c .before .before .before .node-at .ensures .same) (c .before .before .match .keys6)) (c .before .owner-code3 .ensures) (c .parts-code2 .ensures))
     (λ c. let (_, (n-bound, context)) = c .before .before .before .before .before .pre in let node-at-same = c .before .before .node-at .ensures .same in
