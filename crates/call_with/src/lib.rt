@@ -12,6 +12,7 @@ use ledger_struct::Ledger;
 use ledger_struct::at_most;
 use ledger_struct::flat_places;
 use walk_function::walk_function;
+use write_extents::is_short;
 ghost use mathlib.Core.Path.{_≡_};
 ghost use mathlib.Core.List.{map};
 ghost use Prim.Native.Nat.{_*_, _<_, _≤_, _/_, min};
@@ -139,7 +140,7 @@ fn walk_called(
     ensures { λ r. ⌜ Walked (now (file .entry)) «function_at» (now (addresses .entry)) (now (parameters .entry))
         (stateOf (now (places .entry)) (now (variables .entry))) (stateOf (now (places .exit)) (now (variables .exit))) r ⌝ }
 {
-    if source.len() <= 320 {
+    if is_short(source.len() / 5) {
         walk_short(
             file,
             function_at,

@@ -1,36 +1,21 @@
--- The loop over the roots, and the first of the sentences 5 to 7 that holds.
-use mathlib.Core.Path.{_≡_, ap, _∙_}
+-- The first of the sentences 5 to 7 that holds.
+use mathlib.Core.Path.{_≡_, _∙_}
 use mathlib.Core.Bool.{Bool, cond, _||_, or-comm}
 use mathlib.Core.List.{List, [], _∷_, map}
-use Prim.Native.Nat.{ℕ, _+_, _-_, _/_, _<_, _≤_}
+use Prim.Native.Nat.{ℕ, _+_, _/_, _≤_}
 use native.Mathlib.Omega.{arith}
 use lib.ListN.{length}
 use Rattle.definitions.specs.Basics.{any, flatMap, firstThatHolds}
 use Rattle.definitions.specs.ContractFile.{FunctionRecord, Sections}
 use Rattle.definitions.specs.Numbers.{usedOtherThanOnce, tooDeep, wrongSort}
-use Rattle.file_children.proofs.Loops.{noted-next, noted-done}
-use Rattle.file_decoded.specs.Slices.{functionFrom, functionsFrom, nodesFrom, sectionsFrom}
-use Rattle.file_decoded.proofs.Records.{nodes-length, functions-step, functions-end}
+use Rattle.file_decoded.specs.Slices.{functionsFrom, nodesFrom, sectionsFrom}
+use Rattle.file_decoded.proofs.Records.{nodes-length}
 use Rattle.check_05_uses.specs.Counting.{Counted, rootOf, childrenOf, otherThanOne, anyFrom}
 use Rattle.check_05_uses.proofs.Loops.{no-uses, uses-counted}
 use Rattle.check_06_depth.specs.Chains.{Chains, rootTooDeep}
 use Rattle.check_06_depth.proofs.Loops.{depths-noted}
 use Rattle.check_07_sorts.specs.Sorts.{nodesIn, rootWrong, partsWrong}
 use Rattle.check_07_sorts.proofs.SortLoops.{sorts-wrong}
-
-module _ (test : FunctionRecord → Bool) (left : ℕ) (functions : List ℕ) (at : ℕ) (parameters : List ℕ) (noted goal : Bool)
-    (inv : noted || any test (functionsFrom parameters left functions at) ≡ goal) where
-  pub root-noted : 0 < left → (asked : Bool) → asked ≡ test (functionFrom parameters functions at) → (or-now : Bool) → or-now ≡ noted || asked
-      → or-now || any test (functionsFrom parameters (left - 1) functions (at + 3)) ≡ goal
-  root-noted h asked e or-now n =
-      noted-next test noted _ _ _ goal (functions-step parameters functions at left h) inv or-now (n ∙ ap (λ (b : Bool). noted || b) e)
-
-  pub roots-noted : left ≤ 0 → noted ≡ goal
-  roots-noted h = noted-done test noted _ goal (functions-end parameters functions at left h) inv
-
-pub number-of-roots : (deep wrong a b : Bool) → a ≡ deep → b ≡ wrong → cond {A = ℕ} a 6 (cond b 7 0) ≡ firstThatHolds 6 (deep ∷ wrong ∷ [])
-unfolding firstThatHolds
-number-of-roots deep wrong a b e f = rw (e, f)
 
 module _ (fields functions parameters nodes : List ℕ) where
   abbrev records : List FunctionRecord

@@ -1,26 +1,22 @@
 // Numbers 5 to 7 of a contract that is decoded and that number 4 lets pass: its nodes are read once for all three.
+use check_05_to_07_roots::look_at_roots;
 use check_05_uses::count_children;
-use check_05_uses::count_use;
 use check_05_uses::some_other_than_one;
 use check_06_depth::chain_from;
-use check_06_depth::depth_of;
-use check_07_sorts::has_sort;
 use check_07_sorts::parts_wrong;
 use file_children::child_count;
 use file_children::either;
 use file_decoded::node_from;
-use file_decoded::number_from;
 ghost use mathlib.Core.Path.{_≡_};
-ghost use mathlib.Core.Bool.{_||_};
-ghost use mathlib.Core.List.{List, [], _∷_, map};
+ghost use mathlib.Core.List.{List, [], _∷_};
 ghost use Prim.Native.Nat.{ℕ, _+_, _*_, _/_, _≤_};
 ghost use lib.ListN.{length};
 ghost use Rattle.definitions.specs.Basics.{any, flatMap, firstThatHolds};
 ghost use Rattle.definitions.specs.Numbers.{usedOtherThanOnce, tooDeep, wrongSort};
-ghost use Rattle.file_decoded.specs.Slices.{functionsFrom, nodesFrom, sectionsFrom, Shaped};
-ghost use Rattle.check_05_uses.specs.Counting.{Room, Counted, rootOf, childrenOf};
-ghost use Rattle.check_06_depth.specs.Chains.{Bounded, Chains, ChildrenBelow, rootTooDeep};
-ghost use Rattle.check_07_sorts.specs.Sorts.{nodesIn, rootWrong, partsWrong};
+ghost use Rattle.file_decoded.specs.Slices.{nodesFrom, sectionsFrom, Shaped};
+ghost use Rattle.check_05_uses.specs.Counting.{Room, Counted, childrenOf};
+ghost use Rattle.check_06_depth.specs.Chains.{Chains, ChildrenBelow};
+ghost use Rattle.check_07_sorts.specs.Sorts.{nodesIn, partsWrong};
 
 // Counts the uses of each node's children, notes each node's depth, and tells whether some child is of another sort than is due.
 // A child's number is below its parent's, so its depth is noted before.
@@ -49,47 +45,6 @@ fn look_at_nodes(nodes: &[u16], counts: &mut [u16; 512], depths: &mut [u16; 512]
         n += 1;
     }
     wrong
-}
-
-// Counts the uses of the functions' roots, and tells the first of the sentences 6 and 7 that holds, or 0: of their depths, and of their
-// sorts with what is noted of the children's.
-fn look_at_roots(
-    functions: &[u16],
-    nodes: &[u16],
-    counts: &mut [u16; 512],
-    depths: &[u16; 512],
-    noted: bool,
-) -> u8
-    requires { ⌜ (Room (now counts) (length (now functions) / 3)) × (Bounded (now depths)) ⌝ }
-    ensures { λ r. ⌜ ((parameters : List ℕ)
-        → (Counted (now (counts .entry)) (now (counts .exit))
-        (map rootOf (functionsFrom parameters (length (now (functions .entry)) / 3) (now (functions .entry)) 0)))
-        × (r ≡ firstThatHolds 6
-        (any (rootTooDeep (now (depths .entry)))
-        (functionsFrom parameters (length (now (functions .entry)) / 3) (now (functions .entry)) 0)
-        ∷ (noted || any (rootWrong (nodesIn (now (nodes .entry))))
-        (functionsFrom parameters (length (now (functions .entry)) / 3) (now (functions .entry)) 0))
-        ∷ []))) ⌝ }
-{
-    let mut at: usize = 0;
-    let mut left = functions.len() / 3;
-    let mut deep = false;
-    let mut wrong = noted;
-    while 0 < left {
-        let root = number_from(functions, at + 2);
-        count_use(counts, root);
-        deep = either(deep, 64 < depth_of(depths, root));
-        wrong = either(wrong, !has_sort(nodes, false, root));
-        at += 3;
-        left -= 1;
-    }
-    if deep {
-        return 6;
-    }
-    if wrong {
-        return 7;
-    }
-    0
 }
 
 // "5. A node is used other than once, as a root or a child."

@@ -8,21 +8,18 @@ use program_input::short_contract_room;
 use program_output::deliver;
 use program_output::print_refused;
 use write_output::Answer;
+use write_output::short_written_room;
+use write_output::written_room;
 ghost use mathlib.Core.Path.{_≡_};
+ghost use Prim.Native.Nat.{_≤_};
 ghost use lib.ListN.{length};
 ghost use Rattle.definitions.specs.Numbers.{checkNumber};
+ghost use Rattle.write_room.specs.Rooms.{Suffices};
 ghost use Rattle.write_output.specs.Answers.{Promised};
 
-// "49,152 bytes always suffice."
-fn output_room() -> [u8; 49152]
-    ensures { λ r. ⌜ 49152 ≡ length r ⌝ }
-{
-    [0; 49152]
-}
-
-// In this room the file's own number alone can refuse: what is refused here `verdict` refuses too, with the same number.
+// In a room that suffices the file's own number alone can refuse: what is refused here `verdict` refuses too, with the same number.
 fn rewrite(file: &[u8], out: &mut [u8]) -> Answer
-    requires { ⌜ length (now out) ≡ 49152 ⌝ }
+    requires { ⌜ Suffices (now file) (length (now out)) ⌝ }
     ensures { λ r. ⌜ Promised (now (file .entry)) (now (out .entry)) (now (out .exit)) (r .number) (r .length)
         (r .counts .crossings) ⌝ }
     ensures { λ r. ⌜ r .number ≡ checkNumber (now (file .entry)) ⌝ }
@@ -30,9 +27,10 @@ fn rewrite(file: &[u8], out: &mut [u8]) -> Answer
     write_contract::write(file, out)
 }
 
-fn answer(file: &[u8]) {
-    let mut out = output_room();
-    let answer = rewrite(file, &mut out);
+fn answer_in(file: &[u8], out: &mut [u8])
+    requires { ⌜ Suffices (now file) (length (now out)) ⌝ }
+{
+    let answer = rewrite(file, out);
     let end = answer.length;
     if answer.number == 0 {
         deliver(b"compile", &out[..end]);
@@ -41,7 +39,28 @@ fn answer(file: &[u8]) {
     }
 }
 
-// A function of its own, so that the large room is cleared for an input that fills the short one alone.
+// Functions of their own, so that the room that a short file needs is all that is cleared for it.
+fn answer_short(file: &[u8])
+    requires { ⌜ length (now file) ≤ 512 ⌝ }
+{
+    let mut out = short_written_room();
+    answer_in(file, &mut out);
+}
+
+fn answer_any(file: &[u8]) {
+    let mut out = written_room();
+    answer_in(file, &mut out);
+}
+
+fn answer(file: &[u8]) {
+    if file.len() <= 512 {
+        answer_short(file);
+    } else {
+        answer_any(file);
+    }
+}
+
+// So is the large room for the input, which only one that fills the short room needs.
 fn answer_long(beginning: Beginning, start: &[u8]) {
     let mut file = contract_room();
     let input = read_rest(b"compile", beginning, start, &mut file);

@@ -9,7 +9,7 @@ use Rattle.definitions.proofs.Contracts.{fileA, increment, requireOne}
 use Rattle.definitions.proofs.Files.{joined, file, function, taggedMapping, privateUint, constant, me, fieldRead, entryRead}
 use Rattle.definitions.proofs.Files.{parameterRead, operator, reveal, skip, sequence, assign, assignEntry, require, conditional}
 use Rattle.definitions.proofs.Files.{contract, negations, chain}
-use Rattle.definitions.proofs.NumberCases.{numberCases}
+use Rattle.definitions.proofs.NumberCases.{numberCases, limitCases}
 use Rattle.definitions.proofs.WrittenCases.{writtenCases}
 use Rattle.definitions.proofs.CrossingCases.{crossingCases}
 use Rattle.definitions.proofs.TotalCases.{totalCases}
@@ -112,8 +112,8 @@ pinned =
 
 -- What takes longest to compute stands last, so that a definition that an early case refuses is refused early.
 pub table : List Case
-table = pinned ++ writtenCases ++ crossingCases ++ totalCases ++ outputCases ++ ledgerCases ++ viewCases ++ disclosureCases ++ numberCases ++ marked
+table = pinned ++ numberCases ++ writtenCases ++ crossingCases ++ totalCases ++ outputCases ++ ledgerCases ++ viewCases ++ disclosureCases ++ limitCases ++ marked
 
 pub every-case-holds : (c : Case) → List·Memᴰ c table → Holds c
-unfolding allPass table marked pinned numberCases writtenCases crossingCases totalCases outputCases ledgerCases viewCases disclosureCases joined negations openedFrom flatMap
+unfolding allPass table marked pinned numberCases limitCases writtenCases crossingCases totalCases outputCases ledgerCases viewCases disclosureCases joined negations openedFrom flatMap
 every-case-holds c m = each-holds table tt c m

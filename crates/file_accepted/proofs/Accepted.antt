@@ -96,10 +96,6 @@ module _ (file : List ℕ) (counts : countOffLimits file ≡ false) where
   near : (f : ℕ) → f ≤ functionCount file → functionsEnd f file (functionsAt file + 1) ≤ 200000
   near f h = omega (arith, functions-near (functionCount file) file (functionsAt file + 1) f no-parameters-off h, few-fields, few-functions)
 
-  pub near-nodes : nodesAt file ≤ 200000
-  unfolding nodesBegin
-  near-nodes = near (functionCount file) (omega arith)
-
   few-parameters : (f : ℕ) → f < functionCount file → byteAt file (functionsEnd f file (functionsAt file + 1)) ≤ 8
   few-parameters f h =
       let other : FunctionRecord = record { parameters = []; root = 0 } in

@@ -27,20 +27,6 @@ context-with file at source known held =
       statementsDue = known .statementsDue;
     }
 
-pub known-within : (file : List ℕ) (at : ℕ) (source : List ℕ) → Context file at source → Known file at
-known-within file at source context =
-    record {
-      nearFunction = context .nearFunction;
-      fewFields = context .fewFields;
-      fewParameters = context .fewParameters;
-      fewNodes = context .fewNodes;
-      fieldListed = context .fieldListed;
-      nodeListed = λ n inside. ap (λ (r : NodeRecord). nodeInTables r) (sym (context .read n inside)) ∙ context .nodeListed n inside;
-      falling = context .falling;
-      expressionsDue = context .expressionsDue;
-      statementsDue = context .statementsDue;
-    }
-
 record-within : (count : ℕ) (numbers : List ℕ) (at n : ℕ) (other : NodeRecord) → n < count → getD (nodesFrom count numbers at) n other ≡ nodeFrom numbers (at + 5 * n)
 unfolding nodesFrom
 record-within zero numbers at n other h = absurd (omega arith)

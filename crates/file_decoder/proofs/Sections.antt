@@ -9,7 +9,8 @@ use Rattle.definitions.specs.Reading.{nodesBegin}
 use Rattle.file_bytes.specs.declared.Layout.{Layout}
 use Rattle.file_bytes.proofs.Sections.{fields-are, functions-are, nodes-are}
 use Rattle.file_decoded.specs.Slices.{fieldsFrom, nodesFrom}
-use Rattle.file_decoder.specs.Decoding.{Copied, FunctionsRoom, DecodedFunctions, Decodable, Decoded}
+use Rattle.file_node_decoder.specs.Steps.{Copied}
+use Rattle.file_decoder.specs.Decoding.{FunctionsRoom, DecodedFunctions, Decodable, Decoded}
 use Rattle.file_decoder.proofs.Steps.{fields-extend}
 
 module _ (file : List ℕ) (l : Layout) (fields functions parameters nodes : List ℕ) (d : Decodable file l fields functions parameters nodes) where

@@ -1,34 +1,14 @@
--- What the decoder's steps leave in the slices, place by place.
+-- What decoding functions and whole files leaves in the slices.
 use mathlib.Core.Path.{_≡_}
 use mathlib.Core.List.{List}
-use Prim.Native.Nat.{ℕ, _+_, _*_, _/_, _<_, _≤_}
+use Prim.Native.Nat.{ℕ, _+_, _*_, _/_, _≤_}
 use lib.ListN.{length}
-use Rattle.definitions.specs.ContractFile.{byteAt, functionEnd, functionsEnd, functionRecord, functionRecords, nodeRecord}
+use Rattle.definitions.specs.ContractFile.{byteAt, functionEnd, functionsEnd, functionRecord, functionRecords}
 use Rattle.definitions.specs.ContractFile.{fileEnd, sectionsOf}
 use Rattle.file_bytes.specs.declared.Layout.{Layout}
 use Rattle.file_bytes.specs.Layout.{IsLayout}
-use Rattle.file_decoded.specs.Slices.{numberAt, functionFrom, functionsFrom, nodeFrom, sectionsFrom, ParametersInside}
-
--- Before a place nothing is changed, and the slice is as long as it was.
-pub record SameBefore (before after : List ℕ) (at : ℕ) : Type 0 where
-  pub front : (i : ℕ) → i < at → numberAt after i ≡ numberAt before i
-  pub long : length after ≡ length before
-
--- One number at a place, the others as they were.
-pub record Put (before after : List ℕ) (at value : ℕ) : Type 0 where
-  pub here : numberAt after at ≡ value
-  pub others : (i : ℕ) → (i ≡ at → ⊥) → numberAt after i ≡ numberAt before i
-  pub long : length after ≡ length before
-
-pub record Copied (file : List ℕ) (from count : ℕ) (before after : List ℕ) (at : ℕ) : Type 0 where
-  pub each : (i : ℕ) → i < count → numberAt after (at + i) ≡ byteAt file (from + i)
-  pub kept : SameBefore before after at
-
-pub record DecodedNode (file : List ℕ) (from : ℕ) (before after : List ℕ) (at : ℕ) : Type 0 where
-  pub is : nodeFrom after at ≡ nodeRecord file from
-  pub kind : numberAt after at ≤ 255
-  pub arg : numberAt after (at + 1) ≤ 255
-  pub kept : SameBefore before after at
+use Rattle.file_decoded.specs.Slices.{numberAt, functionFrom, functionsFrom, sectionsFrom, ParametersInside}
+use Rattle.file_node_decoder.specs.Steps.{SameBefore}
 
 -- The function's bytes are there, and so is room for its numbers and those of its parameters.
 pub record FunctionRoom (file : List ℕ) (from : ℕ) (functions : List ℕ) (at : ℕ) (parameters : List ℕ) (first : ℕ) : Type 0 where

@@ -1,60 +1,17 @@
 // The decoder: a contract file whose counts are right, from its bytes into slices of numbers. Each byte is read once.
 use file_bytes::Layout;
+use file_node_decoder::byte_in;
+use file_node_decoder::copy_bytes;
+use file_node_decoder::decode_node;
+use file_node_decoder::put;
+use file_node_decoder::two_bytes_in;
 ghost use mathlib.Core.Path.{_≡_};
-ghost use Prim.Native.Nat.{_+_, _*_, _/_, _<_, _≤_};
+ghost use Prim.Native.Nat.{_+_, _*_, _/_, _≤_};
 ghost use lib.ListN.{length};
-ghost use Rattle.definitions.specs.ContractFile.{byteAt, twoBytesAt, nodeRecords};
+ghost use Rattle.definitions.specs.ContractFile.{byteAt, nodeRecords};
 ghost use Rattle.file_decoded.specs.Slices.{nodesFrom, Narrow};
-ghost use Rattle.file_decoder.specs.Decoding.{Put, Copied, DecodedNode, DecodedFunction, FunctionRoom};
+ghost use Rattle.file_decoder.specs.Decoding.{DecodedFunction, FunctionRoom};
 ghost use Rattle.file_decoder.specs.Decoding.{FunctionsRoom, DecodedFunctions, Decodable, Decoded};
-
-// A store by a function of its own, so that its effect is said place by place.
-fn put(numbers: &mut [u16], at: usize, value: usize)
-    requires { ⌜ (at < length (now numbers)) × (value ≤ 65535) ⌝ }
-    ensures { λ _. ⌜ Put (now (numbers .entry)) (now (numbers .exit)) at value ⌝ }
-{
-    numbers[at] = value as u16;
-}
-
-fn byte_in(file: &[u8], at: usize) -> usize
-    requires { ⌜ at < length (now file) ⌝ }
-    ensures { λ r. ⌜ r ≡ byteAt (now (file .entry)) at ⌝ }
-    ensures { λ r. ⌜ r ≤ 255 ⌝ }
-{
-    file[at] as usize
-}
-
-fn two_bytes_in(file: &[u8], at: usize) -> usize
-    requires { ⌜ at + 2 ≤ length (now file) ⌝ }
-    ensures { λ r. ⌜ r ≡ twoBytesAt (now (file .entry)) at ⌝ }
-    ensures { λ r. ⌜ r ≤ 65535 ⌝ }
-{
-    byte_in(file, at) + 256 * byte_in(file, at + 1)
-}
-
-// Some bytes of the file, each as a number of its own.
-fn copy_bytes(file: &[u8], from: usize, count: usize, numbers: &mut [u16], at: usize)
-    requires { ⌜ (from + count ≤ length (now file)) × (at + count ≤ length (now numbers)) ⌝ }
-    ensures { λ _. ⌜ Copied (now (file .entry)) from count (now (numbers .entry)) (now (numbers .exit)) at ⌝ }
-{
-    let mut i = 0;
-    while i < count {
-        put(numbers, at + i, byte_in(file, from + i));
-        i += 1;
-    }
-}
-
-// "each is kind, arg, then first, second and third of two bytes"
-fn decode_node(file: &[u8], from: usize, nodes: &mut [u16], at: usize)
-    requires { ⌜ (from + 8 ≤ length (now file)) × (at + 5 ≤ length (now nodes)) ⌝ }
-    ensures { λ _. ⌜ DecodedNode (now (file .entry)) from (now (nodes .entry)) (now (nodes .exit)) at ⌝ }
-{
-    put(nodes, at, byte_in(file, from));
-    put(nodes, at + 1, byte_in(file, from + 1));
-    put(nodes, at + 2, two_bytes_in(file, from + 2));
-    put(nodes, at + 3, two_bytes_in(file, from + 4));
-    put(nodes, at + 4, two_bytes_in(file, from + 6));
-}
 
 // The nodes, as many as the slice has room for.
 pub fn decode_nodes(file: &[u8], from: usize, nodes: &mut [u16])

@@ -20,7 +20,7 @@ use Rattle.memory_buffer.specs.Buffer.{stored}
 use Rattle.memory_append.specs.Append.{Appended}
 use Rattle.memory_append.proofs.Appending.{appended-length}
 use Rattle.write_output.specs.Answers.{HandedOut}
-use Rattle.write_room.proofs.Room.{room-is-never-short}
+use Rattle.write_room.proofs.Room.{own-number-where-enough, any-file-fits}
 use Rattle.write_function_room.proofs.Room.{functions-few}
 use Rattle.report_room.proofs.Room.{counts-many, text-is, text-few}
 
@@ -42,9 +42,9 @@ unfolding reportLength reportNumber
 reported-within file room long e = let w = within-room (checkNumber file) 15 room (length (reportText file)) in omega arith
 
 module _ (file : List ℕ) where
-  -- In a room of 49,152 bytes writing refuses the file's own number alone.
-  pub own-number : (number room : ℕ) → number ≡ writeNumber file room → 49152 ≡ room → number ≡ checkNumber file
-  own-number number room e long = e ∙ ap (writeNumber file) (sym long) ∙ room-is-never-short file
+  -- In the report's room writing refuses the file's own number alone.
+  pub own-number : (number room : ℕ) → number ≡ writeNumber file room → 37844 ≡ room → number ≡ checkNumber file
+  own-number number room e long = e ∙ ap (writeNumber file) (sym long) ∙ own-number-where-enough file 37844 (any-file-fits file)
 
   -- "Checking uses 1 to 15": a refused file's number goes before that of the room.
   pub file-refused : (out : List ℕ) (number : ℕ) → number ≡ checkNumber file → (number ≡ 0 → ⊥) → Refused file out number

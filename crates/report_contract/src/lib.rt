@@ -6,6 +6,7 @@ use memory_answer::Answer;
 use report_output::hand_out;
 use report_text::report_lines;
 use write_contract::write;
+use write_output::written_room;
 ghost use mathlib.Core.Path.{_≡_};
 ghost use Prim.Native.Nat.{_≤_};
 ghost use lib.ListN.{length};
@@ -14,13 +15,6 @@ ghost use Rattle.definitions.specs.Numbers.{checkNumber};
 ghost use Rattle.definitions.specs.Report.{reportText, reportNumber, reportLength, outputAfterReport};
 ghost use Rattle.definitions.specs.Rewriting.{writtenFile};
 ghost use Rattle.memory_append.specs.Append.{Appended};
-
-// "49,152 bytes always suffice": room for the writing, which is the report's own.
-fn written_room() -> [u8; 49152]
-    ensures { λ r. ⌜ 49152 ≡ length r ⌝ }
-{
-    [0; 49152]
-}
 
 // Room for the longest text: the heading, sixteen lines and the total.
 fn text_room() -> [u8; 131]

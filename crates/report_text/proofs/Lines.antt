@@ -107,38 +107,6 @@ module _ (counts order held : List ℕ) (fits : length (reportLines counts (sum 
         let d : Appended later after next (totalLine (sum counts)) end = rw total-is at c in
         rw same-lines at (three-appended held 0 heading inOrder (totalLine (sum counts)) fits-in-order between later after at next end a b d)
 
--- At most twenty digits a number: 42 bytes a line.
-insert-length : (a : Tally) (bs : List Tally) → length (insert a bs) ≡ suc (length bs)
-unfolding insert
-insert-length a [] = refl
-insert-length a (b ∷ bs) = go (comesBefore a b) (insert-length a bs)
-  where
-    go : (t : Bool) → length (insert a bs) ≡ suc (length bs) → length (cond t (a ∷ b ∷ bs) (b ∷ insert a bs)) ≡ suc (suc (length bs))
-    go true h = refl
-    go false h = ap suc h
-
-sorted-length : (ts : List Tally) → length (sorted ts) ≡ length ts
-unfolding sorted
-sorted-length [] = refl
-sorted-length (t ∷ ts) = insert-length t (sorted ts) ∙ ap suc (sorted-length ts)
-
-tallies-length : (n : ℕ) (counts : List ℕ) → length (tallies n counts) ≡ length counts
-unfolding tallies
-tallies-length n [] = refl
-tallies-length n (count ∷ counts) = ap suc (tallies-length (suc n) counts)
-
-line-length : (t : Tally) → length (tallyLine t) ≤ 42
-line-length t =
-    let f = digits-length 20 (t .function) in
-    let c = digits-length 20 (t .count) in
-    let a = length-append (decimal (t .function)) (32 ∷ decimal (t .count)) in
-    let b = length-append (decimal (t .function) ++ (32 ∷ decimal (t .count))) (10 ∷ []) in
-    omega arith
-
-lines-length : (ts : List Tally) → length (flatMap tallyLine ts) ≤ 42 * length ts
-unfolding flatMap
-lines-length [] = omega arith
-lines-length (t ∷ ts) = let h = lines-length ts in let k = line-length t in omega (arith, length-append (tallyLine t) (flatMap tallyLine ts))
-
+-- At most twenty digits a number.
 pub refused-length : (n : ℕ) → length (refusedLine n) ≤ 29
 refused-length n = let h = digits-length 20 n in omega (arith, length-append (decimal n) (10 ∷ []))

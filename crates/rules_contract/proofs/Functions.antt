@@ -19,11 +19,12 @@ use Rattle.rules_scopes.specs.Scopes.{ParametersReady}
 use Rattle.definitions.specs.Owners.{noLinks}
 use Rattle.rules_links.specs.Classes.{linkedBy}
 use Rattle.rules_statements.specs.Checking.{JudgedStatement}
-use Rattle.rules_statements.specs.declared.Checked.{Checked}
+use Rattle.rules_branches.specs.declared.Checked.{Checked}
 use Rattle.rules_marks.specs.Marks.{marked, ownerAt, statementsUnder}
 use Rattle.rules_marks.proofs.Marking.{marked-length}
-use Rattle.rules_contract.specs.Sections.{fieldsIn, allFieldsFault, functionsMarked, contractMarked, FunctionJudged, FunctionsJudged, FunctionsReady}
-use Rattle.rules_contract.proofs.Fields.{flat-cons, flat-none, fault-start}
+use Rattle.rules_fields.specs.Fields.{fieldsIn, allFieldsFault}
+use Rattle.rules_contract.specs.Sections.{functionsMarked, contractMarked, FunctionJudged, FunctionsJudged, FunctionsReady}
+use Rattle.rules_fields.proofs.Fields.{flat-cons, flat-none, fault-start}
 use Rattle.rules_contract.proofs.Passing.{parameters-each, not-not}
 
 -- A function's own parameters, in a slice of their own and where they stand among all.

@@ -1,3 +1,2 @@
 pub mod Passing
-pub mod Fields
 pub mod Functions

@@ -1,4 +1,4 @@
--- The least faults of a contract's fields and of its functions, and the column of owners, as the decoded slices give them.
+-- The least faults of a contract's functions, and the column of owners, as the decoded slices give them.
 use mathlib.Core.Path.{_≡_}
 use mathlib.Core.Bool.{false, not}
 use mathlib.Core.List.{List, [], _∷_, map}
@@ -6,24 +6,16 @@ use Prim.Native.Nat.{ℕ, _+_, _*_, _/_, _<_, _≤_}
 use lib.Dec.{ltb}
 use lib.ListN.{length}
 use Rattle.definitions.specs.Basics.{any, flatMap}
-use Rattle.definitions.specs.ContractFile.{Field, Scope, Node, FunctionRecord, fieldAt, fieldOf, parameterOf, functionOf}
+use Rattle.definitions.specs.ContractFile.{Field, Scope, Node, FunctionRecord, parameterOf, functionOf}
 use Rattle.definitions.specs.Owners.{noLinks}
-use Rattle.definitions.specs.Numbers.{fieldFaults, functionFaults, statementFaults, parameterInTables, outsideTables, namesNothing}
+use Rattle.definitions.specs.Numbers.{functionFaults, statementFaults, parameterInTables, outsideTables, namesNothing}
 use Rattle.theory_trees.specs.Trees.{statementIn}
-use Rattle.file_decoded.specs.Slices.{numberAt, fieldsFrom, parametersFrom, functionsFrom, sectionsFrom, ParametersInside, Shaped}
+use Rattle.file_decoded.specs.Slices.{numberAt, parametersFrom, functionsFrom, sectionsFrom, ParametersInside, Shaped}
 use Rattle.rules_faults.specs.Faults.{leastFault}
 use Rattle.rules_scopes.specs.Trees.{nodesIn}
 use Rattle.rules_scopes.specs.Scopes.{scopeFrom, FieldsReady, NodesReady}
+use Rattle.rules_fields.specs.Fields.{fieldsIn}
 use Rattle.rules_marks.specs.Marks.{marked, ownerAt, statementsUnder}
-
-abbrev pub fieldsIn : List ℕ → List Field
-fieldsIn fields = map fieldOf (fieldsFrom (length fields / 3) fields 0)
-
-abbrev pub ownerFault : List ℕ → ℕ → ℕ
-ownerFault fields f = leastFault (fieldFaults (fieldsIn fields) (fieldAt (fieldsIn fields) f))
-
-abbrev pub allFieldsFault : List ℕ → ℕ
-allFieldsFault fields = leastFault (flatMap (fieldFaults (fieldsIn fields)) (fieldsIn fields))
 
 -- One function: its least fault with no links at its start, and its expressions' owners.
 pub record FunctionJudged (fields parameters nodes : List ℕ) (root : ℕ) (before after : List ℕ) (r : ℕ) : Type 0 where

@@ -1,12 +1,9 @@
 // Numbers 8 to 15 of a contract that numbers 1 to 7 let pass, from its decoded slices; the owners of all its expressions in a column.
 use file_decoded::number_from;
-use file_kinds::FINAL_SHORT;
 use rules_faults::least;
-use rules_faults::number_if;
+use rules_fields::fields_fault;
 use rules_links::class_room;
 use rules_links::no_links;
-use rules_owners::FINALS;
-use rules_scopes::field_from;
 use rules_statements::judge_statement;
 ghost use mathlib.Core.Path.{_≡_};
 ghost use Prim.Native.Nat.{_/_, _<_, _≤_};
@@ -16,38 +13,8 @@ ghost use Rattle.definitions.specs.ContractFile.{contractOf};
 ghost use Rattle.definitions.specs.Numbers.{contractSentences};
 ghost use Rattle.file_decoded.specs.Slices.{sectionsFrom};
 ghost use Rattle.rules_scopes.specs.Scopes.{FieldsReady, ParametersReady, NodesReady};
-ghost use Rattle.rules_contract.specs.Sections.{ownerFault, allFieldsFault, FunctionJudged, FunctionsReady, FunctionsJudged, Passed};
+ghost use Rattle.rules_contract.specs.Sections.{FunctionJudged, FunctionsReady, FunctionsJudged, Passed};
 ghost use Rattle.rules_contract.specs.Sections.{contractMarked};
-
-// "8. .. an owner code's field isn't final": in field f's own owner code.
-fn owner_fault(fields: &[u16], f: u16) -> u8
-    requires { ⌜ (FieldsReady (now fields)) × (f < length (now fields) / 3) ⌝ }
-    ensures { λ r. ⌜ r ≡ ownerFault (now (fields .entry)) f ⌝ }
-{
-    let declared = field_from(fields, f);
-    if declared.tagged {
-        return 16;
-    }
-    if declared.owner == 0 {
-        return 16;
-    }
-    let named = field_from(fields, declared.owner - FINALS);
-    number_if(!(named.shape == FINAL_SHORT), 8)
-}
-
-fn fields_fault(fields: &[u16]) -> u8
-    requires { ⌜ FieldsReady (now fields) ⌝ }
-    ensures { λ r. ⌜ r ≡ allFieldsFault (now (fields .entry)) ⌝ }
-{
-    let count = fields.len() / 3;
-    let mut fault: u8 = 16;
-    let mut i: usize = 0;
-    while i < count {
-        fault = least(fault, owner_fault(fields, i as u16));
-        i += 1;
-    }
-    fault
-}
 
 // One function, from its own parameters and its root, with no links at its start.
 fn function_fault(

@@ -1,4 +1,3 @@
-pub mod Chaining
 pub mod Meeting
 pub mod Room
 pub mod Branches

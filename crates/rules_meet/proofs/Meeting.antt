@@ -14,7 +14,7 @@ use Rattle.rules_owners.specs.Numbering.{numberOfName}
 use Rattle.rules_links.specs.Classes.{Classed, known, linkedBy}
 use Rattle.rules_links.proofs.Names.{known-below, number-positive}
 use Rattle.rules_links.proofs.Joining.{classed}
-use Rattle.rules_meet.specs.Chains.{Latest, standingFor}
+use Rattle.rules_chains.specs.Chains.{Latest, standingFor}
 use Rattle.rules_meet.specs.Branches.{Met}
 
 -- Name j is visited: its class is before the last one begun, or is that one, and j is after the name to be visited next.

@@ -1,47 +1,12 @@
 // 02, Note 1: the links after an if. The numbers are visited class by class of the one branch; within such a class, those that are
 // of one class in the other branch too get one number. Each number and each class is visited once.
+use rules_chains::chained;
+use rules_chains::standing;
 use rules_links::copy_classes;
 ghost use mathlib.Core.Path.{_≡_};
 ghost use lib.ListN.{length, getD};
 ghost use Rattle.rules_links.specs.Classes.{Classed};
-ghost use Rattle.rules_meet.specs.Chains.{ChainsOf, standingFor};
 ghost use Rattle.rules_meet.specs.Branches.{Met, Behind};
-
-// The number before each in its class, and the last of each class. Number 0 is no name: 0 says that there is none.
-struct Chains {
-    before: [u16; 74],
-    last: [u16; 74],
-}
-
-// The numbers of each class as a chain, from its last back.
-fn chained(classes: &[u16]) -> Chains
-    requires { ⌜ Classed (now classes) ⌝ }
-    ensures { λ r. ⌜ ChainsOf (now (classes .entry)) (r .before) (r .last) ⌝ }
-{
-    let mut chains = Chains {
-        before: [0; 74],
-        last: [0; 74],
-    };
-    let count = classes.len();
-    let mut i: usize = 1;
-    while i < count {
-        let class = classes[i] as usize;
-        chains.before[i] = chains.last[class];
-        chains.last[class] = i as u16;
-        i += 1;
-    }
-    chains
-}
-
-// The number held, when there is one and its class is this one's; otherwise this one.
-fn standing(held: u16, old: u16, number: u16, new: u16) -> u16
-    ensures { λ r. ⌜ r ≡ standingFor held old number new ⌝ }
-{
-    if held == 0 {
-        return number;
-    }
-    if old == new { held } else { number }
-}
 
 // 02, Note 1: "After an if, a pair of names is linked when it was linked at the end of both branches."
 fn meet_into(one: &[u16], other: &[u16], both: &mut [u16])

@@ -23,15 +23,7 @@ module _ (nodes : List ℕ) (n : ℕ) where
       let e : 0 + 5 * n ≡ 5 * n = omega arith in
       rw e at (node-within (length nodes / 5) nodes 0 n inside)
 
-  -- A node of which a function has read the first numbers.
-  pub read-three : (kind arg first : ℕ) → kind ≡ numberAt nodes (5 * n) → arg ≡ numberAt nodes (5 * n + 1) → first ≡ numberAt nodes (5 * n + 2)
-      → node kind arg first (numberAt nodes (5 * n + 3)) (numberAt nodes (5 * n + 4)) ≡ nodeFrom nodes (5 * n)
-  read-three kind arg first a b c = rw (a, b, c)
-
-  pub read-four : (kind arg first second : ℕ) → kind ≡ numberAt nodes (5 * n) → arg ≡ numberAt nodes (5 * n + 1) → first ≡ numberAt nodes (5 * n + 2)
-      → second ≡ numberAt nodes (5 * n + 3) → node kind arg first second (numberAt nodes (5 * n + 4)) ≡ nodeFrom nodes (5 * n)
-  read-four kind arg first second a b c d = rw (a, b, c, d)
-
+  -- A node whose numbers a function has read.
   pub read-five : (kind arg first second third : ℕ) → kind ≡ numberAt nodes (5 * n) → arg ≡ numberAt nodes (5 * n + 1) → first ≡ numberAt nodes (5 * n + 2)
       → second ≡ numberAt nodes (5 * n + 3) → third ≡ numberAt nodes (5 * n + 4) → node kind arg first second third ≡ nodeFrom nodes (5 * n)
   read-five kind arg first second third a b c d e = rw (a, b, c, d, e)

@@ -13,7 +13,7 @@ use Rattle.rules_links.specs.Classes.{Classed, linkedBy, Learnt}
 use Rattle.rules_links.proofs.Growing.{nothing-learnt, learnt-as, learnt-both}
 use Rattle.rules_meet.specs.Branches.{GrownFrom, Behind}
 use Rattle.rules_statements.specs.Checking.{CheckedAs}
-use Rattle.rules_statements.specs.declared.Checked.{Checked}
+use Rattle.rules_branches.specs.declared.Checked.{Checked}
 
 module _ (scope : Scope) (before : List ℕ) (classed : Classed before) (statement : Statement) (r : Checked) where
   abbrev linked : Links

@@ -3,9 +3,7 @@ use mathlib.Core.Path.{_≡_, refl, ap, sym, _∙_}
 use mathlib.Core.Bool.{Bool, false, _||_}
 use mathlib.Core.List.{List, _++_}
 use Prim.Native.Nat.{ℕ, _*_, _/_, _<_, _≤_, min}
-use native.Mathlib.Omega.{arith}
-use lib.ListN.{length, take, drop, length-append, length-drop}
-use lib.Seq.{take-append-seam}
+use lib.ListN.{length}
 use Rattle.definitions.specs.ContractFile.{Expression, Statement, Scope, NodeRecord, Node, nodeOf, nodeAt}
 use Rattle.definitions.specs.Owners.{linksOfCondition}
 use Rattle.definitions.specs.Numbers.{statementFaults, conditionFaults}
@@ -22,7 +20,7 @@ use Rattle.rules_marks.specs.Marks.{marked, ownerAt}
 use Rattle.rules_marks.proofs.Marking.{marked-length}
 use Rattle.rules_marks.proofs.Parts.{none-marked, sequence-marked, put-marked, required-marked, entry-put-marked, conditional-marked}
 use Rattle.rules_statements.specs.Checking.{markedUnder, JudgedStatement}
-use Rattle.rules_statements.specs.declared.Checked.{Checked}
+use Rattle.rules_branches.specs.declared.Checked.{Checked}
 use Rattle.rules_statements.proofs.Checking.{skip-is, assign-field-is, assign-entry-is, require-is, sequence-is, conditional-is}
 
 marks-long : (owner : ℕ → ℕ) (ns owners owners′ : List ℕ) → owners′ ≡ marked owner ns owners → length owners′ ≡ length owners
@@ -35,16 +33,6 @@ under-long fields parameters nodes n owners owners′ h = marks-long _ _ owners 
 pub column-long : {fields parameters nodes : List ℕ} {n : ℕ} {classes classes′ owners owners′ : List ℕ} {r : Checked}
     → JudgedStatement fields parameters nodes n classes classes′ owners owners′ r → length owners′ ≡ length owners
 column-long h = marks-long _ _ _ _ (h .column)
-
--- An array whose front was lent and came back as some list: its length, and its front.
-pub array-long : (front room : List ℕ) (count : ℕ) → length front ≡ count → count ≤ length room → length (front ++ drop count room) ≡ length room
-array-long front room count e h =
-    let a = length-append front (drop count room) in
-    let b = length-drop count room in
-    omega arith
-
-pub array-front : (front rest : List ℕ) (count : ℕ) → length front ≡ count → take count (front ++ rest) ≡ front
-array-front front rest count e = ap (λ (n : ℕ). take n (front ++ rest)) (sym e) ∙ take-append-seam front rest
 
 pub classed-as : {given classes : List ℕ} → given ≡ classes → Classed classes → Classed given
 classed-as e h = rw e h
@@ -75,64 +63,66 @@ module _ (fields parameters nodes : List ℕ) (bodies : NodesReady fields nodes)
         column = none-marked (nodesIn nodes) fall owner n r at owners owners h17 h18 h19 h20 h21 refl;
       }
 
-  pub field-judged : (owners′ : List ℕ) (fault : ℕ) → Classed classes → r .kind ≡ 18 → q ≡ record { fault = fault; added = false }
-      → leastFault (statementFaults scope (linkedBy classes) (Statement.assignField (r .arg) (expressionIn (nodesIn nodes) (r .first)))) ≡ fault
-      → owners′ ≡ markedUnder fields parameters nodes (r .first) owners → JudgedStatement fields parameters nodes n classes classes owners owners′ q
-  field-judged owners′ fault classed e is h marks =
+  pub field-judged : (owners′ : List ℕ) → Classed classes → r .kind ≡ 18
+      → leastFault (statementFaults scope (linkedBy classes) (Statement.assignField (r .arg) (expressionIn (nodesIn nodes) (r .first)))) ≡ q .fault
+      → owners′ ≡ markedUnder fields parameters nodes (r .first) owners → q .added ≡ false → JudgedStatement fields parameters nodes n classes classes owners owners′ q
+  field-judged owners′ classed e h marks added =
       record {
-        checked = assign-field-is scope classes classed _ q _ _ fault (trees.assign-field-tree fields nodes bodies n inside r same e) is h;
+        checked = assign-field-is scope classes classed _ q _ _ (q .fault) (trees.assign-field-tree fields nodes bodies n inside r same e)
+            (ap (λ (a : Bool). record { fault = q .fault; added = a }) added) h;
         column = put-marked (nodesIn nodes) fall owner n r at owners owners′ marks e;
       }
 
-  pub entry-judged : (owners′ : List ℕ) (fault : ℕ) → Classed classes → r .kind ≡ 19 → q ≡ record { fault = fault; added = false }
+  pub entry-judged : (owners′ : List ℕ) → Classed classes → r .kind ≡ 19
       → leastFault (statementFaults scope (linkedBy classes)
-      (Statement.assignEntry (r .arg) (expressionIn (nodesIn nodes) (r .first)) (expressionIn (nodesIn nodes) (r .second)))) ≡ fault
-      → owners′ ≡ markedUnder fields parameters nodes (r .second) (markedUnder fields parameters nodes (r .first) owners)
+      (Statement.assignEntry (r .arg) (expressionIn (nodesIn nodes) (r .first)) (expressionIn (nodesIn nodes) (r .second)))) ≡ q .fault
+      → owners′ ≡ markedUnder fields parameters nodes (r .second) (markedUnder fields parameters nodes (r .first) owners) → q .added ≡ false
       → JudgedStatement fields parameters nodes n classes classes owners owners′ q
-  entry-judged owners′ fault classed e is h marks =
+  entry-judged owners′ classed e h marks added =
       record {
-        checked = assign-entry-is scope classes classed _ q _ _ _ fault (trees.assign-entry-tree fields nodes bodies n inside r same e) is h;
+        checked = assign-entry-is scope classes classed _ q _ _ _ (q .fault) (trees.assign-entry-tree fields nodes bodies n inside r same e)
+            (ap (λ (a : Bool). record { fault = q .fault; added = a }) added) h;
         column = entry-put-marked (nodesIn nodes) fall owner n r at owners (markedUnder fields parameters nodes (r .first) owners) owners′ e refl marks;
       }
 
-  pub require-judged : (after owners′ : List ℕ) (fault : ℕ) (added : Bool) → r .kind ≡ 20 → q ≡ record { fault = fault; added = added }
-      → leastFault (conditionFaults scope (linkedBy classes) (expressionIn (nodesIn nodes) (r .first))) ≡ fault
+  pub require-judged : (after owners′ : List ℕ) → r .kind ≡ 20
+      → leastFault (conditionFaults scope (linkedBy classes) (expressionIn (nodesIn nodes) (r .first))) ≡ q .fault
       → owners′ ≡ markedUnder fields parameters nodes (r .first) owners
-      → Learnt classes after added (linksOfCondition scope (expressionIn (nodesIn nodes) (r .first)) (linkedBy classes))
+      → Learnt classes after (q .added) (linksOfCondition scope (expressionIn (nodesIn nodes) (r .first)) (linkedBy classes))
       → JudgedStatement fields parameters nodes n classes after owners owners′ q
-  require-judged after owners′ fault added e is h marks learns =
+  require-judged after owners′ e h marks learns =
       record {
-        checked = require-is scope classes after _ q _ fault added (trees.require-tree fields nodes bodies n inside r same e) is h learns;
+        checked = require-is scope classes after _ q _ (q .fault) (q .added) (trees.require-tree fields nodes bodies n inside r same e) refl h learns;
         column = required-marked (nodesIn nodes) fall owner n r at owners owners′ marks e;
       }
 
-  pub sequence-judged : (between after mid owners′ : List ℕ) (one two : Checked) (fault : ℕ) (added : Bool) → r .kind ≡ 17
-      → q ≡ record { fault = fault; added = added }
+  pub sequence-judged : (between after mid owners′ : List ℕ) (one two : Checked) → r .kind ≡ 17
       → JudgedStatement fields parameters nodes (r .first) classes between owners mid one
       → JudgedStatement fields parameters nodes (r .second) between after mid owners′ two
-      → fault ≡ min (one .fault) (two .fault) → added ≡ (one .added || two .added)
+      → q .fault ≡ min (one .fault) (two .fault) → q .added ≡ (one .added || two .added)
       → JudgedStatement fields parameters nodes n classes after owners owners′ q
-  sequence-judged between after mid owners′ one two fault added e is h k f a =
+  sequence-judged between after mid owners′ one two e h k f a =
       record {
-        checked = sequence-is scope classes after _ q between _ _ one two fault added (trees.sequence-tree fields nodes bodies n inside r same e) is (h .checked)
-            (k .checked) f a;
+        checked = sequence-is scope classes after _ q between _ _ one two (q .fault) (q .added)
+            (trees.sequence-tree fields nodes bodies n inside r same e) refl (h .checked) (k .checked) f a;
         column = sequence-marked (nodesIn nodes) fall owner n r at owners mid owners′ e (h .column) (k .column);
       }
 
   -- The links before the if, and those at the end of the else-branch, are read in slices of their own.
-  pub conditional-judged : (before given other learnt taken passed after mid later owners′ : List ℕ) (states grown added : Bool) (one two : Checked) (c fault : ℕ)
-      → before ≡ classes → given ≡ classes → other ≡ passed → r .kind ≡ 21 → q ≡ record { fault = fault; added = added }
-      → leastFault (conditionFaults scope (linkedBy classes) (expressionIn (nodesIn nodes) (r .first))) ≡ c
+  pub conditional-judged : (before given other learnt taken passed after mid later owners′ : List ℕ) (met one two : Checked)
+      → before ≡ classes → given ≡ classes → other ≡ passed → r .kind ≡ 21
+      → leastFault (conditionFaults scope (linkedBy classes) (expressionIn (nodesIn nodes) (r .first))) ≡ met .fault
       → mid ≡ markedUnder fields parameters nodes (r .first) owners
-      → Learnt classes learnt states (linksOfCondition scope (expressionIn (nodesIn nodes) (r .first)) (linkedBy classes))
+      → Learnt classes learnt (met .added) (linksOfCondition scope (expressionIn (nodesIn nodes) (r .first)) (linkedBy classes))
       → JudgedStatement fields parameters nodes (r .second) learnt taken mid later one
       → JudgedStatement fields parameters nodes (r .third) given passed later owners′ two
-      → grown ≡ (states || one .added) → Behind before taken grown other (two .added) after added
-      → fault ≡ min (min c (one .fault)) (two .fault) → JudgedStatement fields parameters nodes n classes after owners owners′ q
-  conditional-judged before given other learnt taken passed after mid later owners′ states grown added one two c fault b g o e is h marks learns inThen inElse w behind f =
+      → q .fault ≡ min (min (met .fault) (one .fault)) (two .fault) → Behind before taken (met .added || one .added) other (two .added) after (q .added)
+      → JudgedStatement fields parameters nodes n classes after owners owners′ q
+  conditional-judged before given other learnt taken passed after mid later owners′ met one two b g o e h marks learns inThen inElse f behind =
       let else-judged = rw g at inElse in
       record {
-        checked = conditional-is scope classes learnt taken passed _ _ _ states one two learns (inThen .checked) (else-judged .checked) _ q after c fault grown added
-            (trees.conditional-tree fields nodes bodies n inside r same e) is w (rw (b, o) at behind) f h;
+        checked = conditional-is scope classes learnt taken passed _ _ _ (met .added) one two learns (inThen .checked) (else-judged .checked) _ q after
+            (met .fault) (q .fault) (met .added || one .added) (q .added) (trees.conditional-tree fields nodes bodies n inside r same e) refl refl
+            (rw (b, o) at behind) f h;
         column = conditional-marked (nodesIn nodes) fall owner n r at owners mid later owners′ e marks (inThen .column) (else-judged .column);
       }

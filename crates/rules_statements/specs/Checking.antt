@@ -11,7 +11,7 @@ use Rattle.rules_links.specs.Classes.{linkedBy, Learnt}
 use Rattle.rules_marks.specs.Marks.{marked, ownerAt, expressionsUnder, statementsUnder}
 use Rattle.rules_scopes.specs.Trees.{nodesIn}
 use Rattle.rules_scopes.specs.Scopes.{scopeFrom}
-use Rattle.rules_statements.specs.declared.Checked.{Checked}
+use Rattle.rules_branches.specs.declared.Checked.{Checked}
 
 -- The column when the nodes of one expression were judged.
 abbrev pub markedUnder : List ℕ → List ℕ → List ℕ → ℕ → List ℕ → List ℕ

@@ -9,7 +9,7 @@ ghost use lib.ListN.{length};
 ghost use Rattle.definitions.specs.Report.{decimal};
 ghost use Rattle.io.specs.Counts.{Counts};
 ghost use Rattle.memory_append.specs.Append.{Appended};
-ghost use Rattle.program_input.specs.Inputs.{whereReady};
+ghost use Rattle.program_reading.specs.Inputs.{whereReady};
 ghost use Rattle.test_shared.specs.Parts.{partIn};
 ghost use Rattle.test_shared.specs.Bytes.{sameBytes};
 ghost use Rattle.test_shared.specs.Lines.{tallyLine};

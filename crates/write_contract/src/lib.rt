@@ -3,6 +3,7 @@ use check_contract::check;
 use check_refusals::is_refused;
 use file_bytes::read_layout;
 use write_crossings::no_counts;
+use write_extents::is_short;
 use write_output::Answer;
 use write_output::hand_out;
 use write_parts::write_parts;
@@ -51,7 +52,7 @@ fn write_short(file: &[u8], out: &mut [u8]) -> Answer
     let mut roots = [0u16; 200];
     let mut numbers = [0u16; 768];
     let mut claims = [0u8; 1152];
-    let mut headings = [0u8; 9172];
+    let mut headings = [0u8; 2898];
     let mut nodes = [0u8; 9172];
     write_in(
         file,
@@ -76,7 +77,7 @@ fn write_long(file: &[u8], out: &mut [u8]) -> Answer
     let mut roots = [0u16; 1544];
     let mut numbers = [0u16; 6144];
     let mut claims = [0u8; 9216];
-    let mut headings = [0u8; 37844];
+    let mut headings = [0u8; 10962];
     let mut nodes = [0u8; 37844];
     write_in(
         file,
@@ -108,7 +109,7 @@ pub fn write(file: &[u8], out: &mut [u8]) -> Answer
         };
     }
     let layout = read_layout(file);
-    if layout.nodes <= 64 {
+    if is_short(layout.nodes) {
         write_short(file, out)
     } else {
         write_long(file, out)

@@ -1,12 +1,20 @@
-// 01, Rewriting: how far written functions reach: whether one is verified, how many numbers its constraints take, where the next one goes.
+// 01, Rewriting: how far written functions reach: whether a contract is short and a function verified, how many numbers its constraints
+// take, where the next one goes.
 ghost use mathlib.Core.Path.{_≡_};
 ghost use Prim.Native.Nat.{_+_, _*_, _≤_};
-ghost use lib.Dec.{ltb};
+ghost use lib.Dec.{leb, ltb};
 
 // Where the headings end, and how many nodes there are.
 pub struct Extent {
     pub end: usize,
     pub nodes: usize,
+}
+
+// Whether a contract of so many nodes is written and walked in short memory, which costs less to clear.
+pub fn is_short(nodes: usize) -> bool
+    ensures { λ r. ⌜ r ≡ leb nodes 64 ⌝ }
+{
+    nodes <= 64
 }
 
 // "A verify ends the body if any constraint exists."

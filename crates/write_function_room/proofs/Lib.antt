@@ -1,4 +1,5 @@
 pub mod Sparse
 pub mod Owners
 pub mod Written
+pub mod Headings
 pub mod Room

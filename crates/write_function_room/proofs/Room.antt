@@ -1,12 +1,13 @@
 -- Each function of an accepted file can be written, behind those before it and alone.
-use mathlib.Core.Path.{_≡_, ap, _∙_}
+use mathlib.Core.Path.{_≡_, ap, sym, _∙_}
 use mathlib.Core.List.{List, [], _∷_}
 use Prim.Native.Nat.{ℕ, zero, suc, _+_, _*_, _-_, _<_, _≤_}
 use native.Mathlib.Omega.{arith}
-use lib.ListN.{length}
+use lib.ListN.{length, take}
+use lib.Seq.{take-length}
 use Rattle.definitions.specs.ContractFile.{Statement, Function, functionAt, byteAt, functionCount, nodesAt, nodeCount, sectionsOf, contractOf}
 use Rattle.definitions.specs.Numbers.{checkNumber}
-use Rattle.definitions.specs.Rewriting.{always}
+use Rattle.definitions.specs.Rewriting.{always, WrittenFunction, rewrite, functionsBytes}
 use Rattle.file_accepted.proofs.Declarations.{parameters-count}
 use Rattle.file_bytes.proofs.Sections.{count-of-nodes}
 use Rattle.theory_accepted.specs.Settled.{Settled}
@@ -14,7 +15,7 @@ use Rattle.theory_accepted.proofs.Sentences.{accepted-settled}
 use Rattle.theory_trees.specs.Trees.{statementIn}
 use Rattle.file_accepted.specs.Context.{nodesIn, fieldsIn, parametersIn, scopeIn, Known}
 use Rattle.file_accepted.specs.Functions.{functionStart, rootAt}
-use Rattle.file_accepted.proofs.Accepted.{few-functions, known-of}
+use Rattle.file_accepted.proofs.Accepted.{few-functions, few-fields, known-of}
 use Rattle.file_accepted.proofs.Functions.{functions-count, function-in, root-below}
 use Rattle.rewrite_events.specs.Events.{variableCount}
 use Rattle.theory_trees.specs.Sizes.{statementSize}
@@ -23,12 +24,14 @@ use Rattle.write_variables.specs.Variables.{ownersFit}
 use Rattle.write_parameters.specs.Parameters.{privateCount}
 use Rattle.write_room.specs.Sizes.{bodiesSize}
 use Rattle.write_room.proofs.Functions.{private-length, rewritten-weight}
+use Rattle.write_room.proofs.Acceptance.{counts, few-parameters}
 use Rattle.write_room.proofs.Room.{nodes-suffice, room-suffices, room-by-nodes}
-use Rattle.write_function_room.specs.Functions.{functionIn, privateIn, eventsIn, headingsBefore, nodesBefore, mostBytes, FunctionRoom}
+use Rattle.write_function_room.specs.Functions.{functionIn, privateIn, eventsIn, headingsBefore, nodesBefore, mostBytes, mostHeadings, writtenFunctions, FunctionRoom}
 use Rattle.write_function_room.proofs.Sparse.{variables-sparse}
 use Rattle.rewrite_event_owners.proofs.Files.{owners-listed}
 use Rattle.write_function_room.proofs.Owners.{owners-fit}
-use Rattle.write_function_room.proofs.Written.{before-step, headings-before-step, written-length}
+use Rattle.write_function_room.proofs.Written.{before-step, headings-before-step, written-length, functions-counted}
+use Rattle.write_function_room.proofs.Headings.{function-heading, functions-headings}
 
 body-within : (gs : List Function) (f : ℕ) → f < length gs → statementSize ((functionAt gs f) .body) ≤ bodiesSize gs
 unfolding bodiesSize
@@ -66,6 +69,18 @@ module _ (file : List ℕ) (accepted : checkNumber file ≡ 0) where
 
   pub file-fits-by-nodes : headingsBefore file (functionCount file) + 2 + 8 * nodesBefore file (functionCount file) ≤ mostBytes file
   file-fits-by-nodes = omega (arith, room-by-nodes file accepted, written-length file, count-of-nodes file)
+
+  -- Of the headings alone: those of sixteen functions, behind 64 fields.
+  pub headings-by-nodes : headingsBefore file (functionCount file) ≤ mostHeadings file
+  unfolding contractOf nodesIn rewrite
+  headings-by-nodes =
+      let c = contractOf (sectionsOf file) in
+      let few = counts file accepted in
+      let all : take (functionCount file) (writtenFunctions file) ≡ writtenFunctions file = ap (λ (n : ℕ). take n (writtenFunctions file)) (sym (functions-counted file)) ∙ take-length (writtenFunctions file) in
+      let long = ap (λ (ws : List WrittenFunction). length (functionsBytes 0 ws)) all in
+      let own : length (functionsBytes 0 (writtenFunctions file)) ≤ 97 * length (c .functions) + 18 * bodiesSize (c .functions) =
+      functions-headings (c .fields) 0 (c .functions) (few-parameters (nodesIn file) ((sectionsOf file) .functions) (few .parameters)) in
+      omega (arith, functions-count file, functions-few, few-fields file (settled .counts), nodes-suffice file accepted, count-of-nodes file)
 
   module _ (f : ℕ) (inside : f < functionCount file) where
     abbrev start : ℕ
@@ -119,7 +134,7 @@ module _ (file : List ℕ) (accepted : checkNumber file ≡ 0) where
           owners = owners-small;
           heading = omega (arith, file-fits, headings-before-step file f inside);
           nodes = omega (arith, file-fits, before-step file f inside);
-          headingByNodes = omega (arith, file-fits-by-nodes, headings-before-step file f inside);
+          headingByNodes = omega (arith, headings-by-nodes, headings-before-step file f inside);
           nodesByNodes = omega (arith, file-fits-by-nodes, before-step file f inside);
         }
 
@@ -127,6 +142,7 @@ module _ (file : List ℕ) (accepted : checkNumber file ≡ 0) where
     function-room-alone =
         let few = parameters-count file start in
         let weight = rewritten-weight (fieldsIn file) 0 (functionIn file start) (omega (arith, function-context .fewParameters)) in
+        let own = function-heading (fieldsIn file) 0 (functionIn file start) (omega (arith, function-context .fewParameters)) in
         record {
           context = function-context;
           root = function-root;

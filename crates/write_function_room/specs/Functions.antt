@@ -41,6 +41,10 @@ nodesBefore file f = sizes (flatMap functionTrees (take f (writtenFunctions file
 abbrev pub mostBytes : List ℕ → ℕ
 mostBytes file = 5076 + 64 * nodeCount file
 
+-- The headings alone are never longer.
+abbrev pub mostHeadings : List ℕ → ℕ
+mostHeadings file = 1746 + 18 * nodeCount file
+
 -- The function that begins at a place can be written: its heading from a place of so many bytes on, its nodes from a number of as many
 -- bytes on.
 pub record FunctionRoom (file : List ℕ) (at from base : ℕ) : Type 0 where
@@ -52,5 +56,5 @@ pub record FunctionRoom (file : List ℕ) (at from base : ℕ) : Type 0 where
   pub owners : ownersFit (eventsIn file at)
   pub heading : from + length (functionBytes base (writtenIn file at)) ≤ 49152
   pub nodes : 8 * (base + sizes (functionTrees (writtenIn file at))) ≤ 49152
-  pub headingByNodes : from + length (functionBytes base (writtenIn file at)) ≤ mostBytes file
+  pub headingByNodes : from + length (functionBytes base (writtenIn file at)) ≤ mostHeadings file
   pub nodesByNodes : 8 * (base + sizes (functionTrees (writtenIn file at))) ≤ mostBytes file

@@ -13,7 +13,7 @@ use Rattle.file_accepted.specs.Context.{nodesIn, scopeIn, Source}
 use Rattle.rewrite_events.specs.Events.{variableCount, constraintsOf}
 use Rattle.rewrite_log.specs.Entries.{Entries}
 use Rattle.write_circuits.specs.Circuits.{sixesFrom}
-use Rattle.write_function_room.specs.Functions.{writtenIn, privateIn, eventsIn, mostBytes, FunctionRoom}
+use Rattle.write_function_room.specs.Functions.{writtenIn, privateIn, eventsIn, mostBytes, mostHeadings, FunctionRoom}
 use Rattle.write_functions.specs.declared.Parts.{Parts}
 use Rattle.write_functions.specs.declared.Finished.{Finished}
 
@@ -53,7 +53,7 @@ pub record HeadingReady (file : List ℕ) (at : ℕ) (log numbers claims heading
   pub told : Told file at base log numbers parts
   pub whole : total ≡ sizes (functionTrees (writtenIn file at))
   pub claimSpace : 18 * nodeCount file ≤ length claims
-  pub headingSpace : mostBytes file ≤ length headings
+  pub headingSpace : mostHeadings file ≤ length headings
 
 pub record FunctionReady (file : List ℕ) (at : ℕ) (source : List ℕ) (log scratch roots numbers claims headings : List ℕ) (from : ℕ)
     (nodes : List ℕ) (base : ℕ) : Type 0 where
@@ -64,7 +64,7 @@ pub record FunctionReady (file : List ℕ) (at : ℕ) (source : List ℕ) (log s
   pub rootSpace : 3 * nodeCount file + 8 ≤ length roots
   pub numberSpace : 12 * nodeCount file ≤ length numbers
   pub claimSpace : 18 * nodeCount file ≤ length claims
-  pub headingSpace : mostBytes file ≤ length headings
+  pub headingSpace : mostHeadings file ≤ length headings
   pub nodeSpace : mostBytes file ≤ length nodes
 
 pub record FunctionWritten (file : List ℕ) (at : ℕ) (headings headingsAfter : List ℕ) (from : ℕ) (nodes nodesAfter : List ℕ)

@@ -3,6 +3,7 @@ use memory_append::append;
 use memory_append::append_two_bytes;
 use write_crossings::Counts;
 use write_crossings::no_counts;
+ghost use mathlib.Core.Path.{_≡_};
 ghost use mathlib.Core.List.{_++_};
 ghost use Prim.Native.Nat.{_≤_};
 ghost use lib.ListN.{length};
@@ -14,6 +15,19 @@ pub struct Answer {
     pub number: u8,
     pub length: usize,
     pub counts: Counts,
+}
+
+// Room for whatever is written of an accepted file of at most 512 bytes, which has at most 64 nodes; and of any accepted file.
+pub fn short_written_room() -> [u8; 9172]
+    ensures { λ r. ⌜ 9172 ≡ length r ⌝ }
+{
+    [0; 9172]
+}
+
+pub fn written_room() -> [u8; 37844]
+    ensures { λ r. ⌜ 37844 ≡ length r ⌝ }
+{
+    [0; 37844]
 }
 
 // "16. The lent output is too short": else headings, count of nodes and nodes stand there, one behind another.

@@ -22,9 +22,9 @@ use Rattle.memory_append.proofs.Appending.{appended-then}
 use Rattle.write_fields.specs.Fields.{fieldSection}
 use Rattle.write_fields.proofs.Fields.{section-length}
 use Rattle.write_crossings.proofs.Sixteen.{sixteen-next}
-use Rattle.write_function_room.specs.Functions.{writtenIn, writtenFunctions, headingsBefore, nodesBefore, mostBytes, FunctionRoom}
+use Rattle.write_function_room.specs.Functions.{writtenIn, writtenFunctions, headingsBefore, nodesBefore, mostBytes, mostHeadings, FunctionRoom}
 use Rattle.write_function_room.proofs.Written.{functions-counted, take-next, headings-step, node-bytes-step, before-step, headings-before-step, nodes-before-length, start-step, before-first, headings-first, file-parts, written-length}
-use Rattle.write_function_room.proofs.Room.{file-fits, file-fits-by-nodes}
+use Rattle.write_function_room.proofs.Room.{file-fits, file-fits-by-nodes, headings-by-nodes}
 use Rattle.write_parts.specs.Parts.{headingsOf, nodesOf, crossingsOf, headingPart, nodePart, FunctionsPut, PartsPut}
 
 module _ (file : List ℕ) where
@@ -54,7 +54,7 @@ module _ (file : List ℕ) where
       places-fit start s room = rw (s, put .end, put .count) room
 
       module _ (inside : f < functionCount file) (room : FunctionRoom file (functionStart file f) (headingsBefore file f) (nodesBefore file f))
-          (first : from ≡ 1 + 3 * fieldCount file + 1) (longHeadings : mostBytes file ≤ length h₀) (longNodes : mostBytes file ≤ length n₀) where
+          (first : from ≡ 1 + 3 * fieldCount file + 1) (longHeadings : mostHeadings file ≤ length h₀) (longNodes : mostBytes file ≤ length n₀) where
         headings-at : at ≡ from + length (headingsOf file f)
         headings-at = let e = put .end in omega arith
 
@@ -116,7 +116,7 @@ module _ (file : List ℕ) where
   all-put h₀ n₀ h n counts from f at base e put = rw e at put
 
   -- The fields, the count of functions, and the functions.
-  pub parts-put : (h₀ h₁ h₂ h₃ n₀ n counts : List ℕ) (fields from end base count : ℕ) → mostBytes file ≤ length h₀ → fieldCount file ≤ 64 → count ≡ functionCount file
+  pub parts-put : (h₀ h₁ h₂ h₃ n₀ n counts : List ℕ) (fields from end base count : ℕ) → mostHeadings file ≤ length h₀ → fieldCount file ≤ 64 → count ≡ functionCount file
       → Appended h₀ h₁ 0 (fieldSection file) fields → Appended h₁ h₂ fields (count ∷ []) from → FunctionsPut file (functionCount file) from h₂ h₃ n₀ n end base counts
       → PartsPut file h₀ h₃ n₀ n end base counts
   parts-put h₀ h₁ h₂ h₃ n₀ n counts fields from end base count long few c a b put =
@@ -164,6 +164,9 @@ module _ (file : List ℕ) where
 
     pub parts-fit-by-nodes : end + 2 + 8 * base ≤ mostBytes file
     parts-fit-by-nodes = let e = put .end in let c = put .count in let l = heading-length in omega (arith, file-fits-by-nodes file accepted)
+
+    pub headings-fit-by-nodes : end ≤ mostHeadings file
+    headings-fit-by-nodes = let e = put .end in let l = heading-length in omega (arith, headings-by-nodes file accepted)
 
     pub parts-make : writtenFile file ≡ headingPart file ++ twoBytes base ++ nodePart file
     parts-make = file-is ∙ ap (λ (k : ℕ). headingPart file ++ twoBytes k ++ nodePart file) (sym (put .count))

@@ -12,7 +12,7 @@ use Rattle.theory_crossings.specs.Crossings.{crossings}
 use Rattle.file_accepted.specs.Functions.{functionStart}
 use Rattle.memory_buffer.specs.Buffer.{stored}
 use Rattle.write_fields.specs.Fields.{fieldSection}
-use Rattle.write_function_room.specs.Functions.{writtenFunctions, headingsBefore, nodesBefore, mostBytes}
+use Rattle.write_function_room.specs.Functions.{writtenFunctions, headingsBefore, nodesBefore, mostBytes, mostHeadings}
 use Rattle.file_accepted.specs.Context.{Source}
 
 -- The headings and the nodes of the first f functions.
@@ -35,7 +35,7 @@ nodePart file = nodesOf file (functionCount file)
 -- An accepted file, and room for all that can be written of one.
 pub record Ready (file headings nodes : List ℕ) : Type 0 where
   pub accepted : checkNumber file ≡ 0
-  pub headingSpace : mostBytes file ≤ length headings
+  pub headingSpace : mostHeadings file ≤ length headings
   pub nodeSpace : mostBytes file ≤ length nodes
 
 -- The first f functions stand in the buffers; the next one begins where they end.

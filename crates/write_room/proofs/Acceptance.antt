@@ -2,15 +2,15 @@
 use mathlib.Core.Path.{_≡_, refl, ap, _∙_}
 use mathlib.Core.Bool.{Bool, false, _||_, not}
 use mathlib.Core.List.{List, [], _∷_, _++_, map}
-use Prim.Native.Nat.{ℕ, _+_, _≤_, _<_}
+use Prim.Native.Nat.{ℕ, _+_, _*_, _≤_, _<_}
 use native.Mathlib.Omega.{arith}
 use borrow.Author.Tests.{ltb-false, leb-false, not-false, eqb-true}
 use lib.Dec.{eqb, leb, ltb}
 use lib.ListN.{length, length-map}
 use Rattle.definitions.specs.Basics.{any, anyNumbered, countIf, flatMap, isZero}
-use Rattle.definitions.specs.ContractFile.{FunctionRecord, NodeRecord, Sections, fieldCount, functionCount, nodeCount, nodesAt, nodeRecords, sectionsOf, fieldOf, parameterOf, Node, nodeOf, children, fieldsNamed, functionOf}
+use Rattle.definitions.specs.ContractFile.{FunctionRecord, NodeRecord, Sections, fieldCount, functionCount, nodeCount, nodesAt, fileEnd, nodeRecords, sectionsOf, fieldOf, parameterOf, Node, nodeOf, children, fieldsNamed, functionOf}
 use Rattle.definitions.specs.Reading.{sectionsRead}
-use Rattle.definitions.specs.Numbers.{countOffLimits, namesNothing, fieldOfDeclaredOwner, usesOf, usedOtherThanOnce, checkNumber}
+use Rattle.definitions.specs.Numbers.{endsWrongly, countOffLimits, namesNothing, fieldOfDeclaredOwner, usesOf, usedOtherThanOnce, checkNumber}
 use Rattle.theory_laws.proofs.Lists.{count-append, none-numbered}
 use Rattle.theory_laws.proofs.Records.{fields-length, force-is, functions-length, node-records-length}
 use Rattle.theory_laws.proofs.TruthValues.{or-left, or-right}
@@ -97,6 +97,11 @@ module _ (file : List ℕ) (accepted : checkNumber file ≡ 0) where
         parameters = or-right (ltb 64 (fieldCount file) || isZero (functionCount file) || ltb 16 (functionCount file)) manyParameters four;
         nodes = omega arith;
       }
+
+  -- Number 1: eight bytes of the file for each node.
+  pub nodes-in-length : 8 * length (sections .nodes) ≤ length file
+  unfolding endsWrongly
+  nodes-in-length = omega (arith, eqb-true (length file) (fileEnd file) (not-false _ (settled .ends)), nodes-counted)
 
   -- Number 4.
   abbrev ownersOff : Bool

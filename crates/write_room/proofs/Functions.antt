@@ -1,5 +1,5 @@
 -- The bytes of written functions and of a written contract, from the sizes of the bodies that were rewritten.
-use mathlib.Core.Path.{_≡_, refl}
+use mathlib.Core.Path.{_≡_, refl, ap}
 use mathlib.Core.Bool.{Bool, true, false, cond}
 use mathlib.Core.List.{List, [], _∷_, _++_, map}
 use Prim.Native.Nat.{ℕ, suc, _+_, _*_, _-_, _≤_}
@@ -105,6 +105,43 @@ function-weight n g =
     (twoBytes (length (eachOnce [] (flatMap keyOf (g .variables))))) (eachOnce [] (flatMap keyOf (g .variables))) (twoBytes (length (g .constraints))) (constraintBytes n (g .constraints))
     (twoBytes (n + sizes (functionTrees g) - 1)) in
     omega arith
+
+-- Its heading alone.
+constraints-length : (n : ℕ) (cs : List Constraint) → length (constraintBytes n cs) ≡ 6 * length cs
+unfolding constraintBytes
+constraints-length n [] = refl
+constraints-length n (c ∷ cs) =
+    let m = n + sizes (claimTrees (c .claim)) in
+    let h = constraints-length m cs in
+    let k = claim-length n (c .claim) in
+    let a = length-append (twoBytes (guardNumber (c .guard)) ++ claimBytes n (c .claim)) (constraintBytes m cs) in
+    let b = length-append (twoBytes (guardNumber (c .guard))) (claimBytes n (c .claim)) in
+    omega arith
+
+pub heading-length : (n : ℕ) (g : WrittenFunction)
+    → length (functionBytes n g) ≤ 9 + 2 * length (g .parameters) + 3 * length (g .variables) + 6 * length (g .constraints)
+unfolding functionWritten
+heading-length n g =
+    let p = flat-two parameterBytes parameter-length (g .parameters) in
+    let v = flat-two variableBytes (λ x. refl) (g .variables) in
+    let k = keys-length (g .variables) in
+    let c = constraints-length n (g .constraints) in
+    let whole =
+    eight-lengths (length (g .parameters) ∷ flatMap parameterBytes (g .parameters)) (twoBytes (length (g .variables))) (flatMap variableBytes (g .variables))
+    (twoBytes (length (eachOnce [] (flatMap keyOf (g .variables))))) (eachOnce [] (flatMap keyOf (g .variables))) (twoBytes (length (g .constraints))) (constraintBytes n (g .constraints))
+    (twoBytes (n + sizes (functionTrees g) - 1)) in
+    omega arith
+
+-- One variable and one constraint for each private parameter.
+pub openings-variables : (ks : List ℕ) (i : ℕ) → length ((openings ks i) .variables) ≡ length ks
+unfolding openings
+openings-variables [] i = refl
+openings-variables (k ∷ ks) i = ap suc (openings-variables ks (suc i))
+
+pub openings-constraints : (ks : List ℕ) (i : ℕ) → length (heldUnder always ((openings ks i) .claims)) ≡ length ks
+unfolding openings
+openings-constraints [] i = refl
+openings-constraints (k ∷ ks) i = ap suc (openings-constraints ks (suc i))
 
 pub record OpeningWeight (ks : List ℕ) (i : ℕ) : Type 0 where
   pub variables : length ((openings ks i) .variables) ≡ length ks

@@ -13,10 +13,11 @@ use Rattle.definitions.specs.Numbers.{checkNumber, orElse}
 use Rattle.definitions.specs.Rewriting.{writtenFile, writeNumber}
 use Rattle.theory_trees.specs.Trees.{Falling}
 use Rattle.write_room.specs.Sizes.{bodiesSize}
+use Rattle.write_room.specs.Rooms.{Suffices}
 use Rattle.write_room.specs.Counting.{sumOf}
 use Rattle.write_room.proofs.Functions.{contract-length}
 use Rattle.write_room.proofs.Counting.{treeSize, trees-covered}
-use Rattle.write_room.proofs.Acceptance.{few-parameters, counts, roots-inside, falling, used-once}
+use Rattle.write_room.proofs.Acceptance.{few-parameters, counts, roots-inside, falling, used-once, nodes-in-length}
 
 bodies-within : (nodes : List Node) (falling : Falling nodes) (rs : List FunctionRecord)
     → bodiesSize (map (functionOf nodes) rs) ≤ sumOf (treeSize nodes falling) (map (λ r. r .root) rs)
@@ -52,11 +53,21 @@ room-by-nodes file accepted =
 pub room-suffices : (file : List ℕ) → checkNumber file ≡ 0 → length (writtenFile file) ≤ 49152
 room-suffices file accepted = omega (arith, room-by-nodes file accepted, counts file accepted .nodes)
 
--- So number 16 is never given in that room: the number of writing is the file's own.
-pub room-is-never-short : (file : List ℕ) → writeNumber file 49152 ≡ checkNumber file
+-- In a room that suffices number 16 is never given: the number of writing is the file's own.
+pub own-number-where-enough : (file : List ℕ) (room : ℕ) → Suffices file room → writeNumber file room ≡ checkNumber file
 unfolding writeNumber firstThatHolds
-room-is-never-short file = go (checkNumber file) refl
+own-number-where-enough file room enough = go (checkNumber file) refl
   where
-    go : (n : ℕ) → checkNumber file ≡ n → orElse n (firstThatHolds 16 (ltb 49152 (length (writtenFile file)) ∷ [])) ≡ n
-    go zero e = ap (λ b. cond {A = ℕ} b 16 0) (le-ltb 49152 (length (writtenFile file)) (room-suffices file e))
+    go : (n : ℕ) → checkNumber file ≡ n → orElse n (firstThatHolds 16 (ltb room (length (writtenFile file)) ∷ [])) ≡ n
+    go zero e = ap (λ b. cond {A = ℕ} b 16 0) (le-ltb room (length (writtenFile file)) (enough .fits e))
     go (suc n) e = refl
+
+pub room-is-never-short : (file : List ℕ) → writeNumber file 49152 ≡ checkNumber file
+room-is-never-short file = own-number-where-enough file 49152 (record { fits = room-suffices file })
+
+-- Of the nodes that number 2 lets pass, and of those that a short file has room for.
+pub any-file-fits : (file : List ℕ) → Suffices file 37844
+any-file-fits file = record { fits = λ accepted. omega (arith, room-by-nodes file accepted, counts file accepted .nodes) }
+
+pub short-file-fits : (file : List ℕ) → length file ≤ 512 → Suffices file 9172
+short-file-fits file short = record { fits = λ accepted. omega (arith, room-by-nodes file accepted, nodes-in-length file accepted) }

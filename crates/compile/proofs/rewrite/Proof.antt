@@ -1,7 +1,6 @@
 -- The room is never too short.
-use mathlib.Core.Path.{ap, _∙_}
-use Rattle.definitions.specs.Rewriting.{writeNumber}
-use Rattle.write_room.proofs.Room.{room-is-never-short}
+use mathlib.Core.Path.{_∙_}
+use Rattle.write_room.proofs.Room.{own-number-where-enough}
 use borrow.Author.Needs.{needs}
 use Rattle.compile.proofs.rewrite.Statement.{statement}
 use Rattle.compile.proofs.rewrite.Tie as tie
@@ -12,4 +11,4 @@ rewrite-spec =
     (λ c κs. search needs) (λ c. search needs)
     (λ c. let start = c .before .before .before .before .before .before in
     let promised = c .before .before .write .ensures in
-    (promised, promised .0 ∙ ap (writeNumber (start .args .file .now)) (start .pre) ∙ room-is-never-short (start .args .file .now))))
+    (promised, promised .0 ∙ own-number-where-enough (start .args .file .now) _ (start .pre))))

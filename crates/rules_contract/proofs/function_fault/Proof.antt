@@ -4,7 +4,8 @@ use Prim.Native.Nat.{_+_, _/_}
 use native.Mathlib.Omega.{arith}
 use lib.ListN.{length, drop}
 use lib.Seq.{length-take-le}
-use Rattle.rules_statements.proofs.Judged.{array-long, array-front, classed-as, column-long}
+use Rattle.rules_branches.proofs.Arrays.{array-long, array-front}
+use Rattle.rules_statements.proofs.Judged.{classed-as, column-long}
 use Rattle.rules_contract.proofs.Functions.{function-judged}
 use borrow.Author.Needs.{needs}
 use Rattle.rules_contract.proofs.function_fault.Statement.{statement}

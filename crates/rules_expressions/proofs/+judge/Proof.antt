@@ -1,11 +1,7 @@
 -- `rules_expressions::judge` meets its contract, by the number of its node: each kind from the judgements of its parts.
 use native.Mathlib.Omega.{arith}
 use borrow.Author.Needs.{needs}
-use mathlib.Core.Path.{_≡_}
-use Prim.Native.Nat.{ℕ, _+_, _*_, _<_}
-use Rattle.definitions.specs.ContractFile.{node}
-use Rattle.file_decoded.specs.Slices.{numberAt, nodeFrom}
-use Rattle.rules_scopes.proofs.Nodes.{read-three, read-four}
+use Prim.Native.Nat.{ℕ, _<_}
 use Rattle.rules_scopes.proofs.ByKind.{key-below, left-below, right-below, negated-below, revealed-below, field-there, mapping-there, target-listed, target-there}
 use Rattle.rules_expressions.proofs.Judging as kinds
 use borrow.Fn.Kinds.{In}
@@ -13,8 +9,7 @@ use borrow.Fn.PlainCycle.{Measures, is, falls, and}
 use Rattle.rules_expressions.proofs.judge.Reads as judge
 use Rattle.rules_expressions.proofs.judge.Kinds as judge-kinds
 use Rattle.rules_expressions.proofs.+judge.Lts-judge as judge-lts
-use Rattle.file_decoded.proofs.number_from.Reads as number-from-reads
-use Rattle.file_decoded.proofs.short_from.Reads as short-from-reads
+use Rattle.rules_nodes.proofs.read_node.Reads as read-node-reads
 use Rattle.rules_entries.proofs.entry_judged.Reads as entry-judged-reads
 use Rattle.rules_judgements.proofs.constant_judged.Reads as constant-judged-reads
 use Rattle.rules_judgements.proofs.field_judged.Reads as field-judged-reads
@@ -42,10 +37,8 @@ judge-below t = and 5 judge-kinds.ps (falls 5 judge-kinds.ps _<_ μ-judge t) jud
 
 abbrev judge-claims : ℕ → judge-lts.Claims
 judge-claims t = (
-  short-from-reads.Asked,
-  short-from-reads.Learnt,
-  number-from-reads.Asked,
-  number-from-reads.Learnt,
+  read-node-reads.Asked,
+  read-node-reads.Learnt,
   constant-judged-reads.Asked,
   constant-judged-reads.Learnt,
   mark-reads.Asked,
@@ -76,74 +69,58 @@ judge-claims t = (
   me-judged-reads.Learnt,
 )
 
--- The node's first numbers, as they were read.
-here : (t : ℕ) (c : judge-lts.After-number-from (judge-claims t) (judge-at t) judge.Post)
-    → let nodes = c .before .before .before .before .before .before .before .before .args .nodes .now in
-    let n = c .before .before .before .before .before .before .before .before .args .n in
-    node (c .before .before .short-from .result) (c .before .short-from2 .result) (c .number-from .result) (numberAt nodes (5 * n + 3)) (numberAt nodes (5 * n + 4)) ≡ nodeFrom nodes (5 * n)
-here t c = read-three (c .before .before .before .before .before .before .before .before .args .nodes .now) (c .before .before .before .before .before .before .before .before .args .n) _ _ _ (c .before .before .short-from .ensures) (c .before .short-from2 .ensures) (c .number-from .ensures .0)
-
 pub +judge-spec : {M : Type 1} → statement M
 +judge-spec = close μ-judge λ t. judge-lts.spec (judge-claims t)
     (judge-at t) judge.Post
-    (λ c. let s = c .before .before .before .before .before in omega (arith, s .pre .1 .0, s .pre .1 .1 .bodies .few))
-    (λ c κs. let s = c .before .before .before .before .before in omega (arith, s .pre .1 .0, s .pre .1 .1 .bodies .few))
-    (λ c. let s = c .before .before .before .before .before .before in omega (arith, s .pre .1 .0, s .pre .1 .1 .bodies .few))
-    (λ c κs. let s = c .before .before .before .before .before .before in omega (arith, s .pre .1 .0, s .pre .1 .1 .bodies .few))
-    (λ c. let s = c .before .before .before .before .before .before .before in omega (arith, s .pre .1 .0, s .pre .1 .1 .bodies .few))
-    (λ c κs. let s = c .before .before .before .before .before .before .before in omega (arith, s .pre .1 .0, s .pre .1 .1 .bodies .few))
+    (λ c κs. let s = c .before .before .before .before .before in (s .pre .1 .0, s .pre .1 .1 .bodies .few))
     (λ c κs. search needs)
-    (λ c κs. let s = c .before .before .before .before .before .before .before .before .before .before .before in omega (arith, s .pre .1 .0, s .pre .1 .2))
-    (λ c κs. let s = c .before .before .before .before .before .before .before .before .before .before in let ready = s .pre .1 .1 in let inside = s .pre .1 .0 in (ready .declared, field-there _ _ (ready .bodies) _ inside _ (here t (c .before .before)) (c .before .match .keys2)))
-    (λ c κs. let s = c .before .before .before .before .before .before .before .before .before .before .before in let ready = s .pre .1 .1 in let inside = s .pre .1 .0 in let there = field-there _ _ (ready .bodies) _ inside _ (here t (c .before .before .before)) (c .before .before .match .keys2) in
+    (λ c κs. let s = c .before .before .before .before .before .before .before .before .before in omega (arith, s .pre .1 .0, s .pre .1 .2))
+    (λ c κs. let s = c .before .before .before .before .before .before .before .before in let ready = s .pre .1 .1 in let inside = s .pre .1 .0 in (ready .declared, field-there _ _ (ready .bodies) _ inside _ (c .before .before .read-node .ensures) (c .before .match .keys2)))
+    (λ c κs. let s = c .before .before .before .before .before .before .before .before .before in let ready = s .pre .1 .1 in let inside = s .pre .1 .0 in let there = field-there _ _ (ready .bodies) _ inside _ (c .before .before .before .read-node .ensures) (c .before .before .match .keys2) in
     (omega (arith, there, ready .declared .few), kinds.place-class _ _ _ (s .args .classes .now) ready _ _ 0 (c .field-from .ensures) (omega (arith, kinds.enough _ _ _ (s .args .classes .now) ready))))
-    (λ c κs. let s = c .before .before .before .before .before .before .before .before .before .before .before .before in omega (arith, s .pre .1 .0, s .pre .1 .2))
-    (λ c κs. let s = c .before .before .before .before .before .before .before .before .before .before in let ready = s .pre .1 .1 in let inside = s .pre .1 .0 in let less = key-below _ _ (ready .bodies) _ inside _ (here t (c .before .before)) (c .before .match .keys3) in
+    (λ c κs. let s = c .before .before .before .before .before .before .before .before .before .before in omega (arith, s .pre .1 .0, s .pre .1 .2))
+    (λ c κs. let s = c .before .before .before .before .before .before .before .before in let ready = s .pre .1 .1 in let inside = s .pre .1 .0 in let less = key-below _ _ (ready .bodies) _ inside _ (c .before .before .read-node .ensures) (c .before .match .keys3) in
     (omega (arith, s .pre .0, less), (omega (arith, inside, less), ready, s .pre .1 .2)))
-    (λ c κs. let s = c .before .before .before .before .before .before .before .before .before .before .before .before .before .before in let ready = s .pre .1 .1 in let inside = s .pre .1 .0 in (ready .declared, mapping-there _ _ (ready .bodies) _ inside _ (here t (c .before .before .before .before .before .before)) (c .before .before .before .before .before .match .keys3)))
-    (λ c κs. let s = c .before .before .before .before .before .before .before .before .before .before .before .before .before .before .before in let ready = s .pre .1 .1 in let inside = s .pre .1 .0 in kinds.place-class _ _ _ (s .args .classes .now) ready _ _ _ (c .field-from2 .ensures) (c .before .before .before .before .judge .ensures .judged .nameListed))
-    (λ c κs. let s = c .before .before .before .before .before .before .before .before .before .before .before .before .before .before .before .before in omega (arith, s .pre .1 .0, s .pre .1 .2, kinds.marked-long (c .before .before .before .before .before .judge .ensures)))
-    (λ c κs. c .before .before .before .before .before .before .before .before .before .pre .1 .1 .given)
-    (λ c κs. let s = c .before .before .before .before .before .before .before .before .before .before .before in let ready = s .pre .1 .1 in let inside = s .pre .1 .0 in (c .before .parameter-from .ensures .present, kinds.enough _ _ _ (s .args .classes .now) ready))
-    (λ c κs. let s = c .before .before .before .before .before .before .before .before .before .before .before .before in omega (arith, s .pre .1 .0, s .pre .1 .2))
-    (λ c κs. let s = c .before .before .before .before .before .before .before .before .before .before in let ready = s .pre .1 .1 in let inside = s .pre .1 .0 in let less = left-below _ _ (ready .bodies) _ inside _ (here t (c .before .before)) (c .before .match .keys5) in
+    (λ c κs. let s = c .before .before .before .before .before .before .before .before .before .before .before .before in let ready = s .pre .1 .1 in let inside = s .pre .1 .0 in (ready .declared, mapping-there _ _ (ready .bodies) _ inside _ (c .before .before .before .before .before .before .read-node .ensures) (c .before .before .before .before .before .match .keys3)))
+    (λ c κs. let s = c .before .before .before .before .before .before .before .before .before .before .before .before .before in let ready = s .pre .1 .1 in let inside = s .pre .1 .0 in kinds.place-class _ _ _ (s .args .classes .now) ready _ _ _ (c .field-from2 .ensures) (c .before .before .before .before .judge .ensures .judged .nameListed))
+    (λ c κs. let s = c .before .before .before .before .before .before .before .before .before .before .before .before .before .before in omega (arith, s .pre .1 .0, s .pre .1 .2, kinds.marked-long (c .before .before .before .before .before .judge .ensures)))
+    (λ c κs. c .before .before .before .before .before .before .before .pre .1 .1 .given)
+    (λ c κs. let s = c .before .before .before .before .before .before .before .before .before in let ready = s .pre .1 .1 in let inside = s .pre .1 .0 in (c .before .parameter-from .ensures .present, kinds.enough _ _ _ (s .args .classes .now) ready))
+    (λ c κs. let s = c .before .before .before .before .before .before .before .before .before .before in omega (arith, s .pre .1 .0, s .pre .1 .2))
+    (λ c κs. let s = c .before .before .before .before .before .before .before .before in let ready = s .pre .1 .1 in let inside = s .pre .1 .0 in let less = left-below _ _ (ready .bodies) _ inside _ (c .before .before .read-node .ensures) (c .before .match .keys5) in
     (omega (arith, s .pre .0, less), (omega (arith, inside, less), ready, s .pre .1 .2)))
-    (λ c. let s = c .before .before .before .before .before .before .before .before .before .before .before .before .before in omega (arith, s .pre .1 .0, s .pre .1 .1 .bodies .few))
-    (λ c κs. let s = c .before .before .before .before .before .before .before .before .before .before .before .before .before in omega (arith, s .pre .1 .0, s .pre .1 .1 .bodies .few))
-    (λ c κs. let s = c .before .before .before .before .before .before .before .before .before .before .before .before .before .before .before in let ready = s .pre .1 .1 in let inside = s .pre .1 .0 in let read = c .before .before .before .before .before .before .before in
-    let same = read-four (s .args .nodes .now) (s .args .n) _ _ _ _ (read .before .before .short-from .ensures) (read .before .short-from2 .ensures) (read .number-from .ensures .0) (c .before .number-from2 .ensures .0) in
-    let less = right-below _ _ (ready .bodies) _ inside _ same (c .before .before .before .before .before .before .match .keys5) in
-    (omega (arith, s .pre .0, less), (omega (arith, inside, less), ready, omega (arith, s .pre .1 .2, kinds.marked-long (c .before .before .before .before .judge2 .ensures)))))
-    (λ c κs. let s = c .before .before .before .before .before .before .before .before .before .before .before .before .before .before .before .before .before .before .before in let ready = s .pre .1 .1 in let inside = s .pre .1 .0 in (kinds.owner-class _ _ _ (s .args .classes .now) ready (c .before .before .before .before .before .before .before .before .judge2 .ensures), kinds.owner-class _ _ _ (s .args .classes .now) ready (c .before .before .before .judge3 .ensures)))
-    (λ c κs. let s = c .before .before .before .before .before .before .before .before .before .before .before .before .before .before .before .before .before .before .before .before in omega (arith, s .pre .1 .0, s .pre .1 .2, kinds.marked-long (c .before .before .before .before .before .before .before .before .before .judge2 .ensures), kinds.marked-long (c .before .before .before .before .judge3 .ensures)))
-    (λ c κs. let s = c .before .before .before .before .before .before .before .before .before .before in let ready = s .pre .1 .1 in let inside = s .pre .1 .0 in let less = negated-below _ _ (ready .bodies) _ inside _ (here t (c .before .before)) (c .before .match .keys6) in
+    (λ c κs. let s = c .before .before .before .before .before .before .before .before .before .before .before .before in let ready = s .pre .1 .1 in let inside = s .pre .1 .0 in let read = c .before .before .before .before .before .before in
+    let less = right-below _ _ (ready .bodies) _ inside _ (read .read-node .ensures) (c .before .before .before .before .before .match .keys5) in
+    (omega (arith, s .pre .0, less), (omega (arith, inside, less), ready, omega (arith, s .pre .1 .2, kinds.marked-long (c .before .before .before .judge2 .ensures)))))
+    (λ c κs. let s = c .before .before .before .before .before .before .before .before .before .before .before .before .before .before .before .before in let ready = s .pre .1 .1 in let inside = s .pre .1 .0 in (kinds.owner-class _ _ _ (s .args .classes .now) ready (c .before .before .before .before .before .before .before .judge2 .ensures), kinds.owner-class _ _ _ (s .args .classes .now) ready (c .before .before .before .judge3 .ensures)))
+    (λ c κs. let s = c .before .before .before .before .before .before .before .before .before .before .before .before .before .before .before .before .before in omega (arith, s .pre .1 .0, s .pre .1 .2, kinds.marked-long (c .before .before .before .before .before .before .before .before .judge2 .ensures), kinds.marked-long (c .before .before .before .before .judge3 .ensures)))
+    (λ c κs. let s = c .before .before .before .before .before .before .before .before in let ready = s .pre .1 .1 in let inside = s .pre .1 .0 in let less = negated-below _ _ (ready .bodies) _ inside _ (c .before .before .read-node .ensures) (c .before .match .keys6) in
     (omega (arith, s .pre .0, less), (omega (arith, inside, less), ready, s .pre .1 .2)))
-    (λ c κs. let s = c .before .before .before .before .before .before .before .before .before .before .before .before .before .before in let ready = s .pre .1 .1 in let inside = s .pre .1 .0 in kinds.owner-class _ _ _ (s .args .classes .now) ready (c .before .before .before .judge4 .ensures))
-    (λ c κs. let s = c .before .before .before .before .before .before .before .before .before .before .before .before .before .before .before in omega (arith, s .pre .1 .0, s .pre .1 .2, kinds.marked-long (c .before .before .before .before .judge4 .ensures)))
-    (λ c κs. let s = c .before .before .before .before .before .before .before .before .before .before in let ready = s .pre .1 .1 in let inside = s .pre .1 .0 in let less = revealed-below _ _ (ready .bodies) _ inside _ (here t (c .before .before)) (c .before .match .keys7) in
+    (λ c κs. let s = c .before .before .before .before .before .before .before .before .before .before .before .before in let ready = s .pre .1 .1 in let inside = s .pre .1 .0 in kinds.owner-class _ _ _ (s .args .classes .now) ready (c .before .before .before .judge4 .ensures))
+    (λ c κs. let s = c .before .before .before .before .before .before .before .before .before .before .before .before .before in omega (arith, s .pre .1 .0, s .pre .1 .2, kinds.marked-long (c .before .before .before .before .judge4 .ensures)))
+    (λ c κs. let s = c .before .before .before .before .before .before .before .before in let ready = s .pre .1 .1 in let inside = s .pre .1 .0 in let less = revealed-below _ _ (ready .bodies) _ inside _ (c .before .before .read-node .ensures) (c .before .match .keys7) in
     (omega (arith, s .pre .0, less), (omega (arith, inside, less), ready, s .pre .1 .2)))
-    (λ c κs. let s = c .before .before .before .before .before .before .before .before .before .before .before .before .before in let ready = s .pre .1 .1 in let inside = s .pre .1 .0 in target-listed _ _ (ready .bodies) _ inside _ (here t (c .before .before .before .before .before)) (c .before .before .before .before .match .keys7))
-    (λ c κs. let s = c .before .before .before .before .before .before .before .before .before .before .before .before .before .before in let ready = s .pre .1 .1 in let inside = s .pre .1 .0 in (ready .declared, ready .given, rw (c .target-number .ensures) (target-there _ _ (ready .bodies) _ inside _ (here t (c .before .before .before .before .before .before)) (c .before .before .before .before .before .match .keys7))))
-    (λ c κs. let s = c .before .before .before .before .before .before .before .before .before .before .before .before .before .before .before .before in let ready = s .pre .1 .1 in let inside = s .pre .1 .0 in kinds.owner-class _ _ _ (s .args .classes .now) ready (c .before .before .before .before .before .judge5 .ensures))
-    (λ c κs. let s = c .before .before .before .before .before .before .before .before .before .before .before .before .before .before .before .before .before in omega (arith, s .pre .1 .0, s .pre .1 .2, kinds.marked-long (c .before .before .before .before .before .before .judge5 .ensures)))
+    (λ c κs. let s = c .before .before .before .before .before .before .before .before .before .before .before in let ready = s .pre .1 .1 in let inside = s .pre .1 .0 in target-listed _ _ (ready .bodies) _ inside _ (c .before .before .before .before .before .read-node .ensures) (c .before .before .before .before .match .keys7))
+    (λ c κs. let s = c .before .before .before .before .before .before .before .before .before .before .before .before in let ready = s .pre .1 .1 in let inside = s .pre .1 .0 in (ready .declared, ready .given, rw (c .target-number .ensures) (target-there _ _ (ready .bodies) _ inside _ (c .before .before .before .before .before .before .read-node .ensures) (c .before .before .before .before .before .match .keys7))))
+    (λ c κs. let s = c .before .before .before .before .before .before .before .before .before .before .before .before .before .before in let ready = s .pre .1 .1 in let inside = s .pre .1 .0 in kinds.owner-class _ _ _ (s .args .classes .now) ready (c .before .before .before .before .before .judge5 .ensures))
+    (λ c κs. let s = c .before .before .before .before .before .before .before .before .before .before .before .before .before .before .before in omega (arith, s .pre .1 .0, s .pre .1 .2, kinds.marked-long (c .before .before .before .before .before .before .judge5 .ensures)))
     (λ c κs. search needs)
-    (λ c κs. let s = c .before .before .before .before .before .before .before .before .before .before .before in omega (arith, s .pre .1 .0, s .pre .1 .2))
+    (λ c κs. let s = c .before .before .before .before .before .before .before .before .before in omega (arith, s .pre .1 .0, s .pre .1 .2))
     (λ c. search needs)
-    (λ c. let s = c .before .before .before .before .before .before .before .before .before .before .before .before .before .before in let ready = s .pre .1 .1 in let inside = s .pre .1 .0 in kinds.constant-judged _ _ _ (s .args .classes .now) ready _ inside _ (here t (c .before .before .before .before .before .before)) _ _ _ _ (c .before .before .before .before .before .match .keys1) (c .before .before .before .constant-judged .ensures) (c .before .before .mark .ensures))
+    (λ c. let s = c .before .before .before .before .before .before .before .before .before .before .before .before in let ready = s .pre .1 .1 in let inside = s .pre .1 .0 in kinds.constant-judged _ _ _ (s .args .classes .now) ready _ inside _ (c .before .before .before .before .before .before .read-node .ensures) _ _ _ _ (c .before .before .before .before .before .match .keys1) (c .before .before .before .constant-judged .ensures) (c .before .before .mark .ensures))
     (λ c. search needs)
-    (λ c. let s = c .before .before .before .before .before .before .before .before .before .before .before .before .before .before .before in let ready = s .pre .1 .1 in let inside = s .pre .1 .0 in kinds.field-judged _ _ _ (s .args .classes .now) ready _ inside _ (here t (c .before .before .before .before .before .before .before)) _ _ _ _ _ (c .before .before .before .before .before .before .match .keys2) (c .before .before .before .before .field-from .ensures) (c .before .before .before .field-judged .ensures) (c .before .before .mark2 .ensures))
+    (λ c. let s = c .before .before .before .before .before .before .before .before .before .before .before .before .before in let ready = s .pre .1 .1 in let inside = s .pre .1 .0 in kinds.field-judged _ _ _ (s .args .classes .now) ready _ inside _ (c .before .before .before .before .before .before .before .read-node .ensures) _ _ _ _ _ (c .before .before .before .before .before .before .match .keys2) (c .before .before .before .before .field-from .ensures) (c .before .before .before .field-judged .ensures) (c .before .before .mark2 .ensures))
     (λ c. search needs)
-    (λ c. let s = c .before .before .before .before .before .before .before .before .before .before .before .before .before .before .before .before .before .before .before in let ready = s .pre .1 .1 in let inside = s .pre .1 .0 in kinds.entry-judged _ _ _ (s .args .classes .now) ready _ inside _ (here t (c .before .before .before .before .before .before .before .before .before .before .before)) _ _ _ _ _ _ (c .before .before .before .before .before .before .before .before .judge .ensures) (c .before .before .mark3 .ensures) _ (c .before .before .before .before .before .before .before .before .before .before .match .keys3) (c .before .before .before .before .field-from2 .ensures) (c .before .before .before .entry-judged .ensures))
+    (λ c. let s = c .before .before .before .before .before .before .before .before .before .before .before .before .before .before .before .before .before in let ready = s .pre .1 .1 in let inside = s .pre .1 .0 in kinds.entry-judged _ _ _ (s .args .classes .now) ready _ inside _ (c .before .before .before .before .before .before .before .before .before .before .before .read-node .ensures) _ _ _ _ _ _ (c .before .before .before .before .before .before .before .before .judge .ensures) (c .before .before .mark3 .ensures) _ (c .before .before .before .before .before .before .before .before .before .before .match .keys3) (c .before .before .before .before .field-from2 .ensures) (c .before .before .before .entry-judged .ensures))
     (λ c. search needs)
-    (λ c. let s = c .before .before .before .before .before .before .before .before .before .before .before .before .before .before .before in let ready = s .pre .1 .1 in let inside = s .pre .1 .0 in kinds.parameter-judged _ _ _ (s .args .classes .now) ready _ inside _ (here t (c .before .before .before .before .before .before .before)) _ _ _ _ _ (c .before .before .before .before .before .before .match .keys4) (c .before .before .before .before .before .parameter-from .ensures) (c .before .before .before .parameter-judged .ensures) (c .before .before .mark4 .ensures))
+    (λ c. let s = c .before .before .before .before .before .before .before .before .before .before .before .before .before in let ready = s .pre .1 .1 in let inside = s .pre .1 .0 in kinds.parameter-judged _ _ _ (s .args .classes .now) ready _ inside _ (c .before .before .before .before .before .before .before .read-node .ensures) _ _ _ _ _ (c .before .before .before .before .before .before .match .keys4) (c .before .before .before .before .before .parameter-from .ensures) (c .before .before .before .parameter-judged .ensures) (c .before .before .mark4 .ensures))
     (λ c. search needs)
-    (λ c. let s = c .before .before .before .before .before .before .before .before .before .before .before .before .before .before .before .before .before .before .before .before .before .before .before in let ready = s .pre .1 .1 in let inside = s .pre .1 .0 in let read = c .before .before .before .before .before .before .before .before .before .before .before .before .before .before .before in
-    let same = read-four (s .args .nodes .now) (s .args .n) _ _ _ _ (read .before .before .short-from .ensures) (read .before .short-from2 .ensures) (read .number-from .ensures .0) (c .before .before .before .before .before .before .before .before .before .number-from2 .ensures .0) in
-    kinds.operator-judged _ _ _ (s .args .classes .now) ready _ inside _ same _ _ _ _ _ _ _ _ (c .before .before .before .before .before .before .before .before .before .before .before .before .before .before .match .keys5) (c .before .before .before .before .before .before .before .before .before .before .before .before .judge2 .ensures) (c .before .before .before .before .before .before .before .judge3 .ensures) (c .before .before .before .operator-judged .ensures) (c .before .before .mark5 .ensures))
+    (λ c. let s = c .before .before .before .before .before .before .before .before .before .before .before .before .before .before .before .before .before .before .before .before in let ready = s .pre .1 .1 in let inside = s .pre .1 .0 in let read = c .before .before .before .before .before .before .before .before .before .before .before .before .before .before in
+    kinds.operator-judged _ _ _ (s .args .classes .now) ready _ inside _ (read .read-node .ensures) _ _ _ _ _ _ _ _ (c .before .before .before .before .before .before .before .before .before .before .before .before .before .match .keys5) (c .before .before .before .before .before .before .before .before .before .before .before .judge2 .ensures) (c .before .before .before .before .before .before .before .judge3 .ensures) (c .before .before .before .operator-judged .ensures) (c .before .before .mark5 .ensures))
     (λ c. search needs)
-    (λ c. let s = c .before .before .before .before .before .before .before .before .before .before .before .before .before .before .before .before .before .before in let ready = s .pre .1 .1 in let inside = s .pre .1 .0 in kinds.negation-judged _ _ _ (s .args .classes .now) ready _ inside _ (here t (c .before .before .before .before .before .before .before .before .before .before)) _ _ _ _ _ _ (c .before .before .before .before .before .before .before .judge4 .ensures) (c .before .before .mark6 .ensures) (c .before .before .before .before .before .before .before .before .before .match .keys6) (c .before .before .before .negation-judged .ensures))
+    (λ c. let s = c .before .before .before .before .before .before .before .before .before .before .before .before .before .before .before .before in let ready = s .pre .1 .1 in let inside = s .pre .1 .0 in kinds.negation-judged _ _ _ (s .args .classes .now) ready _ inside _ (c .before .before .before .before .before .before .before .before .before .before .read-node .ensures) _ _ _ _ _ _ (c .before .before .before .before .before .before .before .judge4 .ensures) (c .before .before .mark6 .ensures) (c .before .before .before .before .before .before .before .before .before .match .keys6) (c .before .before .before .negation-judged .ensures))
     (λ c. search needs)
-    (λ c. let s = c .before .before .before .before .before .before .before .before .before .before .before .before .before .before .before .before .before .before .before .before in let ready = s .pre .1 .1 in let inside = s .pre .1 .0 in kinds.reveal-judged _ _ _ (s .args .classes .now) ready _ inside _ (here t (c .before .before .before .before .before .before .before .before .before .before .before .before)) _ _ _ _ _ _ (c .before .before .before .before .before .before .before .before .before .judge5 .ensures) (c .before .before .mark7 .ensures) _ _ (c .before .before .before .before .before .before .before .before .before .before .before .match .keys7) (c .before .before .before .before .before .before .target-number .ensures) (c .before .before .before .before .before .target-fits .ensures) (c .before .before .before .reveal-judged .ensures))
+    (λ c. let s = c .before .before .before .before .before .before .before .before .before .before .before .before .before .before .before .before .before .before in let ready = s .pre .1 .1 in let inside = s .pre .1 .0 in kinds.reveal-judged _ _ _ (s .args .classes .now) ready _ inside _ (c .before .before .before .before .before .before .before .before .before .before .before .before .read-node .ensures) _ _ _ _ _ _ (c .before .before .before .before .before .before .before .before .before .judge5 .ensures) (c .before .before .mark7 .ensures) _ _ (c .before .before .before .before .before .before .before .before .before .before .before .match .keys7) (c .before .before .before .before .before .before .target-number .ensures) (c .before .before .before .before .before .target-fits .ensures) (c .before .before .before .reveal-judged .ensures))
     (λ c. search needs)
-    (λ c. let s = c .before .before .before .before .before .before .before .before .before .before .before .before .before .before in let ready = s .pre .1 .1 in let inside = s .pre .1 .0 in let other = c .before .before .before .before .before .match .rest in
-    kinds.me-judged _ _ _ (s .args .classes .now) ready _ inside _ (here t (c .before .before .before .before .before .before)) _ _ _ _ (other .0 .0 .0 .0 .0 .0 .1) (other .0 .0 .0 .0 .0 .1) (other .0 .0 .0 .0 .1) (other .0 .0 .0 .1) (other .0 .0 .1) (other .0 .1) (other .1) (c .before .before .before .me-judged .ensures) (c .before .before .mark8 .ensures))
+    (λ c. let s = c .before .before .before .before .before .before .before .before .before .before .before .before in let ready = s .pre .1 .1 in let inside = s .pre .1 .0 in let other = c .before .before .before .before .before .match .rest in
+    kinds.me-judged _ _ _ (s .args .classes .now) ready _ inside _ (c .before .before .before .before .before .before .read-node .ensures) _ _ _ _ (other .0 .0 .0 .0 .0 .0 .1) (other .0 .0 .0 .0 .0 .1) (other .0 .0 .0 .0 .1) (other .0 .0 .0 .1) (other .0 .0 .1) (other .0 .1) (other .1) (c .before .before .before .me-judged .ensures) (c .before .before .mark8 .ensures))

@@ -1,4 +1,5 @@
 use Rattle.rules_assignments.proofs.Putting.{entry-put-fault-is}
+use Rattle.rules_branches.specs.declared.Checked.{Checked}
 use Rattle.rules_expressions.proofs.Judging as judging
 use native.Mathlib.Omega.{arith}
 use mathlib.Core.Path.{ap, sym, _∙_}
@@ -17,11 +18,18 @@ entry-takes-spec =
       judging.place-class _ _ _ (s .args .classes .now) ready _ _ _ (c .field-from .ensures) (c .before .before .before .before .before .before .before .judge .ensures .judged .nameListed),
       judging.owner-class _ _ _ (s .args .classes .now) ready (c .before .before .before .judge2 .ensures),
     ))
+    (λ c κs. search needs)
     (λ c. search needs)
-    (λ c. let s = c .before .before .before .before .before .before .before .before .before .before .before .before .before .before .before in
+    (λ c. let call = c .before in
+    let s = call .before .before .before .before .before .before .before .before .before .before .before .before .before .before .before in
     let enough = judging.enough _ _ _ (s .args .classes .now) (s .pre .3) in
-    let key = c .before .before .before .before .before .before .before .before .judge .ensures in
-    let value = c .before .before .before .before .judge2 .ensures in (
-      entry-put-fault-is _ _ _ enough _ _ _ _ _ _ _ (c .before .field-from .ensures) (key .judged) (value .judged) ∙ sym (c .entry-put-fault .ensures),
+    let key = call .before .before .before .before .before .before .before .before .judge .ensures in
+    let value = call .before .before .before .before .judge2 .ensures in
+    let is = c .outcome .ensures in (
+      (
+        entry-put-fault-is _ _ _ enough _ _ _ _ _ _ _ (call .before .field-from .ensures) (key .judged) (value .judged) ∙ sym (call .entry-put-fault .ensures)
+            ∙ sym (ap (λ (r : Checked). r .fault) is),
+        ap (λ (r : Checked). r .added) is,
+      ),
       rw (← key .column) (value .column),
     )))

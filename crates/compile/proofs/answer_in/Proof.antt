@@ -1,0 +1,18 @@
+-- What is delivered is the front of the output.
+use native.Mathlib.Omega.{arith}
+use lib.Seq.{length-take-le}
+use mathlib.Core.Path.{sym}
+use Rattle.write_output.proofs.Answers.{promised-within}
+use borrow.Author.Needs.{needs}
+use Rattle.compile.proofs.answer_in.Statement.{statement}
+use Rattle.compile.proofs.answer_in.Tie as tie
+
+pub answer-in-spec : {M : Type 1} → statement M
+answer-in-spec =
+    tie.close (tie.spec
+    (λ c κs. c .before .before .before .pre)
+    (λ c. search needs)
+    (λ c. omega (arith, promised-within _ _ _ _ _ _ (c .before .before .before .before .before .rewrite .ensures .0)))
+    (λ c. let rewrite = c .before .before .before .before .before .before .rewrite in
+    sym (length-take-le (rewrite .result .length) (rewrite .last .1 .0) (omega (arith, promised-within _ _ _ _ _ _ (rewrite .ensures .0)))))
+    (λ c κs. search needs) (λ c. search needs) (λ c κs. search needs) (λ c. search needs) (λ c. search needs) (λ c. search needs) (λ c. search needs))

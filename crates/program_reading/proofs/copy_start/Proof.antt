@@ -1,0 +1,23 @@
+-- As many bytes are lent as are copied.
+use mathlib.Core.Path.{_≡_, sym, _∙_}
+use native.Mathlib.Omega.{arith}
+use lib.ListN.{length, length-take}
+use lib.Seq.{length-take-le}
+use borrow.Author.Needs.{needs}
+use Rattle.program_reading.proofs.Beginnings.{fitting-still, begins-stored}
+use Rattle.program_reading.proofs.copy_start.Statement.{statement}
+use Rattle.program_reading.proofs.copy_start.Tie as tie
+
+pub copy-start-spec : {M : Type 1} → statement M
+copy-start-spec =
+    tie.close (tie.spec
+    (λ c κs. search needs)
+    (λ c. simp length-take (omega arith))
+    (λ c κs. simp length-take (omega arith))
+    (λ c. search needs)
+    (λ c. let args = c .before .before .before .before .before .before .before .before .args in
+    let at-most = c .before .before .before .before .before .at-most in
+    let append = c .before .before .append in
+    let long : length (append .last .1 .0) ≡ length (args .room .now) = search needs in
+    let copied : append .result ≡ at-most .result = append .ensures .place ∙ simp length-take (omega arith) in
+    (copied ∙ fitting-still (args .start .now) (args .room .now) (append .last .1 .0) long _ (at-most .ensures), begins-stored (args .start .now) (args .room .now) (append .last .1 .0) long _ (at-most .ensures) (append .ensures .contents))))

@@ -1,0 +1,36 @@
+// A node's five numbers read at once, so that a function which goes by a node's kind has one step before its match.
+use file_decoded::number_from;
+use file_decoded::short_from;
+ghost use mathlib.Core.Path.{_≡_};
+ghost use Prim.Native.Nat.{_*_, _/_, _<_, _≤_};
+ghost use lib.ListN.{length};
+ghost use Rattle.definitions.specs.ContractFile.{node};
+ghost use Rattle.file_decoded.specs.Slices.{nodeFrom};
+
+pub struct Read {
+    pub kind: u16,
+    pub arg: u16,
+    pub first: usize,
+    pub second: usize,
+    pub third: usize,
+}
+
+// Node n's numbers.
+pub fn read_node(nodes: &[u16], n: usize) -> Read
+    requires { ⌜ (n < length (now nodes) / 5) × (length (now nodes) ≤ 2560) ⌝ }
+    ensures { λ r. ⌜ node (r .kind) (r .arg) (r .first) (r .second) (r .third) ≡ nodeFrom (now (nodes .entry)) (5 * n) ⌝ }
+{
+    let at = 5 * n;
+    let kind = short_from(nodes, at);
+    let arg = short_from(nodes, at + 1);
+    let first = number_from(nodes, at + 2);
+    let second = number_from(nodes, at + 3);
+    let third = number_from(nodes, at + 4);
+    Read {
+        kind: kind,
+        arg: arg,
+        first: first,
+        second: second,
+        third: third,
+    }
+}

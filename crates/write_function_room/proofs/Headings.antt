@@ -1,0 +1,55 @@
+-- The headings alone: 97 bytes for a function, and 18 for each node of its body.
+use mathlib.Core.Path.{_≡_, refl, ap}
+use mathlib.Core.List.{List, [], _∷_, map}
+use Prim.Native.Nat.{ℕ, _+_, _*_, _≤_}
+use native.Mathlib.Omega.{arith}
+use lib.ListN.{length, length-append}
+use Rattle.definitions.specs.ContractFile.{Field, Function, Scope}
+use Rattle.definitions.specs.Rewriting.{Constraint, Variable, always, heldUnder, privateParameters, rewriteFunction, sizes, functionTrees, functionBytes, functionsBytes, functionsWritten}
+use Rattle.theory_trees.specs.Sizes.{statementSize}
+use Rattle.rewrite_events.specs.Events.{Event, suppliedEvent, claimedEvent, readEvent, guardEvent, variablesOf, constraintsOf, variableCount}
+use Rattle.rewrite_events.proofs.Functions.{opening, functionScope, functionEvents, function-variables, function-constraints}
+use Rattle.rewrite_events.proofs.Lengths.{statement-length}
+use Rattle.write_room.specs.Sizes.{bodiesSize, fewParameters}
+use Rattle.write_room.proofs.Functions.{heading-length, openings-variables, openings-constraints, private-length}
+
+-- An event makes a variable or a constraint.
+each-makes-one : (scope : Scope) (events : List Event) → variableCount events + length (constraintsOf scope events) ≡ length events
+unfolding variablesOf constraintsOf
+each-makes-one scope [] = refl
+each-makes-one scope (suppliedEvent i o e ∷ events) = omega (arith, each-makes-one scope events)
+each-makes-one scope (claimedEvent g i o e ∷ events) = omega (arith, each-makes-one scope events)
+each-makes-one scope (readEvent s j o e ∷ events) = omega (arith, each-makes-one scope events)
+each-makes-one scope (guardEvent i ∷ events) = omega (arith, each-makes-one scope events)
+
+module _ (fields : List Field) where
+  pub function-heading : (n : ℕ) (g : Function) → length (g .parameters) ≤ 8
+      → length (functionBytes n (rewriteFunction fields g)) ≤ 97 + 18 * statementSize (g .body)
+  unfolding rewriteFunction
+  function-heading n g few =
+      let w = rewriteFunction fields g in
+      let ks = privateParameters 0 (g .parameters) in
+      let events = functionEvents fields g in
+      let made = ap (λ (vs : List Variable). length vs) (function-variables fields g) in
+      let held = ap (λ (cs : List Constraint). length cs) (function-constraints fields g) in
+      let a = length-append (opening fields g .variables) (variablesOf events) in
+      let b = length-append (heldUnder always (opening fields g .claims)) (constraintsOf (functionScope fields g) events) in
+      omega (
+        arith,
+        heading-length n w,
+        openings-variables ks 0,
+        openings-constraints ks 0,
+        private-length 0 (g .parameters),
+        each-makes-one (functionScope fields g) events,
+        statement-length (functionScope fields g) (g .body) always (length (opening fields g .variables)),
+      )
+
+  pub functions-headings : (n : ℕ) (gs : List Function) → fewParameters gs
+      → length (functionsBytes n (map (rewriteFunction fields) gs)) ≤ 97 * length gs + 18 * bodiesSize gs
+  unfolding functionsWritten bodiesSize fewParameters
+  functions-headings n [] few = omega arith
+  functions-headings n (g ∷ gs) few =
+      let w = rewriteFunction fields g in
+      let m = n + sizes (functionTrees w) in
+      let rest = length-append (functionBytes n w) (functionsBytes m (map (rewriteFunction fields) gs)) in
+      omega (arith, functions-headings m gs (few .1), function-heading n g (few .0))
