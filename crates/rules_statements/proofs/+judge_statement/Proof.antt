@@ -63,62 +63,41 @@ pub +judge-statement-spec : {M : Type 1} → statement M
     (λ c κs. let s = c .before .before .before .before .before in (s .pre .1 .0, s .pre .1 .1 .bodies .few))
     (λ c κs. let read = c .before .before .before in
     let s = read .before .before .before .before .before .before in
-    let inside = s .pre .1 .0 in
-    let ready = s .pre .1 .1 in
-    let classed = s .pre .1 .2 in
-    let room = s .pre .1 .3 in
+    let (_, (inside, ready, classed, room)) = s .pre in
     let less = one-below _ _ (ready .bodies) _ inside _ (read .read-node .ensures) (c .before .before .match .keys1) in
     (omega (arith, s .pre .0, less), (omega (arith, inside, less), ready, classed, room)))
     (λ c κs. let read = c .before .before .before .before .before .before .before .before .before .before in
     let s = read .before .before .before .before .before .before in
-    let inside = s .pre .1 .0 in
-    let ready = s .pre .1 .1 in
-    let classed = s .pre .1 .2 in
-    let room = s .pre .1 .3 in
+    let (_, (inside, ready, classed, room)) = s .pre in
     let less = two-below _ _ (ready .bodies) _ inside _ (read .read-node .ensures) (c .before .before .before .before .before .before .before .before .before .match .keys1) in
     let one = c .before .before .before .before .before .before .judge-statement .ensures in
     (omega (arith, s .pre .0, less), (omega (arith, inside, less), rw (one .checked .learnt .long) ready, one .checked .learnt .classed, omega (arith, room, column-long one))))
     (λ c κs. search needs)
     (λ c κs. let read = c .before .before .before in
     let s = read .before .before .before .before .before .before in
-    let inside = s .pre .1 .0 in
-    let ready = s .pre .1 .1 in
-    let classed = s .pre .1 .2 in
-    let room = s .pre .1 .3 in
+    let (_, (inside, ready, _, room)) = s .pre in
     let less = put-below _ _ (ready .bodies) _ inside _ (read .read-node .ensures) (c .before .before .match .keys2) in
     (omega (arith, inside, less), put-there _ _ (ready .bodies) _ inside _ (read .read-node .ensures) (c .before .before .match .keys2), ready, room))
     (λ c κs. let read = c .before .before .before in
     let s = read .before .before .before .before .before .before in
-    let inside = s .pre .1 .0 in
-    let ready = s .pre .1 .1 in
-    let classed = s .pre .1 .2 in
-    let room = s .pre .1 .3 in
+    let (_, (inside, ready, _, room)) = s .pre in
     let less = key-below _ _ (ready .bodies) _ inside _ (read .read-node .ensures) (c .before .before .match .keys3) in
     let later = value-below _ _ (ready .bodies) _ inside _ (read .read-node .ensures) (c .before .before .match .keys3) in
     (omega (arith, inside, less), omega (arith, inside, later), entry-there _ _ (ready .bodies) _ inside _ (read .read-node .ensures) (c .before .before .match .keys3), ready, room))
     (λ c κs. let read = c .before .before .before in
     let s = read .before .before .before .before .before .before in
-    let inside = s .pre .1 .0 in
-    let ready = s .pre .1 .1 in
-    let classed = s .pre .1 .2 in
-    let room = s .pre .1 .3 in
+    let (_, (inside, ready, classed, room)) = s .pre in
     let less = required-below _ _ (ready .bodies) _ inside _ (read .read-node .ensures) (c .before .before .match .keys4) in
     (omega (arith, inside, less), ready, classed, room))
     (λ c κs. let s = c .before .before .before .before .before .before .before .before in s .pre .1 .2 .few)
     (λ c κs. let read = c .before .before .before .before .before in
     let s = read .before .before .before .before .before .before in
-    let inside = s .pre .1 .0 in
-    let ready = s .pre .1 .1 in
-    let classed = s .pre .1 .2 in
-    let room = s .pre .1 .3 in
+    let (_, (inside, ready, classed, room)) = s .pre in
     let less = condition-below _ _ (ready .bodies) _ inside _ (read .read-node .ensures) (c .before .before .before .before .match .keys5) in
     (omega (arith, inside, less), ready, classed, room))
     (λ c κs. let read = c .before .before .before .before .before .before .before .before .before .before .before .before in
     let s = read .before .before .before .before .before .before in
-    let inside = s .pre .1 .0 in
-    let ready = s .pre .1 .1 in
-    let classed = s .pre .1 .2 in
-    let room = s .pre .1 .3 in
+    let (_, (inside, ready, classed, room)) = s .pre in
     let less = then-below _ _ (ready .bodies) _ inside _ (read .read-node .ensures) (c .before .before .before .before .before .before .before .before .before .before .before .match .keys5) in
     let met = c .before .before .before .before .before .before .condition-met2 .ensures in
     let marks = under-long (s .args .fields .now) (s .args .parameters .now) (s .args .nodes .now) (read .read-node .result .first) (s .args .owners .now) _ (met .1 .0) in
@@ -126,26 +105,16 @@ pub +judge-statement-spec : {M : Type 1} → statement M
     (omega (arith, s .pre .0, less), (omega (arith, inside, less), rw (learnt .long) ready, learnt .classed, omega (arith, room, marks))))
     (λ c. let read = c .before .before .before .before .before .before .before .before .before .before .before .before .before .before .before .before .before in
     let s = read .before .before .before .before .before .before in
-    let inside = s .pre .1 .0 in
-    let ready = s .pre .1 .1 in
-    let classed = s .pre .1 .2 in
-    let room = s .pre .1 .3 in
+    let (_, (_, _, classed, _)) = s .pre in
     let kept = c .before .before .before .before .before .before .before .before .before .before .before .before .before .before .kept .ensures in
     omega (arith, classed .few, kept .0))
     (λ c. let read = c .before .before .before .before .before .before .before .before .before .before .before .before .before .before .before .before .before .before in
     let s = read .before .before .before .before .before .before in
-    let inside = s .pre .1 .0 in
-    let ready = s .pre .1 .1 in
-    let classed = s .pre .1 .2 in
-    let room = s .pre .1 .3 in
     let kept = c .before .before .before .before .before .before .before .before .before .before .before .before .before .before .before .kept .ensures in
     sym (ap length (kept .1)))
     (λ c κs. let read = c .before .before .before .before .before .before .before .before .before .before .before .before .before .before .before .before .before .before .before in
     let s = read .before .before .before .before .before .before in
-    let inside = s .pre .1 .0 in
-    let ready = s .pre .1 .1 in
-    let classed = s .pre .1 .2 in
-    let room = s .pre .1 .3 in
+    let (_, (inside, ready, classed, room)) = s .pre in
     let kept = c .before .before .before .before .before .before .before .before .before .before .before .before .before .before .before .before .kept .ensures in
     let met = c .before .before .before .before .before .before .before .before .before .before .before .before .before .condition-met2 .ensures in
     let marks = under-long (s .args .fields .now) (s .args .parameters .now) (s .args .nodes .now) (read .read-node .result .first) (s .args .owners .now) _ (met .1 .0) in
@@ -154,18 +123,11 @@ pub +judge-statement-spec : {M : Type 1} → statement M
     (omega (arith, s .pre .0, less), (omega (arith, inside, less), ready-as (kept .1) ready, classed-as (kept .1) classed, omega (arith, room, marks, later))))
     (λ c. let read = c .before .before .before .before .before .before .before .before .before .before .before .before .before .before .before .before .before .before .before .before .before .before .before .before .before in
     let s = read .before .before .before .before .before .before in
-    let inside = s .pre .1 .0 in
-    let ready = s .pre .1 .1 in
-    let classed = s .pre .1 .2 in
-    let room = s .pre .1 .3 in
     let kept = c .before .before .before .before .before .before .before .before .before .before .before .before .before .before .before .before .before .before .before .before .before .before .kept .ensures in
     kept .0)
     (λ c. let read = c .before .before .before .before .before .before .before .before .before .before .before .before .before .before .before .before .before .before .before .before .before .before .before .before .before .before in
     let s = read .before .before .before .before .before .before in
-    let inside = s .pre .1 .0 in
-    let ready = s .pre .1 .1 in
-    let classed = s .pre .1 .2 in
-    let room = s .pre .1 .3 in
+    let (_, (_, _, classed, _)) = s .pre in
     let kept = c .before .before .before .before .before .before .before .before .before .before .before .before .before .before .before .before .before .before .before .before .before .before .before .kept .ensures in
     let count = length (s .args .classes .now) in
     let fits : count ≤ length (c .before .before .before .before .before .before .before .before .before .before .before .before .before .before .before .before .before .before .before .before .before .before .before .kept .result) = omega (arith, classed .few, kept .0) in
@@ -175,10 +137,7 @@ pub +judge-statement-spec : {M : Type 1} → statement M
     kept .0 ∙ sym (array-long (c .before .before .before .before .before .before .judge-statement4 .last .1 .1 .1 .0) (c .before .before .before .before .before .before .before .before .before .before .before .before .before .before .before .before .before .before .before .before .before .before .before .kept .result) count own fits))
     (λ c κs. let read = c .before .before .before .before .before .before .before .before .before .before .before .before .before .before .before .before .before .before .before .before .before .before .before .before .before .before in
     let s = read .before .before .before .before .before .before in
-    let inside = s .pre .1 .0 in
-    let ready = s .pre .1 .1 in
-    let classed = s .pre .1 .2 in
-    let room = s .pre .1 .3 in
+    let (_, (_, _, classed, _)) = s .pre in
     let kept = c .before .before .before .before .before .before .before .before .before .before .before .before .before .before .before .before .before .before .before .before .before .before .before .kept .ensures in
     let met = c .before .before .before .before .before .before .before .before .before .before .before .before .before .before .before .before .before .before .before .before .condition-met2 .ensures in
     let count = length (s .args .classes .now) in
@@ -200,63 +159,40 @@ pub +judge-statement-spec : {M : Type 1} → statement M
     (λ c. column-long (c .before .before .before .before .before .judge-statement2 .ensures) ∙ column-long (c .before .before .before .before .before .before .before .before .before .before .before .before .judge-statement .ensures))
     (λ c. let read = c .before .before .before .before .before .before .before .before .before .before .before .before .before .before .before .before in
     let s = read .before .before .before .before .before .before in
-    let inside = s .pre .1 .0 in
-    let ready = s .pre .1 .1 in
-    let classed = s .pre .1 .2 in
-    let room = s .pre .1 .3 in
+    let (_, (inside, ready, _, _)) = s .pre in
     judged.sequence-judged _ _ _ (ready .bodies) _ inside _ (read .read-node .ensures) _ _ _ _ _ _ _ _ _ (c .before .before .before .before .before .before .before .before .before .before .before .before .before .before .before .match .keys1) (c .before .before .before .before .before .before .before .before .before .before .before .before .judge-statement .ensures) (c .before .before .before .before .before .judge-statement2 .ensures) (c .in-turn .ensures .0) (c .in-turn .ensures .1))
     (λ c. refl)
     (λ c. search needs)
     (λ c. let read = c .before .before .before .before .before .before in
     let s = read .before .before .before .before .before .before in
-    let inside = s .pre .1 .0 in
-    let ready = s .pre .1 .1 in
-    let classed = s .pre .1 .2 in
-    let room = s .pre .1 .3 in
+    let (_, (inside, ready, classed, _)) = s .pre in
     let put = c .before .before .field-takes .ensures in
     judged.field-judged _ _ _ (ready .bodies) _ inside _ (read .read-node .ensures) _ _ _ _ classed (c .before .before .before .before .before .match .keys2) (put .0 .0) (put .1) (put .0 .1))
     (λ c. refl)
     (λ c. search needs)
     (λ c. let read = c .before .before .before .before .before .before in
     let s = read .before .before .before .before .before .before in
-    let inside = s .pre .1 .0 in
-    let ready = s .pre .1 .1 in
-    let classed = s .pre .1 .2 in
-    let room = s .pre .1 .3 in
+    let (_, (inside, ready, classed, _)) = s .pre in
     let put = c .before .before .entry-takes .ensures in
     judged.entry-judged _ _ _ (ready .bodies) _ inside _ (read .read-node .ensures) _ _ _ _ classed (c .before .before .before .before .before .match .keys3) (put .0 .0) (put .1) (put .0 .1))
     (λ c. c .before .before .before .before .condition-met .ensures .1 .1 .long)
     (λ c. let read = c .before .before .before .before .before .before .before .before in
     let s = read .before .before .before .before .before .before in
-    let inside = s .pre .1 .0 in
-    let ready = s .pre .1 .1 in
-    let classed = s .pre .1 .2 in
-    let room = s .pre .1 .3 in
     under-long (s .args .fields .now) (s .args .parameters .now) (s .args .nodes .now) (read .read-node .result .first) (s .args .owners .now) _ (c .before .before .before .before .condition-met .ensures .1 .0))
     (λ c. let read = c .before .before .before .before .before .before .before .before in
     let s = read .before .before .before .before .before .before in
-    let inside = s .pre .1 .0 in
-    let ready = s .pre .1 .1 in
-    let classed = s .pre .1 .2 in
-    let room = s .pre .1 .3 in
+    let (_, (inside, ready, _, _)) = s .pre in
     let met = c .before .before .before .before .condition-met .ensures in
     judged.require-judged _ _ _ (ready .bodies) _ inside _ (read .read-node .ensures) _ _ _ _ _ (c .before .before .before .before .before .before .before .match .keys4) (met .0) (met .1 .0) (met .1 .1))
     (λ c. c .before .before .branched .ensures .1 .1 ∙ c .before .before .before .before .before .before .before .before .before .before .before .before .before .before .before .before .judge-statement3 .ensures .checked .learnt .long ∙ c .before .before .before .before .before .before .before .before .before .before .before .before .before .before .before .before .before .before .before .before .before .before .before .condition-met2 .ensures .1 .1 .long)
     (λ c. let read = c .before .before .before .before .before .before .before .before .before .before .before .before .before .before .before .before .before .before .before .before .before .before .before .before .before .before .before .before .before in
     let s = read .before .before .before .before .before .before in
-    let inside = s .pre .1 .0 in
-    let ready = s .pre .1 .1 in
-    let classed = s .pre .1 .2 in
-    let room = s .pre .1 .3 in
     let met = c .before .before .before .before .before .before .before .before .before .before .before .before .before .before .before .before .before .before .before .before .before .before .before .condition-met2 .ensures in
     let marks = under-long (s .args .fields .now) (s .args .parameters .now) (s .args .nodes .now) (read .read-node .result .first) (s .args .owners .now) _ (met .1 .0) in
     column-long (c .before .before .before .before .before .before .before .before .before .judge-statement4 .ensures) ∙ column-long (c .before .before .before .before .before .before .before .before .before .before .before .before .before .before .before .before .judge-statement3 .ensures) ∙ marks)
     (λ c. let read = c .before .before .before .before .before .before .before .before .before .before .before .before .before .before .before .before .before .before .before .before .before .before .before .before .before .before .before .before .before in
     let s = read .before .before .before .before .before .before in
-    let inside = s .pre .1 .0 in
-    let ready = s .pre .1 .1 in
-    let classed = s .pre .1 .2 in
-    let room = s .pre .1 .3 in
+    let (_, (inside, ready, classed, _)) = s .pre in
     let kept = c .before .before .before .before .before .before .before .before .before .before .before .before .before .before .before .before .before .before .before .before .before .before .before .before .before .before .kept .ensures in
     let met = c .before .before .before .before .before .before .before .before .before .before .before .before .before .before .before .before .before .before .before .before .before .before .before .condition-met2 .ensures in
     let count = length (s .args .classes .now) in
@@ -272,9 +208,6 @@ pub +judge-statement-spec : {M : Type 1} → statement M
     (c .before .before .before .before .before .before .before .before .before .before .before .before .before .before .before .before .before .before .before .before .before .before .before .before .before .before .before .before .match .keys5) (met .0) (met .1 .0) (met .1 .1) one passed (behind .0) (behind .1 .0))
     (λ c. let read = c .before .before in
     let s = read .before .before .before .before .before .before in
-    let inside = s .pre .1 .0 in
-    let ready = s .pre .1 .1 in
-    let classed = s .pre .1 .2 in
-    let room = s .pre .1 .3 in
+    let (_, (inside, ready, classed, _)) = s .pre in
     let other = c .before .match .rest in
     judged.skip-judged _ _ _ (ready .bodies) _ inside _ (read .read-node .ensures) _ _ _ classed (other .0 .0 .0 .0 .1) (other .0 .0 .0 .1) (other .0 .0 .1) (other .0 .1) (other .1) (c .outcome .ensures))
