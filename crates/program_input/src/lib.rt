@@ -17,8 +17,8 @@ pub struct Input {
     pub ready: bool,
 }
 
-// How many bytes an input begins with, and whether there is one at all. Where it fills the room there may be more, to be read from the same descriptor: a file that an
-// argument names is closed wherever this is all of it.
+// How many bytes an input begins with, and whether there is one at all. Where it fills the room there may be more, to be read from the
+// same descriptor: a file that an argument names is closed wherever this is all of it.
 pub struct Beginning {
     pub length: usize,
     pub ready: bool,
