@@ -22,7 +22,7 @@ use Rattle.ledger_places.proofs.Positions.{fields-count}
 use Rattle.write_parameters.specs.Parameters.{privateCount}
 use Rattle.rewrite_events.specs.Events.{Event, variablesOf, variableCount}
 use Rattle.rewrite_events.proofs.Statements.{statement-made}
-use Rattle.rewrite_log.specs.Entries.{suppliedEntry, claimedEntry, readEntry, guardEntry, Entries, noEntry, entryThen}
+use Rattle.rewrite_log.specs.Entries.{suppliedEntry, claimedEntry, readEntry, guardEntry, endEntry, Entries, noEntry, entryThen}
 use Rattle.write_variables.specs.PerEntry.{perEntry}
 use Rattle.honest_statements.specs.Honest.{honestNumbers, contentsFrom, nodeStatement}
 use Rattle.honest_statements.proofs.Contents.{call-is}
@@ -43,6 +43,7 @@ codes-counted nodes (entryThen (suppliedEntry i o n below) rest) = ap suc (codes
 codes-counted nodes (entryThen (claimedEntry g i o n below) rest) = codes-counted nodes rest
 codes-counted nodes (entryThen (readEntry s j o n below) rest) = ap suc (codes-counted nodes rest)
 codes-counted nodes (entryThen (guardEntry i) rest) = ap suc (codes-counted nodes rest)
+codes-counted nodes (entryThen (endEntry i) rest) = codes-counted nodes rest
 
 -- The honest variables of a function's call, by the fields and the function.
 abbrev honestOf : ℕ → ℕ → List ℕ → List ℕ → List Field → Function → List Content

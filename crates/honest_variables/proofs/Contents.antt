@@ -1,14 +1,15 @@
 -- The contents of a call's variables, put one after another.
 use mathlib.Core.Path.{_≡_, refl, ap, sym, _∙_}
+use mathlib.Core.Bool.{true, false}
 use mathlib.Core.List.{List, [], _∷_, _++_, append-assoc, append-nil}
 use Prim.Native.Nat.{ℕ, suc, _+_, _-_, _<_, _≤_}
 use native.Mathlib.Numerals.{add-one}
 use native.Mathlib.Omega.{arith}
-use borrow.Author.Tests.{eq-eqb, ne-eqb}
 use lib.ListN.{length, getD, take, drop, set, length-append}
 use lib.Seq.{drop-cons, take-suc-set, take-all}
 use Rattle.definitions.specs.ContractFile.{Name, ownerOfCode}
 use Rattle.definitions.specs.Ledger.{Content}
+use Rattle.rewrite_log.specs.Entries.{makesNone}
 use Rattle.ledger_contents.specs.Contents.{contentsOf}
 use Rattle.ledger_contents.proofs.FlatContents.{length-contentsOf}
 use Rattle.write_variables.specs.PerEntry.{perEntry}
@@ -55,20 +56,20 @@ module _ (address : Name → ℕ) (call : ℕ) (slots addresses : List ℕ) (all
       }
 
 module _ (call : ℕ) (slots addresses : List ℕ) (tag code : ℕ) where
-  claim-codes : (codes : List ℕ) → tag ≡ 1 → codeOf tag 0 code 0 0 ++ codes ≡ codes
-  claim-codes codes e = rw (eq-eqb tag 1 e)
+  no-codes : (codes : List ℕ) → makesNone tag ≡ true → codeOf tag 0 code 0 0 ++ codes ≡ codes
+  no-codes codes e = rw e
 
-  other-codes : (codes : List ℕ) → (tag ≡ 1 → ⊥) → codeOf tag 0 code 0 0 ++ codes ≡ code ∷ codes
-  other-codes codes n = rw (ne-eqb tag 1 n)
+  other-codes : (codes : List ℕ) → makesNone tag ≡ false → codeOf tag 0 code 0 0 ++ codes ≡ code ∷ codes
+  other-codes codes n = rw n
 
-  pub entry-claim : (flat : List ℕ) (n : ℕ) → tag ≡ 1 → EntryPut call slots addresses tag code flat flat n n
-  entry-claim flat n e =
-      record { passes = λ all codes left. rw (claim-codes codes e) at left }
+  pub entry-passed : (flat : List ℕ) (n : ℕ) → makesNone tag ≡ true → EntryPut call slots addresses tag code flat flat n n
+  entry-passed flat n e =
+      record { passes = λ all codes left. rw (no-codes codes e) at left }
 
-  pub entry-inside : (n : ℕ) → (tag ≡ 1 → ⊥) → n + length (codeOf tag 0 code 0 0) ≤ length slots → n < length slots
+  pub entry-inside : (n : ℕ) → makesNone tag ≡ false → n + length (codeOf tag 0 code 0 0) ≤ length slots → n < length slots
   entry-inside n o h = let e = ap length (other-codes [] o) in let l = length-append (codeOf tag 0 code 0 0) [] in omega arith
 
-  pub entry-other : (flat after : List ℕ) (n slot : ℕ) (content : Content) → (tag ≡ 1 → ⊥) → slot ≡ getD slots n 0
+  pub entry-other : (flat after : List ℕ) (n slot : ℕ) (content : Content) → makesNone tag ≡ false → slot ≡ getD slots n 0
       → content ≡ contentOfSlot (addressFrom addresses) call n (ownerOfCode code) slot → contentsOf after ≡ set (contentsOf flat) n content → length after ≡ length flat
       → EntryPut call slots addresses tag code flat after n (n + 1)
   entry-other flat after n slot content o e c put size =

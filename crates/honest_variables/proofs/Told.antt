@@ -21,7 +21,7 @@ use Rattle.theory_typing.proofs.Faults.{same-type}
 use Rattle.theory_typing.proofs.Values.{place-typed}
 use Rattle.theory_trees.specs.Trees.{expressionIn}
 use Rattle.rewrite_events.specs.Events.{Event, variablesOf}
-use Rattle.rewrite_log.specs.Entries.{suppliedEntry, claimedEntry, readEntry, guardEntry, Entries, noEntry, entryThen}
+use Rattle.rewrite_log.specs.Entries.{suppliedEntry, claimedEntry, readEntry, guardEntry, endEntry, Entries, noEntry, entryThen}
 use Rattle.write_variables.specs.PerEntry.{perEntry}
 use Rattle.honest_statements.specs.Honest.{contentsFrom}
 use Rattle.walk_constraints.specs.Numbers.{HasCode}
@@ -81,6 +81,7 @@ module _ (addressOf : Name → ℕ) (call : ℕ) where
     entries-told nodes (entryThen (claimedEntry g i o n below) rest) h = entries-told nodes rest h
     entries-told nodes (entryThen (readEntry s j o n below) rest) h = one-told (ownerCode o) (readFrom o (expressionIn nodes n)) _ _ (back o (h .0)) (entries-told nodes rest (h .1))
     entries-told nodes (entryThen (guardEntry i) rest) h = one-told 0 guard _ _ refl (entries-told nodes rest (h .1))
+    entries-told nodes (entryThen (endEntry i) rest) h = entries-told nodes rest h
 
     -- The addresses of all these owners are bytes.
     pub record EachNarrow (codes : List ℕ) : Type 0 where
@@ -123,6 +124,7 @@ module _ (addressOf : Name → ℕ) (call : ℕ) where
       entries-narrow nodes (entryThen (claimedEntry g i o n below) rest) h = entries-narrow nodes rest h
       entries-narrow nodes (entryThen (readEntry s j o n below) rest) h = one-narrow (ownerCode o) _ (code-narrow o (h .0)) (entries-narrow nodes rest (h .1))
       entries-narrow nodes (entryThen (guardEntry i) rest) h = one-narrow 0 _ tt (entries-narrow nodes rest (h .1))
+      entries-narrow nodes (entryThen (endEntry i) rest) h = entries-narrow nodes rest h
 
       pub openings-narrow : (private : ℕ) (codes : List ℕ) → EachNarrow codes → EachNarrow (replicate private 1 ++ codes)
       openings-narrow zero codes rest = rest

@@ -1,20 +1,20 @@
 -- The contents of a call's variables, by their owner codes and numbers.
 use mathlib.Core.Path.{_≡_}
-use mathlib.Core.Bool.{cond}
+use mathlib.Core.Bool.{false, cond}
 use mathlib.Core.List.{List, [], _∷_, _++_}
 use Prim.Native.Nat.{ℕ, zero, suc, _+_, _*_, _≤_, _<_}
-use lib.Dec.{eqb}
 use lib.ListN.{length, getD, take, drop, replicate}
 use Rattle.definitions.specs.ContractFile.{Name, Owner, ownerOfCode}
 use Rattle.definitions.specs.Original.{Reader, anyone, only, readerOf}
 use Rattle.definitions.specs.Ledger.{Content, plain, contentFor}
+use Rattle.rewrite_log.specs.Entries.{makesNone}
 use Rattle.ledger_contents.specs.Contents.{contentsOf}
 use Rattle.write_variables.specs.PerEntry.{FromEntry, perEntry}
 use Rattle.ledger_circuits.specs.Circuits.{addressFrom}
 
--- The owner code of an entry's variable; a claim makes none.
+-- The owner code of the variable that an entry makes, if any.
 abbrev pub codeOf : FromEntry
-codeOf tag variable owner node last = cond (eqb tag 1) [] (owner ∷ [])
+codeOf tag variable owner node last = cond (makesNone tag) [] (owner ∷ [])
 
 -- "First, each private parameter is read", for the caller; then those of the body's log.
 abbrev pub codesOf : ℕ → List ℕ → List ℕ
@@ -67,7 +67,7 @@ pub record Left (address : Name → ℕ) (call : ℕ) (slots addresses : List �
 pub record EntryReady (tag code : ℕ) (slots addresses : List ℕ) (n : ℕ) : Type 0 where
   pub small : (k : ℕ) → getD slots k 0 ≤ 4294967296
   pub few : length slots ≤ 1024
-  pub narrow : (tag ≡ 1 → ⊥) → NarrowCode addresses code
+  pub narrow : makesNone tag ≡ false → NarrowCode addresses code
   pub inside : n + length (codeOf tag 0 code 0 0) ≤ length slots
 
 -- What was left with the entry's code is left without it.

@@ -12,8 +12,8 @@ use ledger_contents::put_content;
 use ledger_places::number_at;
 use ledger_readers::Reader;
 use ledger_readers::content_for;
-use rewrite_log::CLAIM_LOGGED;
 use rewrite_log::READ_LOGGED;
+use rewrite_log::makes_none;
 use write_parameters::count_private;
 ghost use mathlib.Core.Path.{_≡_};
 ghost use Prim.Native.Nat.{_≤_};
@@ -122,7 +122,7 @@ fn slot_at(slots: &[u64], n: usize) -> u64
     if n < slots.len() { slots[n] } else { 0 }
 }
 
-// The variable of an entry; a claim makes none.
+// The variable that an entry makes, if any.
 fn put_entry(
     tag: u16,
     code: u16,
@@ -136,7 +136,7 @@ fn put_entry(
     ensures { λ next. ⌜ EntryPut call (now (slots .entry)) (now (addresses .entry)) tag code
         (now (flat .entry)) (now (flat .exit)) n next ⌝ }
 {
-    if tag == CLAIM_LOGGED {
+    if makes_none(tag) {
         n
     } else {
         let slot = slot_at(slots, n);

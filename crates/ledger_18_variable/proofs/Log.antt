@@ -15,6 +15,7 @@ use Rattle.theory_laws.proofs.Lists.{five-next}
 use Rattle.theory_trees.specs.Trees.{expressionIn}
 use Rattle.theory_trees.proofs.Unfolding.{expression-unfolds}
 use Rattle.file_accepted.specs.Context.{Context, nodesIn, scopeIn}
+use Rattle.rewrite_log.specs.Entries.{makesNone}
 use Rattle.ledger_contents.specs.Contents.{contentsOf}
 use Rattle.ledger_contents.proofs.FlatContents.{length-contentsOf}
 use Rattle.ledger_readers.specs.declared.Reader.{Reader}
@@ -58,22 +59,22 @@ module _ (file : List ℕ) (at : ℕ) (addresses log : List ℕ) (i : ℕ) where
     abbrev form : Form
     form = entryForm file at addresses (getD log i 0) (getD log (i + 2) 0) (getD log (i + 3) 0)
 
-    step : (b : Bool) → eqb (getD log i 0) 1 ≡ b → formsLeft ≡ cond b formsNext (form ∷ formsNext)
+    step : (b : Bool) → makesNone (getD log i 0) ≡ b → formsLeft ≡ cond b formsNext (form ∷ formsNext)
     unfolding loggedForms
     step b t = ap (loggedForms file at addresses) (five-next log i inside) ∙ ap (λ (x : Bool). cond x formsNext (form ∷ formsNext)) t
 
-    pub claim-next : getD log i 0 ≡ 1 → allFit fitsOrZero formsNext (drop p contents) ≡ goal
-    claim-next t = ap (λ (l : List Form). allFit fitsOrZero l (drop p contents)) (sym (step true (eq-eqb (getD log i 0) 1 t))) ∙ inv
+    pub none-next : makesNone (getD log i 0) ≡ true → allFit fitsOrZero formsNext (drop p contents) ≡ goal
+    none-next t = ap (λ (l : List Form). allFit fitsOrZero l (drop p contents)) (sym (step true t)) ∙ inv
 
     module _ (a : Bool) (code : ℕ) (reader : Reader)
         (typed : dataTypeOf code ≡ cond (eqb (getD log i 0) 3) boolean (typeOf (scopeIn file at) (expressionIn (nodesIn file) (getD log (i + 3) 0))))
         (read : readerOfCode reader ≡ codeReader addresses (getD log (i + 2) 0)) (tested : a ≡ fitsAt fitsOrZero contents p (formOf code reader))
-        (variable : getD log i 0 ≡ 1 → ⊥) where
+        (variable : makesNone (getD log i 0) ≡ false) where
       form-is : formOf code reader ≡ form
       form-is = λ j. record { type = typed j; reader = read j }
 
       opened : allFit fitsOrZero (form ∷ formsNext) (drop p contents) ≡ goal
-      opened = ap (λ (l : List Form). allFit fitsOrZero l (drop p contents)) (sym (step false (ne-eqb (getD log i 0) 1 variable))) ∙ inv
+      opened = ap (λ (l : List Form). allFit fitsOrZero l (drop p contents)) (sym (step false variable)) ∙ inv
 
       pub entry-next : a ≡ true → allFit fitsOrZero formsNext (drop (p + 1) contents) ≡ goal
       entry-next t = all-next fitsOrZero contents p form formsNext a goal (tested ∙ ap (fitsAt fitsOrZero contents p) form-is) t opened

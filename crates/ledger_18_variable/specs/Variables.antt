@@ -10,6 +10,7 @@ use Rattle.definitions.specs.Original.{Reader, anyone, only, readerOf}
 use Rattle.definitions.specs.Ledger.{Form, variableType}
 use Rattle.theory_trees.specs.Trees.{expressionIn}
 use Rattle.file_accepted.specs.Context.{nodesIn, scopeIn}
+use Rattle.rewrite_log.specs.Entries.{makesNone}
 
 -- The form of a variable in a call where names have addresses, as number 18 has it.
 abbrev pub variableForm : Scope → (Name → ℕ) → Variable → Form
@@ -34,7 +35,7 @@ entryForm file at addresses tag owner node = record {
   reader = codeReader addresses owner;
 }
 
--- A claim makes no variable. A log ends where fewer than five numbers are left.
+-- A claim makes no variable, nor does an end. A log ends where fewer than five numbers are left.
 unfoldable pub loggedForms : List ℕ → ℕ → List ℕ → List ℕ → List Form
 loggedForms file at addresses [] = []
 loggedForms file at addresses (a ∷ []) = []
@@ -42,4 +43,4 @@ loggedForms file at addresses (a ∷ b ∷ []) = []
 loggedForms file at addresses (a ∷ b ∷ c ∷ []) = []
 loggedForms file at addresses (a ∷ b ∷ c ∷ d ∷ []) = []
 loggedForms file at addresses (tag ∷ variable ∷ owner ∷ node ∷ last ∷ log) =
-    cond (eqb tag 1) (loggedForms file at addresses log) (entryForm file at addresses tag owner node ∷ loggedForms file at addresses log)
+    cond (makesNone tag) (loggedForms file at addresses log) (entryForm file at addresses tag owner node ∷ loggedForms file at addresses log)

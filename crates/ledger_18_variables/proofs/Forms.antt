@@ -18,7 +18,7 @@ use Rattle.file_accepted.specs.Context.{Known, nodesIn, parametersIn, scopeIn}
 use Rattle.file_accepted.specs.Functions.{rootAt}
 use Rattle.rewrite_events.specs.Events.{Event, variablesOf}
 use Rattle.rewrite_events.proofs.Statements.{statement-made}
-use Rattle.rewrite_log.specs.Entries.{Entries, noEntry, entryThen, suppliedEntry, claimedEntry, readEntry, guardEntry}
+use Rattle.rewrite_log.specs.Entries.{Entries, noEntry, entryThen, suppliedEntry, claimedEntry, readEntry, guardEntry, endEntry}
 use Rattle.rewrite_log.proofs.FiveNumbers.{entries-length}
 use Rattle.memory_buffer.specs.Buffer.{stored}
 use Rattle.ledger_circuits.specs.Circuits.{addressFrom}
@@ -55,6 +55,7 @@ module _ (file : List ℕ) (at : ℕ) (addresses : List ℕ) where
       let later = logged-told rest (h .1) in
       λ t. record { type = typeOf (scopeIn file at) (expressionIn (nodesIn file) n); reader = reader t } ∷ later t
   logged-told (entryThen (guardEntry i) rest) h = ap (λ (l : List Form). record { type = boolean; reader = anyone } ∷ l) (logged-told rest h)
+  logged-told (entryThen (endEntry i) rest) h = logged-told rest h
 
   abbrev private : List ℕ
   private = privateParameters 0 (parametersIn file at)

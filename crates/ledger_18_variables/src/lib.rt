@@ -4,7 +4,7 @@ use ledger_18_forms::variable_fits_at;
 use ledger_18_variable::code_reader;
 use ledger_18_variable::entry_type;
 use ledger_types::parameter_type;
-use rewrite_log::CLAIM_LOGGED;
+use rewrite_log::makes_none;
 use rewrite_statements::function_log;
 use write_parameters::count_private;
 ghost use mathlib.Core.Path.{_≡_};
@@ -47,7 +47,7 @@ fn openings_fit(file: &[u8], function_at: usize, addresses: &[u32], flat: &[u32]
     true
 }
 
-// The variables of the entries of a log, which stand from a position on. A claim makes none.
+// The variables that the entries of a log make, which stand from a position on.
 fn log_fits(
     file: &[u8],
     function_at: usize,
@@ -66,7 +66,7 @@ fn log_fits(
     let mut p = from;
     while i + 4 < log.len() {
         let tag = log[i];
-        if tag == CLAIM_LOGGED {
+        if makes_none(tag) {
             i += 5;
         } else {
             let code = entry_type(file, function_at, source, tag, log[i + 3] as usize);

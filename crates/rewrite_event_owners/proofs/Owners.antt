@@ -7,7 +7,7 @@ use Prim.Native.Nat.{ℕ, suc, _+_, _<_}
 use Rattle.definitions.specs.ContractFile.{Name, meName, finalName, parameterName, Owner, everyone, ownedBy, FieldOwner, toEveryone, toKey, toFinal, Expression, Statement, Parameter, Scope, fieldAt, parameterAt, isFinal, isDivision}
 use Rattle.definitions.specs.Owners.{isPublicAddress, placeOwner, parameterOwner, nameOf, ownerOf, isPublic}
 use Rattle.definitions.specs.Rewriting.{Guard, under}
-use Rattle.rewrite_events.specs.Events.{Event, suppliedEvent, claimedEvent, readEvent, guardEvent, variableCount, Events, noEvents, inTurn, supplyEvents, readEvents, bodyEvents, circuitEvents, placeEvents, branchEvents, statementEvents}
+use Rattle.rewrite_events.specs.Events.{Event, suppliedEvent, claimedEvent, readEvent, guardEvent, endEvent, variableCount, Events, noEvents, inTurn, supplyEvents, readEvents, bodyEvents, circuitEvents, placeEvents, ended, branchEvents, statementEvents}
 use Rattle.rewrite_event_owners.specs.Listed.{Listed, ownersListed}
 
 fit-append : (first second : List Event) → ownersListed first → ownersListed second → ownersListed (first ++ second)
@@ -17,6 +17,7 @@ fit-append (suppliedEvent i o e ∷ first) second h k = (h .0, fit-append first 
 fit-append (claimedEvent g i o e ∷ first) second h k = (h .0, fit-append first second (h .1) k)
 fit-append (readEvent s j o e ∷ first) second h k = (h .0, fit-append first second (h .1) k)
 fit-append (guardEvent i ∷ first) second h k = fit-append first second h k
+fit-append (endEvent i ∷ first) second h k = fit-append first second h k
 
 record Fit (events : Events) : Type 0 where
   fits : (i : ℕ) → ownersListed (events i)
@@ -37,6 +38,10 @@ read-fits : (o : Owner) (e : Expression) (events : Events) → Listed o → Fit 
 unfolding readEvents ownersListed
 read-fits o e events listed h =
     record { fits = λ i. fit-append (events i) (readEvent i (i + variableCount (events i)) o e ∷ []) (h .fits i) (listed, tt) }
+
+ended-fits : (events : Events) → Fit events → Fit (ended events)
+unfolding ended ownersListed
+ended-fits events h = record { fits = λ i. fit-append (events i) (endEvent (i + variableCount (events i)) ∷ []) (h .fits i) tt }
 
 either-fits : (b : Bool) (x y : Events) → Fit x → Fit y → Fit (cond b x y)
 either-fits true x y h k = h
@@ -148,16 +153,16 @@ module _ (scope : Scope) (listed : ListedScope scope) where
 
   statement-fits : (s : Statement) (g : Guard) → targetsListedIn s → Fit (statementEvents scope s g)
   unfolding statementEvents targetsListedIn
-  statement-fits Statement.skip g h = nothing-fits
+  statement-fits Statement.skip g h = ended-fits _ nothing-fits
   statement-fits (Statement.sequence first second) g h = turn-fits _ _ (statement-fits first g (h .0)) (statement-fits second g (h .1))
   statement-fits (Statement.assignField f value) g h =
-      place-fits g (placeOwner ((fieldAt (scope .fields) f) .owner) none) value (place-listed ((fieldAt (scope .fields) f) .owner) none (listed .places f) tt) h
+      ended-fits _ (place-fits g (placeOwner ((fieldAt (scope .fields) f) .owner) none) value (place-listed ((fieldAt (scope .fields) f) .owner) none (listed .places f) tt) h)
   statement-fits (Statement.assignEntry f key value) g h =
-      turn-fits _ _ (body-fits g key (h .0))
-      (place-fits g (placeOwner ((fieldAt (scope .fields) f) .owner) (nameOf scope key)) value (place-listed ((fieldAt (scope .fields) f) .owner) (nameOf scope key) (listed .places f) (name-listed key)) (h .1))
-  statement-fits (Statement.require condition) g h = body-fits g condition h
+      ended-fits _ (turn-fits _ _ (body-fits g key (h .0))
+      (place-fits g (placeOwner ((fieldAt (scope .fields) f) .owner) (nameOf scope key)) value (place-listed ((fieldAt (scope .fields) f) .owner) (nameOf scope key) (listed .places f) (name-listed key)) (h .1)))
+  statement-fits (Statement.require condition) g h = ended-fits _ (body-fits g condition h)
   statement-fits (Statement.conditional condition then else) g h =
-      turn-fits _ _ (body-fits g condition (h .0))
+      turn-fits _ _ (ended-fits _ (body-fits g condition (h .0)))
       (turn-fits _ _ (branch-fits _ (λ k. statement-fits then k (h .1 .0))) (branch-fits _ (λ k. statement-fits else k (h .1 .1))))
 
   pub events-listed : (s : Statement) (g : Guard) (i : ℕ) → targetsListedIn s → ownersListed (statementEvents scope s g i)

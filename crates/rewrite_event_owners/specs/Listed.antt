@@ -2,7 +2,7 @@
 use mathlib.Core.List.{List, [], _∷_}
 use Prim.Native.Nat.{_<_}
 use Rattle.definitions.specs.ContractFile.{Owner, everyone, ownedBy, meName, finalName, parameterName}
-use Rattle.rewrite_events.specs.Events.{Event, suppliedEvent, claimedEvent, readEvent, guardEvent}
+use Rattle.rewrite_events.specs.Events.{Event, suppliedEvent, claimedEvent, readEvent, guardEvent, endEvent}
 
 abbrev pub Listed : Owner → Type 0
 Listed everyone = Unit {0}
@@ -17,3 +17,4 @@ ownersListed (suppliedEvent i o e ∷ events) = Listed o × ownersListed events
 ownersListed (claimedEvent g i o e ∷ events) = Listed o × ownersListed events
 ownersListed (readEvent s j o e ∷ events) = Listed o × ownersListed events
 ownersListed (guardEvent i ∷ events) = ownersListed events
+ownersListed (endEvent i ∷ events) = ownersListed events

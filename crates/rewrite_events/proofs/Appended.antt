@@ -6,7 +6,7 @@ use lib.ListN.{length, length-append}
 use Rattle.definitions.specs.ContractFile.{Scope}
 use Rattle.definitions.specs.Owners.{ownerOf}
 use Rattle.definitions.specs.Rewriting.{Variable, supplied, readFrom, guard, equals, Claim, Guard, Constraint, Step, inBody, inCircuit, heldUnder}
-use Rattle.rewrite_events.specs.Events.{Event, suppliedEvent, claimedEvent, readEvent, guardEvent, variablesOf, stepsOf, constraintsOf, variableCount}
+use Rattle.rewrite_events.specs.Events.{Event, suppliedEvent, claimedEvent, readEvent, guardEvent, endEvent, variablesOf, stepsOf, constraintsOf, variableCount}
 
 pub variables-append : (first second : List Event) → variablesOf (first ++ second) ≡ variablesOf first ++ variablesOf second
 unfolding variablesOf
@@ -15,6 +15,7 @@ variables-append (suppliedEvent i o e ∷ first) second = ap (λ (l : List Varia
 variables-append (claimedEvent g i o e ∷ first) second = variables-append first second
 variables-append (readEvent s j o e ∷ first) second = ap (λ (l : List Variable). readFrom o e ∷ l) (variables-append first second)
 variables-append (guardEvent i ∷ first) second = ap (λ (l : List Variable). guard ∷ l) (variables-append first second)
+variables-append (endEvent i ∷ first) second = variables-append first second
 
 pub variable-count-append : (first second : List Event) → variableCount (first ++ second) ≡ variableCount first + variableCount second
 variable-count-append first second = ap length (variables-append first second) ∙ length-append (variablesOf first) (variablesOf second)
@@ -27,6 +28,7 @@ steps-append scope (claimedEvent g i o e ∷ first) second = steps-append scope 
 steps-append scope (readEvent s j o e ∷ first) second =
     ap (λ (l : List Step). record { variable = j; value = (inBody (ownerOf scope) e s) .form } ∷ l) (steps-append scope first second)
 steps-append scope (guardEvent i ∷ first) second = steps-append scope first second
+steps-append scope (endEvent i ∷ first) second = steps-append scope first second
 
 pub constraints-append : (scope : Scope) (first second : List Event)
     → constraintsOf scope (first ++ second) ≡ constraintsOf scope first ++ constraintsOf scope second
@@ -37,6 +39,7 @@ constraints-append scope (claimedEvent g i o e ∷ first) second =
     ap (λ (l : List Constraint). record { guard = g; claim = equals i o ((inCircuit (ownerOf scope) e (suc i)) .form) } ∷ l) (constraints-append scope first second)
 constraints-append scope (readEvent s j o e ∷ first) second = constraints-append scope first second
 constraints-append scope (guardEvent i ∷ first) second = constraints-append scope first second
+constraints-append scope (endEvent i ∷ first) second = constraints-append scope first second
 
 pub held-append : (g : Guard) (first second : List Claim) → heldUnder g (first ++ second) ≡ heldUnder g first ++ heldUnder g second
 held-append g [] second = refl

@@ -8,7 +8,7 @@ use lib.ListN.{length, length-append}
 use Rattle.definitions.specs.ContractFile.{meName, Owner, everyone, ownedBy, Expression, Statement, Scope, fieldAt, isDivision}
 use Rattle.definitions.specs.Owners.{nameOf, placeOwner, isPublic}
 use Rattle.definitions.specs.Rewriting.{Guard, under}
-use Rattle.rewrite_events.specs.Events.{Event, suppliedEvent, claimedEvent, readEvent, guardEvent, variablesOf, variableCount, Events, noEvents, inTurn, supplyEvents, readEvents, bodyEvents, circuitEvents, placeEvents, branchEvents, statementEvents}
+use Rattle.rewrite_events.specs.Events.{Event, suppliedEvent, claimedEvent, readEvent, guardEvent, endEvent, variablesOf, variableCount, Events, noEvents, inTurn, supplyEvents, readEvents, bodyEvents, circuitEvents, placeEvents, ended, branchEvents, statementEvents}
 use Rattle.theory_trees.specs.Sizes.{expressionSize, statementSize}
 
 -- Each variable has an event of its own.
@@ -19,6 +19,7 @@ variables-few (suppliedEvent i o e ∷ events) = omega (arith, variables-few eve
 variables-few (claimedEvent g i o e ∷ events) = omega (arith, variables-few events)
 variables-few (readEvent s j o e ∷ events) = omega (arith, variables-few events)
 variables-few (guardEvent i ∷ events) = omega (arith, variables-few events)
+variables-few (endEvent i ∷ events) = omega (arith, variables-few events)
 
 -- At most n events, and as many places left, whatever the first variable is.
 record Within (left n : ℕ) (events : Events) : Type 0 where
@@ -46,6 +47,11 @@ module _ (left n : ℕ) where
   unfolding readEvents
   read-within l m o e events le h =
       record { holds = λ i. omega (arith, h .holds i, length-append (events i) (readEvent i (i + variableCount (events i)) o e ∷ [])) }
+
+  ended-within : (l m : ℕ) (events : Events) → m + 1 + left ≤ n + l → Within l m events → Within left n (ended events)
+  unfolding ended
+  ended-within l m events le h =
+      record { holds = λ i. omega (arith, h .holds i, length-append (events i) (endEvent (i + variableCount (events i)) ∷ [])) }
 
   either-within : (b : Bool) (x y : Events) → Within left n x → Within left n y → Within left n (cond b x y)
   either-within true x y h k = h
@@ -101,15 +107,17 @@ module _ (scope : Scope) (g : Guard) where
 module _ (scope : Scope) where
   statement-within : (s : Statement) (g : Guard) → Within 0 (3 * statementSize s) (statementEvents scope s g)
   unfolding statementEvents statementSize
-  statement-within Statement.skip g = nothing-within _ _ (omega arith)
+  statement-within Statement.skip g = ended-within _ _ 0 0 _ (omega arith) (nothing-within _ _ (omega arith))
   statement-within (Statement.sequence first second) g =
       turn-within _ _ 0 (3 * statementSize first) 0 (3 * statementSize second) _ _ (omega arith) (statement-within first g) (statement-within second g)
-  statement-within (Statement.assignField f value) g = larger-within _ _ 0 (3 * expressionSize value) _ (omega arith) (place-within scope g (placeOwner ((fieldAt (scope .fields) f) .owner) none) value)
+  statement-within (Statement.assignField f value) g = ended-within _ _ 0 (3 * expressionSize value) _ (omega arith) (place-within scope g (placeOwner ((fieldAt (scope .fields) f) .owner) none) value)
   statement-within (Statement.assignEntry f key value) g =
-      turn-within _ _ 0 (3 * expressionSize key) 0 (3 * expressionSize value) _ _ (omega arith) (body-within scope g key) (place-within scope g (placeOwner ((fieldAt (scope .fields) f) .owner) (nameOf scope key)) value)
-  statement-within (Statement.require condition) g = larger-within _ _ 0 (3 * expressionSize condition) _ (omega arith) (body-within scope g condition)
+      ended-within _ _ 0 (3 * (expressionSize key + expressionSize value)) _ (omega arith)
+      (turn-within _ _ 0 (3 * expressionSize key) 0 (3 * expressionSize value) _ _ (omega arith) (body-within scope g key) (place-within scope g (placeOwner ((fieldAt (scope .fields) f) .owner) (nameOf scope key)) value))
+  statement-within (Statement.require condition) g = ended-within _ _ 0 (3 * expressionSize condition) _ (omega arith) (body-within scope g condition)
   statement-within (Statement.conditional condition then else) g =
-      turn-within _ _ 0 (3 * expressionSize condition) 0 (3 * (statementSize then + statementSize else) + 2) _ _ (omega arith) (body-within scope g condition)
+      turn-within _ _ 0 (3 * expressionSize condition + 1) 0 (3 * (statementSize then + statementSize else) + 2) _ _ (omega arith)
+      (ended-within _ _ 0 (3 * expressionSize condition) _ (omega arith) (body-within scope g condition))
       (turn-within _ _ 0 (3 * statementSize then + 1) 0 (3 * statementSize else + 1) _ _ (omega arith)
       (branch-within _ _ (3 * statementSize then) _ (omega arith) (λ k. statement-within then k)) (branch-within _ _ (3 * statementSize else) _ (omega arith) (λ k. statement-within else k)))
 

@@ -5,3 +5,4 @@ pub mod Singles
 pub mod Functions
 pub mod Lengths
 pub mod Parts
+pub mod Ends

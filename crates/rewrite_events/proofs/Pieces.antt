@@ -6,8 +6,8 @@ use Prim.Native.Nat.{ℕ, suc, _+_}
 use lib.ListN.{length}
 use Rattle.definitions.specs.ContractFile.{meName, Owner, everyone, ownedBy, Operator, Expression, Scope, isDivision}
 use Rattle.definitions.specs.Owners.{isPublic, ownerOf}
-use Rattle.definitions.specs.Rewriting.{Variable, BodyExpression, Circuit, Guard, supplied, Generator, kept, onePart, twoParts, supplying, reading, inBody, inCircuit, inPlace}
-use Rattle.rewrite_events.specs.Events.{Event, variablesOf, stepsOf, constraintsOf, Events, noEvents, inTurn, supplyEvents, readEvents, bodyEvents, circuitEvents, placeEvents}
+use Rattle.definitions.specs.Rewriting.{Variable, BodyExpression, Circuit, Guard, supplied, Piece, Generator, kept, onePart, twoParts, supplying, reading, inBody, inCircuit, inPlace}
+use Rattle.rewrite_events.specs.Events.{Event, variablesOf, stepsOf, constraintsOf, Events, noEvents, inTurn, supplyEvents, readEvents, bodyEvents, circuitEvents, placeEvents, ended}
 use Rattle.rewrite_events.specs.Making.{MakesPiece}
 use Rattle.rewrite_events.proofs.Appended.{variables-append, steps-append, constraints-append, held-append}
 
@@ -18,6 +18,16 @@ module _ (scope : Scope) (g : Guard) where
   pub kept-made : {A : Type 0} (form : A) (i : ℕ) → MakesPiece scope g (noEvents i) (kept form i)
   unfolding kept noEvents variablesOf stepsOf constraintsOf
   kept-made form i = record { variables = refl; steps = refl; constraints = refl }
+
+  -- The mark that events are all makes nothing.
+  pub ended-made : {A : Type 0} (piece : Piece A) (events : Events) (i : ℕ) → MakesPiece scope g (events i) piece → MakesPiece scope g (ended events i) piece
+  unfolding ended variablesOf stepsOf constraintsOf
+  ended-made piece events i h =
+      record {
+        variables = variables-append (events i) _ ∙ append-nil _ ∙ h .variables;
+        steps = steps-append scope (events i) _ ∙ append-nil _ ∙ h .steps;
+        constraints = constraints-append scope (events i) _ ∙ append-nil _ ∙ h .constraints;
+      }
 
   pub one-made : {A B : Type 0} (f : A → B) (part : Generator A) (events : List Event) (i : ℕ) → MakesPiece scope g events (part i)
       → MakesPiece scope g events (onePart f part i)

@@ -7,15 +7,17 @@ use lib.ListN.{length}
 use Rattle.definitions.specs.ContractFile.{Statement, Scope, fieldAt}
 use Rattle.definitions.specs.Owners.{nameOf, placeOwner, ownerOf}
 use Rattle.definitions.specs.Rewriting.{Variable, BodyExpression, Command, Guard, under, guard, Generator, kept, inBody, inPlace, StatementGenerator, single, inSequence, inBranch, inBranches, rewriteStatement}
-use Rattle.rewrite_events.specs.Events.{Event, variablesOf, constraintsOf, Events, inTurn, branchEvents, statementEvents}
+use Rattle.rewrite_events.specs.Events.{Event, variablesOf, constraintsOf, Events, inTurn, ended, branchEvents, statementEvents}
 use Rattle.rewrite_events.specs.Making.{MakesPiece, MakesPassage}
 use Rattle.rewrite_events.proofs.Appended.{variables-append, constraints-append}
-use Rattle.rewrite_events.proofs.Pieces.{kept-made, one-made, two-made, body-made, place-made}
+use Rattle.rewrite_events.proofs.Pieces.{kept-made, ended-made, one-made, two-made, body-made, place-made}
 
 module _ (scope : Scope) where
-  single-made : (m : Generator Command) (g : Guard) (i : ℕ) (events : List Event) → MakesPiece scope g events (m i) → MakesPassage scope events (single m g i)
+  single-made : (m : Generator Command) (g : Guard) (i : ℕ) (events : Events) → MakesPiece scope g (events i) (m i) → MakesPassage scope (ended events i) (single m g i)
   unfolding single
-  single-made m g i events h = record { variables = h .variables; constraints = h .constraints }
+  single-made m g i events h =
+      let made = ended-made scope g (m i) events i h in
+      record { variables = made .variables; constraints = made .constraints }
 
   sequence-made : (first second : StatementGenerator) (g : Guard) (a b : Events) → ((i : ℕ) → MakesPassage scope (a i) (first g i))
       → ((i : ℕ) → MakesPassage scope (b i) (second g i)) → (i : ℕ) → MakesPassage scope (inTurn a b i) (inSequence first second g i)
@@ -38,18 +40,18 @@ module _ (scope : Scope) where
   branches-made : (condition : Generator BodyExpression) (then else : StatementGenerator) (g : Guard) (c : Events) (a b : Guard → Events)
       → ((i : ℕ) → MakesPiece scope g (c i) (condition i)) → ((g : Guard) (i : ℕ) → MakesPassage scope (a g i) (then g i))
       → ((g : Guard) (i : ℕ) → MakesPassage scope (b g i) (else g i))
-      → (i : ℕ) → MakesPassage scope (inTurn c (inTurn (branchEvents a) (branchEvents b)) i) (inBranches condition then else g i)
+      → (i : ℕ) → MakesPassage scope (inTurn (ended c) (inTurn (branchEvents a) (branchEvents b)) i) (inBranches condition then else g i)
   unfolding inBranches inTurn
   branches-made condition then else g c a b h k l i =
-      let p = h i in
-      let j : i + length (variablesOf (c i)) ≡ i + length ((condition i) .variables) = ap (λ (l : List Variable). i + length l) (p .variables) in
+      let p = ended-made scope g (condition i) c i (h i) in
+      let j : i + length (variablesOf (ended c i)) ≡ i + length ((condition i) .variables) = ap (λ (l : List Variable). i + length l) (p .variables) in
       let start = i + length ((condition i) .variables) in
       let q = branch-made then a k start in
       let j′ : start + length (variablesOf (branchEvents a start)) ≡ start + length ((inBranch then start) .variables) = ap (λ (l : List Variable). start + length l) (q .variables) in
       let r = branch-made else b l (start + length ((inBranch then start) .variables)) in
       record {
-        variables = rw (j, j′) (variables-append (c i) _ ∙ ap₂ _++_ (p .variables) (variables-append (branchEvents a start) _ ∙ ap₂ _++_ (q .variables) (r .variables)));
-        constraints = rw (j, j′) (constraints-append scope (c i) _ ∙ ap₂ _++_ (p .constraints) (constraints-append scope (branchEvents a start) _ ∙ ap₂ _++_ (q .constraints) (r .constraints)));
+        variables = rw (j, j′) (variables-append (ended c i) _ ∙ ap₂ _++_ (p .variables) (variables-append (branchEvents a start) _ ∙ ap₂ _++_ (q .variables) (r .variables)));
+        constraints = rw (j, j′) (constraints-append scope (ended c i) _ ∙ ap₂ _++_ (p .constraints) (constraints-append scope (branchEvents a start) _ ∙ ap₂ _++_ (q .constraints) (r .constraints)));
       }
 
   pub statement-made : (s : Statement) (g : Guard) (i : ℕ) → MakesPassage scope (statementEvents scope s g i) (rewriteStatement scope s g i)

@@ -17,6 +17,8 @@ pub data Event : Type 0 where
   readEvent : ℕ → ℕ → Owner → Expression → Event
   -- A variable is a branch's guard.
   guardEvent : ℕ → Event
+  -- A statement that holds no other, or a condition, has no further events; the next variable has this number.
+  endEvent : ℕ → Event
 
 -- What the events make.
 unfoldable pub variablesOf : List Event → List Variable
@@ -25,6 +27,7 @@ variablesOf (suppliedEvent i o e ∷ events) = supplied o e ∷ variablesOf even
 variablesOf (claimedEvent g i o e ∷ events) = variablesOf events
 variablesOf (readEvent s j o e ∷ events) = readFrom o e ∷ variablesOf events
 variablesOf (guardEvent i ∷ events) = guard ∷ variablesOf events
+variablesOf (endEvent i ∷ events) = variablesOf events
 
 unfoldable pub stepsOf : Scope → List Event → List Step
 stepsOf scope [] = []
@@ -32,6 +35,7 @@ stepsOf scope (suppliedEvent i o e ∷ events) = stepsOf scope events
 stepsOf scope (claimedEvent g i o e ∷ events) = stepsOf scope events
 stepsOf scope (readEvent s j o e ∷ events) = record { variable = j; value = (inBody (ownerOf scope) e s) .form } ∷ stepsOf scope events
 stepsOf scope (guardEvent i ∷ events) = stepsOf scope events
+stepsOf scope (endEvent i ∷ events) = stepsOf scope events
 
 unfoldable pub constraintsOf : Scope → List Event → List Constraint
 constraintsOf scope [] = []
@@ -40,6 +44,7 @@ constraintsOf scope (claimedEvent g i o e ∷ events) =
     record { guard = g; claim = equals i o ((inCircuit (ownerOf scope) e (suc i)) .form) } ∷ constraintsOf scope events
 constraintsOf scope (readEvent s j o e ∷ events) = constraintsOf scope events
 constraintsOf scope (guardEvent i ∷ events) = constraintsOf scope events
+constraintsOf scope (endEvent i ∷ events) = constraintsOf scope events
 
 abbrev pub variableCount : List Event → ℕ
 variableCount events = length (variablesOf events)
@@ -102,16 +107,23 @@ module _ (scope : Scope) (g : Guard) where
   placeEvents everyone e = bodyEvents e
   placeEvents (ownedBy n) e = cond (isPublic scope e) (supplyEvents g (ownedBy n) e (circuitEvents e)) (bodyEvents e)
 
+-- Events, and the mark that they are all. It makes nothing: who writes the body finds by it which reads are steps of which statement.
+unfoldable pub ended : Events → Events
+ended events i = events i ++ (endEvent (i + variableCount (events i)) ∷ [])
+
 -- "Each branch begins by setting a guard variable of its own to true; constraints inside hold under the innermost guard."
 unfoldable pub branchEvents : (Guard → Events) → Events
 branchEvents inside i = guardEvent i ∷ inside (under i) (suc i)
 
 unfoldable pub statementEvents : Scope → Statement → Guard → Events
-statementEvents scope Statement.skip g = noEvents
+statementEvents scope Statement.skip g = ended noEvents
 statementEvents scope (Statement.sequence first second) g = inTurn (statementEvents scope first g) (statementEvents scope second g)
-statementEvents scope (Statement.assignField f value) g = placeEvents scope g (placeOwner ((fieldAt (scope .fields) f) .owner) none) value
+statementEvents scope (Statement.assignField f value) g =
+    ended (placeEvents scope g (placeOwner ((fieldAt (scope .fields) f) .owner) none) value)
 statementEvents scope (Statement.assignEntry f key value) g =
-    inTurn (bodyEvents scope g key) (placeEvents scope g (placeOwner ((fieldAt (scope .fields) f) .owner) (nameOf scope key)) value)
-statementEvents scope (Statement.require condition) g = bodyEvents scope g condition
+    ended (inTurn (bodyEvents scope g key)
+    (placeEvents scope g (placeOwner ((fieldAt (scope .fields) f) .owner) (nameOf scope key)) value))
+statementEvents scope (Statement.require condition) g = ended (bodyEvents scope g condition)
 statementEvents scope (Statement.conditional condition then else) g =
-    inTurn (bodyEvents scope g condition) (inTurn (branchEvents (statementEvents scope then)) (branchEvents (statementEvents scope else)))
+    inTurn (ended (bodyEvents scope g condition))
+    (inTurn (branchEvents (statementEvents scope then)) (branchEvents (statementEvents scope else)))

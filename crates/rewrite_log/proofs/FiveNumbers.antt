@@ -10,7 +10,7 @@ use Rattle.memory_buffer.proofs.Storing.{stored-length, stored-nothing, stored-
 use Rattle.rewrite_events.specs.Events.{Event, variablesOf, variableCount}
 use Rattle.rewrite_events.proofs.Appended.{variables-append}
 use Rattle.rewrite_log.specs.declared.Position.{Position}
-use Rattle.rewrite_log.specs.Entries.{five, IsEntry, suppliedEntry, claimedEntry, readEntry, guardEntry, Entries, noEntry, entryThen}
+use Rattle.rewrite_log.specs.Entries.{five, IsEntry, suppliedEntry, claimedEntry, readEntry, guardEntry, endEntry, Entries, noEntry, entryThen}
 use Rattle.rewrite_log.specs.Logs.{Slot, Wrote, Room, Logged}
 
 -- Five numbers stored one after another.
@@ -28,6 +28,7 @@ module _ (nodes : List Node) where
   entry-length (claimedEntry g i o n h) = refl
   entry-length (readEntry s j o n h) = refl
   entry-length (guardEntry i) = refl
+  entry-length (endEntry i) = refl
 
   pub entries-length : {events : List Event} {numbers : List ℕ} → Entries nodes events numbers → length numbers ≡ 5 * length events
   entries-length noEntry = refl

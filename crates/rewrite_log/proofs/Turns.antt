@@ -1,4 +1,4 @@
--- The log of parts in turn, of what is supplied, of what is read and of a branch, each from the logs of its parts.
+-- The log of parts in turn, of what is supplied, of what is read, of what ends and of a branch, each from the logs of its parts.
 use mathlib.Core.Path.{_≡_, refl, ap, sym, subst, _∙_}
 use mathlib.Core.List.{List, [], _∷_, _++_}
 use Prim.Native.Nat.{ℕ, zero, suc, _+_, _<_}
@@ -8,9 +8,9 @@ use lib.ListN.{length}
 use Rattle.definitions.specs.ContractFile.{Owner, Expression, ownerCode, Node}
 use Rattle.definitions.specs.Rewriting.{Guard, guardNumber}
 use Rattle.theory_trees.specs.Trees.{expressionIn}
-use Rattle.rewrite_events.specs.Events.{suppliedEvent, claimedEvent, readEvent, guardEvent, variablesOf, variableCount, Events, inTurn, supplyEvents, readEvents, branchEvents}
+use Rattle.rewrite_events.specs.Events.{suppliedEvent, claimedEvent, readEvent, guardEvent, endEvent, variablesOf, variableCount, Events, inTurn, supplyEvents, readEvents, ended, branchEvents}
 use Rattle.rewrite_log.specs.declared.Position.{Position}
-use Rattle.rewrite_log.specs.Entries.{guardOf, five, suppliedEntry, claimedEntry, readEntry, guardEntry}
+use Rattle.rewrite_log.specs.Entries.{guardOf, five, suppliedEntry, claimedEntry, readEntry, guardEntry, endEntry}
 use Rattle.rewrite_log.specs.Logs.{Slot, Wrote, Room, Logged}
 use Rattle.rewrite_log.proofs.FiveNumbers.{one-logged, then-logged, room-first, room-second, slot-in}
 
@@ -33,6 +33,10 @@ one-read s j o e = refl
 one-guard : (i : ℕ) → variableCount (guardEvent i ∷ []) ≡ 1
 unfolding variablesOf
 one-guard i = refl
+
+no-end : (i : ℕ) → variableCount (endEvent i ∷ []) ≡ 0
+unfolding variablesOf
+no-end i = refl
 
 module _ (nodes : List Node) where
   -- Events at the first variable that a log gives, and at the one that is due.
@@ -109,6 +113,22 @@ module _ (nodes : List Node) where
       read-logged after r w =
           then-logged nodes before first p q (parts (p .variable)) logged after r _ room
           (one-logged nodes first after q r _ _ 1 (readEntry (p .variable) (p .variable + variableCount (parts (p .variable))) o n known) (one-read _ _ _ _) (rw (is, ← logged .variable) w))
+
+  module _ (events : Events) (before first : List ℕ) (p q : Position) (room : Room before p (ended events (p .variable))) where
+    pub ended-parts : Room before p (events (p .variable))
+    unfolding ended
+    ended-parts = room-first before p (events (p .variable)) _ room
+
+    module _ (logged : Logged nodes before first p q (events (p .variable))) where
+      pub end-slot : Slot first q 0
+      unfolding ended
+      end-slot = slot-in first q (endEvent (p .variable + variableCount (events (p .variable)))) 0 (no-end _) (room-second nodes before first p q (events (p .variable)) logged _ room)
+
+      pub ended-logged : (after : List ℕ) (r : Position) → Wrote first after q r (five 4 (q .variable) 0 0 0) 0 → Logged nodes before after p r (ended events (p .variable))
+      unfolding ended
+      ended-logged after r w =
+          then-logged nodes before first p q (events (p .variable)) logged after r _ room
+          (one-logged nodes first after q r _ _ 0 (endEntry (p .variable + variableCount (events (p .variable)))) (no-end _) (rw (← logged .variable) w))
 
   module _ (inside : Guard → Events) (before first : List ℕ) (p q : Position) (room : Room before p (branchEvents inside (p .variable))) where
     pub branch-slot : Slot before p 1

@@ -1,11 +1,13 @@
 -- An event as five numbers of a log. A node's number stands for the expression of that node.
+use mathlib.Core.Bool.{Bool, _||_}
 use mathlib.Core.List.{List, [], _∷_, _++_}
 use Prim.Native.Nat.{ℕ, zero, suc, _<_}
+use lib.Dec.{eqb}
 use lib.ListN.{length}
 use Rattle.definitions.specs.ContractFile.{Owner, ownerCode, Node}
 use Rattle.definitions.specs.Rewriting.{Guard, always, under, guardNumber}
 use Rattle.theory_trees.specs.Trees.{expressionIn}
-use Rattle.rewrite_events.specs.Events.{Event, suppliedEvent, claimedEvent, readEvent, guardEvent}
+use Rattle.rewrite_events.specs.Events.{Event, suppliedEvent, claimedEvent, readEvent, guardEvent, endEvent}
 
 -- "each guard (0, or 1 + variable)"
 abbrev pub guardOf : ℕ → Guard
@@ -24,6 +26,11 @@ pub data IsEntry (nodes : List Node) : Event → List ℕ → Type 0 where
   readEntry : (s j : ℕ) (o : Owner) (n : ℕ) → n < length nodes
       → IsEntry nodes (readEvent s j o (expressionIn nodes n)) (five 2 j (ownerCode o) n s)
   guardEntry : (i : ℕ) → IsEntry nodes (guardEvent i) (five 3 i 0 0 0)
+  endEntry : (i : ℕ) → IsEntry nodes (endEvent i) (five 4 i 0 0 0)
+
+-- The entries of claims and ends make no variable.
+abbrev pub makesNone : ℕ → Bool
+makesNone tag = eqb tag 1 || eqb tag 4
 
 -- The numbers of events, one entry after another.
 pub data Entries (nodes : List Node) : List Event → List ℕ → Type 0 where

@@ -4,6 +4,7 @@ ghost use mathlib.Core.Path.{_≡_};
 ghost use Prim.Native.Nat.{_+_, _≤_};
 ghost use lib.ListN.{length};
 ghost use Rattle.memory_buffer.specs.Buffer.{stored};
+ghost use Rattle.rewrite_log.specs.Entries.{makesNone};
 ghost use Rattle.rewrite_log.specs.Logs.{numbersOf, SmallEntry, Slot, Wrote};
 
 // Where the next entry of a log goes, and the number of the next variable.
@@ -12,7 +13,7 @@ pub struct Position {
     pub variable: usize,
 }
 
-// The tags of entries: a supplied variable, its claim, a read variable, a guard.
+// The tags of entries: a supplied variable, its claim, a read variable, a guard, the end of a statement's or a condition's entries.
 pub const SUPPLIED_EVENT: usize = 0;
 
 pub const CLAIM_EVENT: usize = 1;
@@ -20,6 +21,8 @@ pub const CLAIM_EVENT: usize = 1;
 pub const READ_EVENT: usize = 2;
 
 pub const GUARD_EVENT: usize = 3;
+
+pub const END_EVENT: usize = 4;
 
 // The tags as the numbers that a log holds.
 pub const SUPPLIED_LOGGED: u16 = SUPPLIED_EVENT as u16;
@@ -30,6 +33,8 @@ pub const READ_LOGGED: u16 = READ_EVENT as u16;
 
 pub const GUARD_LOGGED: u16 = GUARD_EVENT as u16;
 
+pub const END_LOGGED: u16 = END_EVENT as u16;
+
 // `last` is the number of a claim's guard, or the first variable of what is read.
 pub struct Entry {
     pub tag: usize,
@@ -37,6 +42,13 @@ pub struct Entry {
     pub owner: usize,
     pub node: usize,
     pub last: usize,
+}
+
+// Whether an entry makes no variable: a claim, or an end.
+pub fn makes_none(tag: u16) -> bool
+    ensures { λ r. ⌜ r ≡ makesNone tag ⌝ }
+{
+    tag == CLAIM_LOGGED || tag == END_LOGGED
 }
 
 fn put_entry(log: &mut [u16], at: usize, entry: Entry)

@@ -1,20 +1,23 @@
 -- The log of a statement, by the kind of its node's record, from the logs of its parts.
 use mathlib.Core.Path.{_≡_, ap, sym, subst}
+use mathlib.Core.Bool.{true}
 use mathlib.Core.List.{List}
 use Prim.Native.Nat.{ℕ, _+_, _*_, _<_}
 use native.Mathlib.Omega.{arith}
 use Rattle.definitions.specs.ContractFile.{Statement, NodeRecord, nodeCount, nodeRecord}
 use Rattle.theory_trees.specs.Trees.{statementIn}
 use Rattle.file_accepted.specs.Context.{nodesIn, scopeIn}
-use Rattle.file_accepted.proofs.Statements.{Still, still-is, sequence-is, assign-field-is, assign-entry-is, require-is, conditional-is, steps-below, value-below, key-and-value-below, required-below, branches-below}
-use Rattle.rewrite_events.specs.Events.{Events, noEvents, inTurn, statementEvents}
+use Rattle.file_accepted.proofs.Statements.{sequence-is, conditional-is, steps-below, branches-below}
+use Rattle.rewrite_events.specs.Events.{Events, inTurn, statementEvents}
+use Rattle.rewrite_events.specs.Ends.{isSimple}
 use Rattle.rewrite_log.specs.declared.Position.{Position}
 use Rattle.rewrite_log.specs.Entries.{guardOf, five}
 use Rattle.rewrite_log.specs.Logs.{Slot, Wrote, Room, Logged, SmallEntry}
-use Rattle.rewrite_log.proofs.FiveNumbers.{nothing-logged}
 use Rattle.rewrite_log.proofs.Turns.{turn-first, turn-second, turn-logged, branch-slot, branch-inside, branch-logged}
-use Rattle.rewrite_expressions.specs.Translations.{bodyOf, statementOf, Ready}
-use Rattle.rewrite_assignments.specs.Placing.{assignFieldOf, assignEntryOf, branchOf}
+use Rattle.rewrite_expressions.specs.Translations.{statementOf, Ready}
+use Rattle.rewrite_assignments.specs.Placing.{branchOf}
+use Rattle.rewrite_simple_statements.specs.Simple.{conditionOf}
+use Rattle.rewrite_simple_statements.proofs.ByKind.{others-simple}
 use Rattle.file_decoded.specs.Slices.{recordAt}
 
 module _ (file : List ℕ) (functionStart : ℕ) (source : List ℕ) (guard : ℕ) (n : ℕ) (before : List ℕ) (p : Position)
@@ -35,10 +38,9 @@ module _ (file : List ℕ) (functionStart : ℕ) (source : List ℕ) (guard : �
   statement-as : (s : Statement) → statementIn (nodesIn file) n ≡ s → whole ≡ statementEvents (scopeIn file functionStart) s (guardOf guard)
   statement-as s e = ap (λ (x : Statement). statementEvents (scopeIn file functionStart) x (guardOf guard)) e
 
-  pub still-logged : Still (r .kind) → Logged (nodesIn file) before before p p (whole (p .variable))
-  unfolding statementEvents noEvents
-  still-logged k =
-      logged-as before p noEvents (statement-as _ (still-is file functionStart source (ready .context) n (ready .inside) r same k)) (nothing-logged (nodesIn file) before p)
+  -- Every kind but a sequence's and a conditional's holds no other statement.
+  pub others-ready : (r .kind ≡ 17 → ⊥) → (r .kind ≡ 21 → ⊥) → (isSimple (statementIn (nodesIn file) n) ≡ true) × (Ready file functionStart source n before p whole)
+  others-ready a b = (others-simple file functionStart source (ready .context) n (ready .inside) r same a b, ready)
 
   module _ (k : r .kind ≡ 17) where
     sequence-events : whole ≡ inTurn (statementOf file functionStart guard (r .first)) (statementOf file functionStart guard (r .second))
@@ -61,48 +63,9 @@ module _ (file : List ℕ) (functionStart : ℕ) (source : List ℕ) (guard : �
           logged-as after s _ sequence-events
           (turn-logged (nodesIn file) before middle p q (statementOf file functionStart guard (r .first)) (statementOf file functionStart guard (r .second)) (room-as _ sequence-events) after s logged h)
 
-  module _ (k : r .kind ≡ 18) where
-    assign-field-events : whole ≡ assignFieldOf file functionStart guard (r .arg) (r .first)
-    unfolding statementEvents
-    assign-field-events = statement-as _ (assign-field-is file functionStart source (ready .context) n (ready .inside) r same k)
-
-    pub assign-field-ready : Ready file functionStart source (r .first) before p (assignFieldOf file functionStart guard (r .arg) (r .first))
-    assign-field-ready = part (r .first) before p (assignFieldOf file functionStart guard (r .arg) (r .first)) (value-below file functionStart source (ready .context) n (ready .inside) r same k) (room-as _ assign-field-events)
-
-    pub assign-field-logged : (after : List ℕ) (q : Position) → Logged (nodesIn file) before after p q (assignFieldOf file functionStart guard (r .arg) (r .first) (p .variable))
-        → Logged (nodesIn file) before after p q (whole (p .variable))
-    assign-field-logged after q h = logged-as after q (assignFieldOf file functionStart guard (r .arg) (r .first)) assign-field-events h
-
-  module _ (k : r .kind ≡ 19) where
-    assign-entry-events : whole ≡ assignEntryOf file functionStart guard (r .arg) (r .first) (r .second)
-    unfolding statementEvents
-    assign-entry-events = statement-as _ (assign-entry-is file functionStart source (ready .context) n (ready .inside) r same k)
-
-    pub entry-value-inside : r .second < nodeCount file
-    entry-value-inside = let less = key-and-value-below file functionStart source (ready .context) n (ready .inside) r same k .1 in omega (arith, ready .inside)
-
-    pub assign-entry-ready : Ready file functionStart source (r .first) before p (assignEntryOf file functionStart guard (r .arg) (r .first) (r .second))
-    assign-entry-ready = part (r .first) before p (assignEntryOf file functionStart guard (r .arg) (r .first) (r .second)) (key-and-value-below file functionStart source (ready .context) n (ready .inside) r same k .0) (room-as _ assign-entry-events)
-
-    pub assign-entry-logged : (after : List ℕ) (q : Position) → Logged (nodesIn file) before after p q (assignEntryOf file functionStart guard (r .arg) (r .first) (r .second) (p .variable))
-        → Logged (nodesIn file) before after p q (whole (p .variable))
-    assign-entry-logged after q h = logged-as after q (assignEntryOf file functionStart guard (r .arg) (r .first) (r .second)) assign-entry-events h
-
-  module _ (k : r .kind ≡ 20) where
-    require-events : whole ≡ bodyOf file functionStart guard (r .first)
-    unfolding statementEvents
-    require-events = statement-as _ (require-is file functionStart source (ready .context) n (ready .inside) r same k)
-
-    pub require-ready : Ready file functionStart source (r .first) before p (bodyOf file functionStart guard (r .first))
-    require-ready = part (r .first) before p (bodyOf file functionStart guard (r .first)) (required-below file functionStart source (ready .context) n (ready .inside) r same k) (room-as _ require-events)
-
-    pub require-logged : (after : List ℕ) (q : Position) → Logged (nodesIn file) before after p q (bodyOf file functionStart guard (r .first) (p .variable))
-        → Logged (nodesIn file) before after p q (whole (p .variable))
-    require-logged after q h = logged-as after q (bodyOf file functionStart guard (r .first)) require-events h
-
   module _ (k : r .kind ≡ 21) where
     abbrev condition : Events
-    condition = bodyOf file functionStart guard (r .first)
+    condition = conditionOf file functionStart guard (r .first)
 
     abbrev then : Events
     then = branchOf file functionStart (r .second)

@@ -2,18 +2,14 @@
 use file_bytes::function_end;
 use file_bytes::two_bytes_at;
 use file_decoded::node_at;
-use file_kinds::ENTRY_TAKES;
-use file_kinds::FIELD_TAKES;
 use file_kinds::IF;
-use file_kinds::REQUIRE;
 use file_kinds::SEQUENCE;
-use rewrite_assignments::assign_entry_log;
-use rewrite_assignments::assign_field_log;
-use rewrite_expressions::body_log;
 use rewrite_log::Entry;
 use rewrite_log::GUARD_EVENT;
 use rewrite_log::Position;
 use rewrite_log::log_entry;
+use rewrite_simple_statements::condition_log;
+use rewrite_simple_statements::simple_log;
 ghost use Rattle.file_accepted.specs.Context.{nodesIn};
 ghost use Rattle.file_accepted.specs.Functions.{rootAt};
 ghost use Rattle.rewrite_log.specs.Logs.{Logged};
@@ -66,34 +62,12 @@ pub fn statement_log(
             let q = statement_log(file, function_at, source, node.first, guard, log, p);
             statement_log(file, function_at, source, node.second, guard, log, q)
         }
-        FIELD_TAKES => assign_field_log(
-            file,
-            function_at,
-            source,
-            node.arg,
-            node.first,
-            guard,
-            log,
-            p,
-        ),
-        ENTRY_TAKES => assign_entry_log(
-            file,
-            function_at,
-            source,
-            node.arg,
-            node.first,
-            node.second,
-            guard,
-            log,
-            p,
-        ),
-        REQUIRE => body_log(file, function_at, source, node.first, guard, log, p),
         IF => {
-            let q = body_log(file, function_at, source, node.first, guard, log, p);
+            let q = condition_log(file, function_at, source, node.first, guard, log, p);
             let r = branch_log(file, function_at, source, node.second, log, q);
             branch_log(file, function_at, source, node.third, log, r)
         }
-        _ => p,
+        _ => simple_log(file, function_at, source, n, guard, log, p),
     }
 }
 

@@ -15,7 +15,7 @@ use Rattle.memory_buffer.proofs.Storing.{stored-length}
 use Rattle.file_accepted.specs.Context.{Context, nodesIn, fieldsIn, parametersIn, scopeIn, Source}
 use Rattle.file_accepted.specs.Functions.{rootAt}
 use Rattle.write_nodes.proofs.TreeNodes.{run-then}
-use Rattle.rewrite_events.specs.Events.{Event, suppliedEvent, claimedEvent, readEvent, guardEvent, constraintsOf, statementEvents}
+use Rattle.rewrite_events.specs.Events.{Event, suppliedEvent, claimedEvent, readEvent, guardEvent, endEvent, constraintsOf, statementEvents}
 use Rattle.rewrite_events.proofs.Functions.{function-constraints}
 use Rattle.write_parameters.specs.Parameters.{privateCount}
 use Rattle.write_function_room.specs.Functions.{functionIn, writtenIn, privateIn, eventsIn, FunctionRoom}
@@ -48,6 +48,7 @@ constraints-few scope (suppliedEvent i o e ∷ events) = let h = constraints-few
 constraints-few scope (claimedEvent g i o e ∷ events) = let h = constraints-few scope events in omega arith
 constraints-few scope (readEvent s j o e ∷ events) = let h = constraints-few scope events in omega arith
 constraints-few scope (guardEvent i ∷ events) = let h = constraints-few scope events in omega arith
+constraints-few scope (endEvent i ∷ events) = let h = constraints-few scope events in omega arith
 
 module _ (file : List ℕ) (at : ℕ) where
   abbrev written : WrittenFunction

@@ -1,17 +1,15 @@
--- The command of a sequence and of a conditional from those of its parts, and how many events and variables it has.
+-- The command of a sequence and of a conditional from those of its parts.
 use mathlib.Core.Path.{_≡_, refl, ap, ap₂, sym, _∙_}
 use Prim.Native.Nat.{ℕ, suc, _+_}
 use native.Mathlib.Numerals.{add-one}
-use lib.ListN.{length, length-append}
+use lib.ListN.{length}
 use Rattle.definitions.specs.ContractFile.{boolean, Expression, Statement, Scope}
 use Rattle.definitions.specs.Owners.{ownerOf}
 use Rattle.definitions.specs.Rewriting.{BodyExpression, Command, Guard, always, under, stepsBefore, inBody, single, inSequence, inBranch, inBranches, rewriteStatement}
-use Rattle.rewrite_events.proofs.Appended.{variable-count-append}
-use Rattle.rewrite_events.specs.Events.{variablesOf, variableCount, stepsOf, inTurn, bodyEvents, branchEvents, statementEvents}
-use Rattle.rewrite_events.proofs.Pieces.{body-made}
-use Rattle.rewrite_events.proofs.Singles.{conditional-command}
+use Rattle.rewrite_events.specs.Events.{variableCount, variablesOf, ended, bodyEvents, branchEvents, statementEvents}
+use Rattle.rewrite_events.proofs.Pieces.{ended-made, body-made}
 use Rattle.rewrite_events.proofs.Statements.{statement-made}
-use Rattle.write_bodies.specs.Parts.{commandOf, eventsOf, branchCommand, branchEventCount, branchVariableCount}
+use Rattle.write_bodies.specs.Parts.{commandOf, eventsOf, branchCommand, branchOf, conditionOf}
 use Rattle.write_bodies.proofs.Guards.{statement-alike}
 
 module _ (scope : Scope) where
@@ -37,17 +35,6 @@ module _ (scope : Scope) where
   command-same (Statement.require condition) g k i = refl
   command-same (Statement.conditional condition then else) g k i = refl
 
-  pub sequence-events : (first second : Statement) (i : ℕ)
-      → length (eventsOf scope (Statement.sequence first second) i) ≡ length (eventsOf scope first i) + length (eventsOf scope second (i + variableCount (eventsOf scope first i)))
-  unfolding statementEvents inTurn
-  sequence-events first second i = length-append (eventsOf scope first i) _
-
-  pub sequence-variables : (first second : Statement) (i : ℕ)
-      → variableCount (eventsOf scope (Statement.sequence first second) i)
-      ≡ variableCount (eventsOf scope first i) + variableCount (eventsOf scope second (i + variableCount (eventsOf scope first i)))
-  unfolding statementEvents inTurn
-  sequence-variables first second i = variable-count-append (eventsOf scope first i) _
-
   -- A branch, whose guard is variable j.
   branch-command : (s : Statement) (j : ℕ) → (inBranch (rewriteStatement scope s) j) .command ≡ branchCommand scope s j
   unfolding inBranch
@@ -55,58 +42,29 @@ module _ (scope : Scope) where
       ap (Command.sequence (Command.setVariable j (BodyExpression.constant boolean 1)))
       (command-same s (under j) always (suc j) ∙ ap (λ (n : ℕ). commandOf scope s n) (sym (add-one j)))
 
-  branch-made : (s : Statement) (j : ℕ) → length ((inBranch (rewriteStatement scope s) j) .variables) ≡ branchVariableCount scope s j
-  unfolding inBranch
-  branch-made s j =
-      ap suc (counted s (under j) (suc j) ∙ ap (λ (n : ℕ). variableCount (eventsOf scope s n)) (sym (add-one j)))
-      ∙ sym (add-one (variableCount (eventsOf scope s (j + 1))))
-
-  branch-events : (s : Statement) (j : ℕ) → length (branchEvents (statementEvents scope s) j) ≡ branchEventCount scope s j
-  unfolding branchEvents
-  branch-events s j = ap suc (statement-alike scope s (under j) always .lengths (suc j) (j + 1)) ∙ sym (add-one (length (eventsOf scope s (j + 1))))
-
-  branch-variables : (s : Statement) (j : ℕ) → variableCount (branchEvents (statementEvents scope s) j) ≡ branchVariableCount scope s j
-  unfolding branchEvents variablesOf
-  branch-variables s j = ap suc (statement-alike scope s (under j) always .variables (suc j) (j + 1)) ∙ sym (add-one (variableCount (eventsOf scope s (j + 1))))
+  branch-made : (s : Statement) (j : ℕ) → length ((inBranch (rewriteStatement scope s) j) .variables) ≡ variableCount (branchOf scope s j)
+  unfolding inBranch branchEvents variablesOf
+  branch-made s j = ap suc (ap length (sym (statement-made scope s (under j) (suc j) .variables)))
 
   module _ (condition : Expression) (then else : Statement) (i : ℕ) where
     abbrev first : ℕ
-    first = i + variableCount (bodyEvents scope always condition i)
+    first = i + variableCount (conditionOf scope condition i)
 
     abbrev second : ℕ
-    second = first + branchVariableCount scope then first
+    second = first + variableCount (branchOf scope then first)
+
+    abbrev shaped : Command → Command → Command
+    shaped a b = stepsBefore ((inBody (ownerOf scope) condition i) .steps) (Command.conditional ((inBody (ownerOf scope) condition i) .form) a b)
+
+    condition-made : length ((inBody (ownerOf scope) condition i) .variables) ≡ variableCount (conditionOf scope condition i)
+    condition-made = ap length (sym (ended-made scope always _ (bodyEvents scope always condition) i (body-made scope always condition i) .variables))
 
     pub branching-command : commandOf scope (Statement.conditional condition then else) i
-        ≡ stepsBefore (stepsOf scope (bodyEvents scope always condition i))
-        (Command.conditional ((inBody (ownerOf scope) condition i) .form) (branchCommand scope then first) (branchCommand scope else second))
-    unfolding rewriteStatement
+        ≡ shaped (branchCommand scope then first) (branchCommand scope else second)
+    unfolding rewriteStatement inBranches
     branching-command =
-        conditional-command scope always i condition (rewriteStatement scope then) (rewriteStatement scope else)
-        ∙ ap (λ (n : ℕ). shaped (inBranch (rewriteStatement scope then) (i + n) .command)
+        ap (λ (n : ℕ). shaped (inBranch (rewriteStatement scope then) (i + n) .command)
         (inBranch (rewriteStatement scope else) (i + n + length ((inBranch (rewriteStatement scope then) (i + n)) .variables)) .command))
-        (ap length (sym (body-made scope always condition i .variables)))
+        condition-made
         ∙ ap₂ (λ (a : Command) (n : ℕ). shaped a (inBranch (rewriteStatement scope else) (first + n) .command)) (branch-command then first) (branch-made then first)
         ∙ ap (shaped (branchCommand scope then first)) (branch-command else second)
-      where
-        shaped : Command → Command → Command
-        shaped a b = stepsBefore (stepsOf scope (bodyEvents scope always condition i)) (Command.conditional ((inBody (ownerOf scope) condition i) .form) a b)
-
-    pub branching-events : length (eventsOf scope (Statement.conditional condition then else) i)
-        ≡ length (bodyEvents scope always condition i) + (branchEventCount scope then first + branchEventCount scope else second)
-    unfolding statementEvents inTurn
-    branching-events =
-        length-append (bodyEvents scope always condition i) _
-        ∙ ap (λ (n : ℕ). length (bodyEvents scope always condition i) + n)
-        (length-append (branchEvents (statementEvents scope then) first) _
-        ∙ ap₂ _+_ (branch-events then first)
-        (ap (λ (n : ℕ). length (branchEvents (statementEvents scope else) (first + n))) (branch-variables then first) ∙ branch-events else second))
-
-    pub branching-variables : variableCount (eventsOf scope (Statement.conditional condition then else) i)
-        ≡ variableCount (bodyEvents scope always condition i) + (branchVariableCount scope then first + branchVariableCount scope else second)
-    unfolding statementEvents inTurn
-    branching-variables =
-        variable-count-append (bodyEvents scope always condition i) _
-        ∙ ap (λ (n : ℕ). variableCount (bodyEvents scope always condition i) + n)
-        (variable-count-append (branchEvents (statementEvents scope then) first) _
-        ∙ ap₂ _+_ (branch-variables then first)
-        (ap (λ (n : ℕ). variableCount (branchEvents (statementEvents scope else) (first + n))) (branch-variables then first) ∙ branch-variables else second))

@@ -10,7 +10,7 @@ use Rattle.definitions.specs.ContractFile.{meName, Owner, everyone, ownedBy, Ex
 use Rattle.definitions.specs.Owners.{isPublic, nameOf, placeOwner}
 use Rattle.definitions.specs.Rewriting.{Guard, under}
 use Rattle.rewrite_events.proofs.Appended.{variable-count-append}
-use Rattle.rewrite_events.specs.Events.{Event, suppliedEvent, claimedEvent, readEvent, guardEvent, variablesOf, variableCount, stepsOf, Events, noEvents, inTurn, supplyEvents, readEvents, bodyEvents, circuitEvents, placeEvents, branchEvents, statementEvents}
+use Rattle.rewrite_events.specs.Events.{Event, suppliedEvent, claimedEvent, readEvent, guardEvent, endEvent, variablesOf, variableCount, stepsOf, Events, noEvents, inTurn, supplyEvents, readEvents, bodyEvents, circuitEvents, placeEvents, ended, branchEvents, statementEvents}
 
 -- There are no more steps than events.
 pub steps-few : (scope : Scope) (events : List Event) → length (stepsOf scope events) ≤ length events
@@ -20,6 +20,7 @@ steps-few scope (suppliedEvent i o e ∷ events) = let h = steps-few scope event
 steps-few scope (claimedEvent g i o e ∷ events) = let h = steps-few scope events in omega arith
 steps-few scope (readEvent s j o e ∷ events) = let h = steps-few scope events in omega arith
 steps-few scope (guardEvent i ∷ events) = let h = steps-few scope events in omega arith
+steps-few scope (endEvent i ∷ events) = let h = steps-few scope events in omega arith
 
 pub record Alike (first second : Events) : Type 0 where
   pub lengths : (i j : ℕ) → length (first i) ≡ length (second j)
@@ -51,6 +52,14 @@ read-alike o e a b h =
     record {
       lengths = λ i j. length-append (a i) _ ∙ ap (λ (n : ℕ). n + 1) (h .lengths i j) ∙ sym (length-append (b j) _);
       variables = λ i j. variable-count-append (a i) _ ∙ ap (λ (n : ℕ). n + 1) (h .variables i j) ∙ sym (variable-count-append (b j) _);
+    }
+
+ended-alike : (a b : Events) → Alike a b → Alike (ended a) (ended b)
+unfolding ended variablesOf
+ended-alike a b h =
+    record {
+      lengths = λ i j. length-append (a i) _ ∙ ap (λ (n : ℕ). n + 1) (h .lengths i j) ∙ sym (length-append (b j) _);
+      variables = λ i j. variable-count-append (a i) _ ∙ ap (λ (n : ℕ). n + 0) (h .variables i j) ∙ sym (variable-count-append (b j) _);
     }
 
 either-alike : (b : Bool) (x y z w : Events) → Alike x z → Alike y w → Alike (cond b x y) (cond b z w)
@@ -104,13 +113,17 @@ module _ (scope : Scope) (g k : Guard) where
 
 pub statement-alike : (scope : Scope) (s : Statement) (g k : Guard) → Alike (statementEvents scope s g) (statementEvents scope s k)
 unfolding statementEvents
-statement-alike scope Statement.skip g k = nothing-alike
+statement-alike scope Statement.skip g k = ended-alike _ _ nothing-alike
 statement-alike scope (Statement.sequence first second) g k = turn-alike _ _ _ _ (statement-alike scope first g k) (statement-alike scope second g k)
-statement-alike scope (Statement.assignField f value) g k = place-alike scope g k (placeOwner ((fieldAt (scope .fields) f) .owner) none) value
+statement-alike scope (Statement.assignField f value) g k =
+    ended-alike _ _ (place-alike scope g k (placeOwner ((fieldAt (scope .fields) f) .owner) none) value)
 statement-alike scope (Statement.assignEntry f key value) g k =
-    turn-alike _ _ _ _ (body-alike scope g k key) (place-alike scope g k (placeOwner ((fieldAt (scope .fields) f) .owner) (nameOf scope key)) value)
-statement-alike scope (Statement.require condition) g k = body-alike scope g k condition
+    ended-alike _ _ (turn-alike _ _ _ _ (body-alike scope g k key) (place-alike scope g k (placeOwner ((fieldAt (scope .fields) f) .owner) (nameOf scope key)) value))
+statement-alike scope (Statement.require condition) g k = ended-alike _ _ (body-alike scope g k condition)
 statement-alike scope (Statement.conditional condition then else) g k =
-    turn-alike _ _ _ _ (body-alike scope g k condition)
+    turn-alike _ _ _ _ (ended-alike _ _ (body-alike scope g k condition))
     (turn-alike _ _ _ _ (branch-alike (statementEvents scope then) (statementEvents scope then) (statement-alike scope then))
     (branch-alike (statementEvents scope else) (statementEvents scope else) (statement-alike scope else)))
+
+pub condition-alike : (scope : Scope) (e : Expression) (g k : Guard) → Alike (ended (bodyEvents scope g e)) (ended (bodyEvents scope k e))
+condition-alike scope e g k = ended-alike _ _ (body-alike scope g k e)

@@ -1,5 +1,6 @@
 pub mod Guards
 pub mod Commands
+pub mod Positions
 pub mod Logged
 pub mod Sequences
 pub mod Branches

@@ -1,16 +1,16 @@
--- The trees of a file's statements and branches as they are written, and how many events and variables they have.
--- None of it depends on a guard.
+-- The trees of a file's statements and branches as they are written, and their events. No tree depends on a guard, nor does the
+-- number of events or of their variables.
 use mathlib.Core.Bool.{Bool, cond}
 use mathlib.Core.List.{List, map}
-use Prim.Native.Nat.{ℕ, _+_, _*_}
-use lib.ListN.{length}
-use Rattle.definitions.specs.ContractFile.{boolean, Statement, Scope, NodeRecord, nodeRecord, parameterRecords, parameterOf}
-use Rattle.definitions.specs.Rewriting.{BodyExpression, Command, always, Step, privateParameters, openings, rewriteStatement, Tree, leaf}
-use Rattle.definitions.specs.Rewriting.{twoChildren, commandTree}
+use Prim.Native.Nat.{ℕ, _+_}
+use Rattle.definitions.specs.ContractFile.{boolean, Expression, Statement, Scope, NodeRecord, nodeRecord, parameterRecords, parameterOf}
+use Rattle.definitions.specs.Owners.{ownerOf}
+use Rattle.definitions.specs.Rewriting.{BodyExpression, Command, always, Step, inBody, privateParameters, openings, rewriteStatement, Tree}
+use Rattle.definitions.specs.Rewriting.{leaf, twoChildren, commandTree}
 use Rattle.theory_trees.specs.Trees.{expressionIn, statementIn}
 use Rattle.file_accepted.specs.Context.{nodesIn, scopeIn}
 use Rattle.file_accepted.specs.Functions.{rootAt}
-use Rattle.rewrite_events.specs.Events.{Event, variableCount, stepsOf, bodyEvents, statementEvents}
+use Rattle.rewrite_events.specs.Events.{Event, ended, bodyEvents, branchEvents, statementEvents}
 
 module _ (scope : Scope) where
   abbrev pub commandOf : Statement → ℕ → Command
@@ -23,11 +23,12 @@ module _ (scope : Scope) where
   abbrev pub branchCommand : Statement → ℕ → Command
   branchCommand s j = Command.sequence (Command.setVariable j (BodyExpression.constant boolean 1)) (commandOf s (j + 1))
 
-  abbrev pub branchEventCount : Statement → ℕ → ℕ
-  branchEventCount s j = length (eventsOf s (j + 1)) + 1
+  -- The events of a branch, and of a condition.
+  abbrev pub branchOf : Statement → ℕ → List Event
+  branchOf s j = branchEvents (statementEvents scope s) j
 
-  abbrev pub branchVariableCount : Statement → ℕ → ℕ
-  branchVariableCount s j = variableCount (eventsOf s (j + 1)) + 1
+  abbrev pub conditionOf : Expression → ℕ → List Event
+  conditionOf e i = ended (bodyEvents scope always e) i
 
 -- The same of node n of a file, in the function that begins at a place.
 module _ (file : List ℕ) (functionStart : ℕ) where
@@ -40,18 +41,15 @@ module _ (file : List ℕ) (functionStart : ℕ) where
   abbrev pub branchTree : ℕ → ℕ → Tree
   branchTree n j = commandTree (branchCommand (scopeIn file functionStart) (statementIn (nodesIn file) n) j)
 
-  abbrev pub branchEvents : ℕ → ℕ → ℕ
-  branchEvents n j = branchEventCount (scopeIn file functionStart) (statementIn (nodesIn file) n) j
-
-  abbrev pub branchVariables : ℕ → ℕ → ℕ
-  branchVariables n j = branchVariableCount (scopeIn file functionStart) (statementIn (nodesIn file) n) j
+  abbrev pub branchAt : ℕ → ℕ → List Event
+  branchAt n j = branchOf (scopeIn file functionStart) (statementIn (nodesIn file) n) j
 
   -- The events of a condition, and the steps before it.
-  abbrev pub conditionEvents : ℕ → ℕ → List Event
-  conditionEvents n i = bodyEvents (scopeIn file functionStart) always (expressionIn (nodesIn file) n) i
+  abbrev pub conditionAt : ℕ → ℕ → List Event
+  conditionAt n i = conditionOf (scopeIn file functionStart) (expressionIn (nodesIn file) n) i
 
   abbrev pub conditionSteps : ℕ → ℕ → List Step
-  conditionSteps n i = stepsOf (scopeIn file functionStart) (conditionEvents n i)
+  conditionSteps n i = (inBody (ownerOf (scopeIn file functionStart)) (expressionIn (nodesIn file) n) i) .steps
 
 -- The reads of the private ones among parameters that stand in a file from a place on, the first of them number k;
 -- the first variable is number i.

@@ -4,10 +4,9 @@ use file_kinds::IF;
 use file_kinds::IF_BYTE;
 use file_kinds::SEQUENCE;
 use file_kinds::SEQUENCE_BYTE;
-use rewrite_expressions::body_log;
 use rewrite_log::Position;
-use rewrite_statements::statement_log;
 use write_body_expressions::write_body_form;
+use write_ends::find_end;
 use write_guards::put_guard;
 use write_nodes::put_above_three;
 use write_nodes::put_above_two;
@@ -19,23 +18,23 @@ ghost use mathlib.Core.Bool.{true};
 ghost use Prim.Native.Nat.{_+_, _*_};
 ghost use Rattle.theory_trees.specs.Trees.{statementIn};
 ghost use Rattle.file_accepted.specs.Context.{nodesIn};
-ghost use Rattle.write_stepped_statements.proofs.Rewritten.{isSimple};
+ghost use Rattle.rewrite_events.specs.Ends.{isSimple};
 ghost use Rattle.write_bodies.specs.Bodies.{StatementReady, StatementWritten, BranchReady, BranchWritten, ConditionReady};
 ghost use Rattle.write_bodies.specs.Bodies.{ConditionWritten, BranchesReady, BranchesWritten};
 ghost use Rattle.file_decoded.specs.Slices.{recordAt};
 
-// How many nodes were written, and the number of the next variable.
+// How many nodes were written, and the position behind the events that they come from.
 pub struct Extent {
     pub nodes: usize,
-    pub next: usize,
+    pub next: Position,
 }
 
-// How many steps stand before a condition, how many nodes they and its form have, and the number of the next variable.
+// How many steps stand before a condition, how many nodes they and its form have, and the position behind its events.
 pub struct Condition {
     pub count: usize,
     pub nodes: usize,
     pub form: usize,
-    pub next: usize,
+    pub next: Position,
 }
 
 // A statement that holds no other, behind its steps.
@@ -44,29 +43,29 @@ fn write_simple(
     function_at: usize,
     source: &[u16],
     n: usize,
-    i: usize,
-    scratch: &mut [u16],
+    log: &[u16],
+    p: Position,
     roots: &mut [u16],
     out: &mut [u8],
     at: usize,
     base: usize,
 ) -> Extent
     requires { ⌜ (isSimple (statementIn (nodesIn (now file)) n) ≡ true)
-        × (StatementReady (now file) «function_at» (now source) n i (now scratch) (now roots) (now out) at base) ⌝ }
-    ensures { λ r. ⌜ StatementWritten (now (file .entry)) «function_at» n i (now (out .entry)) (now (out .exit)) at base r ⌝ }
+        × (StatementReady (now file) «function_at» (now source) n (now log) p (now roots) (now out) at base) ⌝ }
+    ensures { λ r. ⌜ StatementWritten (now (file .entry)) «function_at» n p (now (out .entry)) (now (out .exit)) at base r ⌝ }
 {
-    let start = Position { at: 0, variable: i };
-    let end = statement_log(file, function_at, source, n, 0, scratch, start);
-    let entries = end.at / 5;
+    let from = p.at;
+    let end = find_end(log, from);
+    let entries = (end.at - from) / 5;
     let nodes = write_single(
         file,
         function_at,
         source,
-        scratch,
-        0,
+        log,
+        from,
         entries,
         n,
-        i,
+        p.variable,
         roots,
         out,
         at,
@@ -74,7 +73,7 @@ fn write_simple(
     );
     Extent {
         nodes: nodes,
-        next: end.variable,
+        next: end,
     }
 }
 
@@ -84,26 +83,26 @@ fn write_condition(
     function_at: usize,
     source: &[u16],
     n: usize,
-    i: usize,
-    scratch: &mut [u16],
+    log: &[u16],
+    p: Position,
     roots: &mut [u16],
     out: &mut [u8],
     at: usize,
     base: usize,
 ) -> Condition
-    requires { ⌜ ConditionReady (now file) «function_at» (now source) n i (now scratch) (now roots) (now out) at base ⌝ }
-    ensures { λ r. ⌜ ConditionWritten (now (file .entry)) «function_at» n i (now (roots .entry)) (now (roots .exit))
+    requires { ⌜ ConditionReady (now file) «function_at» (now source) n (now log) p (now roots) (now out) at base ⌝ }
+    ensures { λ r. ⌜ ConditionWritten (now (file .entry)) «function_at» n p (now (roots .entry)) (now (roots .exit))
         (now (out .entry)) (now (out .exit)) at base r ⌝ }
 {
-    let start = Position { at: 0, variable: i };
-    let end = body_log(file, function_at, source, n, 0, scratch, start);
-    let entries = end.at / 5;
+    let from = p.at;
+    let end = find_end(log, from);
+    let entries = (end.at - from) / 5;
     let steps = put_steps(
         file,
         function_at,
         source,
-        scratch,
-        0,
+        log,
+        from,
         entries,
         roots,
         0,
@@ -113,68 +112,74 @@ fn write_condition(
     );
     let place = at + 8 * steps.nodes;
     let first = base + steps.nodes;
-    let form = write_body_form(file, function_at, source, n, i, out, place, first);
+    let form = write_body_form(file, function_at, source, n, p.variable, out, place, first);
     Condition {
         count: steps.count,
         nodes: steps.nodes,
         form: form,
-        next: end.variable,
+        next: end,
     }
 }
 
-// "Each branch begins by setting a guard variable of its own to true": node n behind guard j.
+// "Each branch begins by setting a guard variable of its own to true": node n behind its guard.
 fn write_branch(
     file: &[u8],
     function_at: usize,
     source: &[u16],
     n: usize,
-    j: usize,
-    scratch: &mut [u16],
+    log: &[u16],
+    p: Position,
     roots: &mut [u16],
     out: &mut [u8],
     at: usize,
     base: usize,
 ) -> Extent
-    requires { ⌜ BranchReady (now file) «function_at» (now source) n j (now scratch) (now roots) (now out) at base ⌝ }
-    ensures { λ r. ⌜ BranchWritten (now (file .entry)) «function_at» n j (now (out .entry)) (now (out .exit)) at base r ⌝ }
+    requires { ⌜ BranchReady (now file) «function_at» (now source) n (now log) p (now roots) (now out) at base ⌝ }
+    ensures { λ r. ⌜ BranchWritten (now (file .entry)) «function_at» n p (now (out .entry)) (now (out .exit)) at base r ⌝ }
 {
-    put_guard(j, out, at, base);
+    let guard = p.variable;
+    put_guard(guard, out, at, base);
+    let q = Position {
+        at: p.at + 5,
+        variable: guard + 1,
+    };
     let inside = write_statement(
         file,
         function_at,
         source,
         n,
-        j + 1,
-        scratch,
+        log,
+        q,
         roots,
         out,
         at + 16,
         base + 2,
     );
     let nodes = put_above_two(SEQUENCE_BYTE, 0, 2, inside.nodes, out, at, base);
+    let next = inside.next;
     Extent {
         nodes: nodes,
-        next: inside.next,
+        next: next,
     }
 }
 
-// The two branches of conditional n and its own node, behind a condition of so many nodes; the first guard is variable j.
+// The two branches of conditional n and its own node, behind a condition of so many nodes.
 fn write_branches(
     file: &[u8],
     function_at: usize,
     source: &[u16],
     n: usize,
     form: usize,
-    j: usize,
-    scratch: &mut [u16],
+    log: &[u16],
+    p: Position,
     roots: &mut [u16],
     out: &mut [u8],
     at: usize,
     base: usize,
 ) -> Extent
-    requires { ⌜ BranchesReady (now file) «function_at» (now source) n (recordAt (now source) n) form j (now scratch)
+    requires { ⌜ BranchesReady (now file) «function_at» (now source) n (recordAt (now source) n) form (now log) p
         (now roots) (now out) at base ⌝ }
-    ensures { λ r. ⌜ BranchesWritten (now (file .entry)) «function_at» (recordAt (now (source .entry)) n) form j
+    ensures { λ r. ⌜ BranchesWritten (now (file .entry)) «function_at» (recordAt (now (source .entry)) n) form p
         (now (out .entry)) (now (out .exit)) at base r ⌝ }
 {
     let node = node_at(source, n);
@@ -185,8 +190,8 @@ fn write_branches(
         function_at,
         source,
         node.second,
-        j,
-        scratch,
+        log,
+        p,
         roots,
         out,
         a,
@@ -194,23 +199,24 @@ fn write_branches(
     );
     let c = a + 8 * then.nodes;
     let d = b + then.nodes;
-    let k = then.next;
+    let q = then.next;
     let last = write_branch(
         file,
         function_at,
         source,
         node.third,
-        k,
-        scratch,
+        log,
+        q,
         roots,
         out,
         c,
         d,
     );
     let nodes = put_above_three(IF_BYTE, form, then.nodes, last.nodes, out, at, base);
+    let next = last.next;
     Extent {
         nodes: nodes,
-        next: last.next,
+        next: next,
     }
 }
 
@@ -220,16 +226,16 @@ fn write_conditional(
     function_at: usize,
     source: &[u16],
     n: usize,
-    i: usize,
-    scratch: &mut [u16],
+    log: &[u16],
+    p: Position,
     roots: &mut [u16],
     out: &mut [u8],
     at: usize,
     base: usize,
 ) -> Extent
     requires { ⌜ ((recordAt (now source) n) .kind ≡ 21)
-        × (StatementReady (now file) «function_at» (now source) n i (now scratch) (now roots) (now out) at base) ⌝ }
-    ensures { λ r. ⌜ StatementWritten (now (file .entry)) «function_at» n i (now (out .entry)) (now (out .exit)) at base r ⌝ }
+        × (StatementReady (now file) «function_at» (now source) n (now log) p (now roots) (now out) at base) ⌝ }
+    ensures { λ r. ⌜ StatementWritten (now (file .entry)) «function_at» n p (now (out .entry)) (now (out .exit)) at base r ⌝ }
 {
     let first = node_at(source, n).first;
     let c = write_condition(
@@ -237,14 +243,15 @@ fn write_conditional(
         function_at,
         source,
         first,
-        i,
-        scratch,
+        log,
+        p,
         roots,
         out,
         at,
         base,
     );
     let count = c.count;
+    let q = c.next;
     let place = at + 8 * c.nodes;
     let number = base + c.nodes;
     let rest = write_branches(
@@ -253,8 +260,8 @@ fn write_conditional(
         source,
         n,
         c.form,
-        c.next,
-        scratch,
+        log,
+        q,
         &mut roots[count..],
         out,
         place,
@@ -262,27 +269,28 @@ fn write_conditional(
     );
     let top = number + rest.nodes - 1;
     close_steps(roots, count, top, out, place + 8 * rest.nodes);
+    let next = rest.next;
     Extent {
         nodes: c.nodes + rest.nodes + count,
-        next: rest.next,
+        next: next,
     }
 }
 
-// Statement n, whose first variable is number i; `scratch` and `roots` are scratch space.
+// Statement n, whose events the log holds from a position on; `roots` is scratch space.
 pub fn write_statement(
     file: &[u8],
     function_at: usize,
     source: &[u16],
     n: usize,
-    i: usize,
-    scratch: &mut [u16],
+    log: &[u16],
+    p: Position,
     roots: &mut [u16],
     out: &mut [u8],
     at: usize,
     base: usize,
 ) -> Extent
-    requires { ⌜ StatementReady (now file) «function_at» (now source) n i (now scratch) (now roots) (now out) at base ⌝ }
-    ensures { λ r. ⌜ StatementWritten (now (file .entry)) «function_at» n i (now (out .entry)) (now (out .exit)) at base r ⌝ }
+    requires { ⌜ StatementReady (now file) «function_at» (now source) n (now log) p (now roots) (now out) at base ⌝ }
+    ensures { λ r. ⌜ StatementWritten (now (file .entry)) «function_at» n p (now (out .entry)) (now (out .exit)) at base r ⌝ }
 {
     let node = node_at(source, n);
     let kind = node.kind;
@@ -292,8 +300,8 @@ pub fn write_statement(
             function_at,
             source,
             n,
-            i,
-            scratch,
+            log,
+            p,
             roots,
             out,
             at,
@@ -304,8 +312,8 @@ pub fn write_statement(
             function_at,
             source,
             n,
-            i,
-            scratch,
+            log,
+            p,
             roots,
             out,
             at,
@@ -316,8 +324,8 @@ pub fn write_statement(
             function_at,
             source,
             n,
-            i,
-            scratch,
+            log,
+            p,
             roots,
             out,
             at,
@@ -332,16 +340,16 @@ fn write_sequence(
     function_at: usize,
     source: &[u16],
     n: usize,
-    i: usize,
-    scratch: &mut [u16],
+    log: &[u16],
+    p: Position,
     roots: &mut [u16],
     out: &mut [u8],
     at: usize,
     base: usize,
 ) -> Extent
     requires { ⌜ ((recordAt (now source) n) .kind ≡ 17)
-        × (StatementReady (now file) «function_at» (now source) n i (now scratch) (now roots) (now out) at base) ⌝ }
-    ensures { λ r. ⌜ StatementWritten (now (file .entry)) «function_at» n i (now (out .entry)) (now (out .exit)) at base r ⌝ }
+        × (StatementReady (now file) «function_at» (now source) n (now log) p (now roots) (now out) at base) ⌝ }
+    ensures { λ r. ⌜ StatementWritten (now (file .entry)) «function_at» n p (now (out .entry)) (now (out .exit)) at base r ⌝ }
 {
     let node = node_at(source, n);
     let first = write_statement(
@@ -349,14 +357,14 @@ fn write_sequence(
         function_at,
         source,
         node.first,
-        i,
-        scratch,
+        log,
+        p,
         roots,
         out,
         at,
         base,
     );
-    let j = first.next;
+    let q = first.next;
     let a = at + 8 * first.nodes;
     let b = base + first.nodes;
     let second = write_statement(
@@ -364,16 +372,17 @@ fn write_sequence(
         function_at,
         source,
         node.second,
-        j,
-        scratch,
+        log,
+        q,
         roots,
         out,
         a,
         b,
     );
     let nodes = put_above_two(SEQUENCE_BYTE, 0, first.nodes, second.nodes, out, at, base);
+    let next = second.next;
     Extent {
         nodes: nodes,
-        next: second.next,
+        next: next,
     }
 }

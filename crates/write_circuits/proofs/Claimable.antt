@@ -9,7 +9,7 @@ use Rattle.theory_trees.specs.Trees.{expressionIn}
 use Rattle.file_accepted.specs.Context.{nodesIn, scopeIn}
 use Rattle.write_variable_counts.specs.Counts.{circuitCount}
 use Rattle.rewrite_events.specs.Events.{Event}
-use Rattle.rewrite_log.specs.Entries.{suppliedEntry, claimedEntry, readEntry, guardEntry, Entries, noEntry, entryThen}
+use Rattle.rewrite_log.specs.Entries.{suppliedEntry, claimedEntry, readEntry, guardEntry, endEntry, Entries, noEntry, entryThen}
 use Rattle.write_logged_steps.specs.Held.{Holds}
 use Rattle.write_logged_steps.proofs.Held.{holds-tag, holds-variable, holds-node, holds-rest}
 use Rattle.write_logged_steps.proofs.Readings.{entries-length}
@@ -57,6 +57,10 @@ module _ (file : List ℕ) (functionStart : ℕ) (counted : length (nodesIn file
   fit _ _ (entryThen {events} {numbers} (guardEntry i) rest) from holds few zero less =
       never from 3 (holds-tag log numbers from _ _ _ _ _ holds) (λ e. omega arith)
   fit _ _ (entryThen {events} {numbers} (guardEntry i) rest) from holds few (suc k) less =
+      later from k (fit events numbers rest (from + 5) (holds-rest log numbers from _ _ _ _ _ holds) few k (omega arith))
+  fit _ _ (entryThen {events} {numbers} (endEntry i) rest) from holds few zero less =
+      never from 4 (holds-tag log numbers from _ _ _ _ _ holds) (λ e. omega arith)
+  fit _ _ (entryThen {events} {numbers} (endEntry i) rest) from holds few (suc k) less =
       later from k (fit events numbers rest (from + 5) (holds-rest log numbers from _ _ _ _ _ holds) few k (omega arith))
 
   pub claimable : (events : List Event) (numbers : List ℕ) → Entries (nodesIn file) events numbers → (from : ℕ) → Holds log numbers from → ClaimsWithin (scopeIn file functionStart) 65535 events

@@ -12,7 +12,7 @@ use Rattle.definitions.specs.ContractFile.{Scope, Owner, ownerCode, Node}
 use Rattle.definitions.specs.Rewriting.{Guard, Tree, size, sizes, claimTrees, guardNumber}
 use Rattle.theory_trees.specs.Trees.{expressionIn}
 use Rattle.rewrite_events.specs.Events.{Event, claimedEvent, constraintsOf}
-use Rattle.rewrite_log.specs.Entries.{suppliedEntry, claimedEntry, readEntry, guardEntry, Entries, noEntry, entryThen}
+use Rattle.rewrite_log.specs.Entries.{suppliedEntry, claimedEntry, readEntry, guardEntry, endEntry, Entries, noEntry, entryThen}
 use Rattle.write_reads.specs.Forms.{circuitForm}
 use Rattle.write_logged_steps.specs.Held.{Holds}
 use Rattle.write_logged_steps.proofs.Held.{holds-tag, holds-variable, holds-node, holds-last, holds-rest}
@@ -62,6 +62,9 @@ module _ (scope : Scope) (nodes : List Node) (log : List ℕ) where
       (passed refl (claims-of events numbers rest (from + 5) (holds-rest log numbers from _ _ _ _ _ holds)))
   claims-of _ _ (entryThen {events} {numbers} (guardEntry i) rest) from holds =
       found _ _ _ (skipped from (length events) 3 (holds-tag log numbers from _ _ _ _ _ holds) refl)
+      (passed refl (claims-of events numbers rest (from + 5) (holds-rest log numbers from _ _ _ _ _ holds)))
+  claims-of _ _ (entryThen {events} {numbers} (endEntry i) rest) from holds =
+      found _ _ _ (skipped from (length events) 4 (holds-tag log numbers from _ _ _ _ _ holds) refl)
       (passed refl (claims-of events numbers rest (from + 5) (holds-rest log numbers from _ _ _ _ _ holds)))
 
   numbers-of : (events : List Event) (claims : List LoggedClaim) → ClaimsOf events claims → (base : ℕ) → foursOf base claims ≡ constraintNumbers base (constraintsOf scope events)

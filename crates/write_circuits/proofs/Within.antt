@@ -13,7 +13,7 @@ use Rattle.rewrite_events.proofs.Appended.{variable-count-append}
 use Rattle.write_variable_counts.specs.Counts.{circuitCount}
 use Rattle.write_variable_counts.proofs.Counts.{circuit-makes}
 use Rattle.write_variable_counts.proofs.Steps.{circuit-negation, circuit-reveal}
-use Rattle.rewrite_events.specs.Events.{Event, suppliedEvent, claimedEvent, readEvent, guardEvent, variablesOf, variableCount, Events, noEvents, inTurn, supplyEvents, readEvents, operatorEvents, bodyEvents, circuitEvents, placeEvents, branchEvents, statementEvents}
+use Rattle.rewrite_events.specs.Events.{Event, suppliedEvent, claimedEvent, readEvent, guardEvent, endEvent, variablesOf, variableCount, Events, noEvents, inTurn, supplyEvents, readEvents, operatorEvents, bodyEvents, circuitEvents, placeEvents, ended, branchEvents, statementEvents}
 use Rattle.rewrite_events.proofs.Pieces.{circuit-made}
 use Rattle.write_circuits.specs.ClaimsWithin.{ClaimsWithin}
 
@@ -25,6 +25,7 @@ module _ (scope : Scope) where
   within-more m n (claimedEvent g i o e ∷ events) h r = let low = r .0 in (omega arith, within-more m n events h (r .1))
   within-more m n (readEvent s j o e ∷ events) h r = within-more m n events h r
   within-more m n (guardEvent i ∷ events) h r = within-more m n events h r
+  within-more m n (endEvent i ∷ events) h r = within-more m n events h r
 
   within-append : (m : ℕ) (first second : List Event) → ClaimsWithin scope m first → ClaimsWithin scope m second → ClaimsWithin scope m (first ++ second)
   unfolding ClaimsWithin
@@ -33,6 +34,7 @@ module _ (scope : Scope) where
   within-append m (claimedEvent g i o e ∷ events) second a b = (a .0, within-append m events second (a .1) b)
   within-append m (readEvent s j o e ∷ events) second a b = within-append m events second a b
   within-append m (guardEvent i ∷ events) second a b = within-append m events second a b
+  within-append m (endEvent i ∷ events) second a b = within-append m events second a b
 
   pub record Within (events : Events) : Type 0 where
     pub claims : (i : ℕ) → ClaimsWithin scope (i + variableCount (events i)) (events i)
@@ -74,6 +76,17 @@ module _ (scope : Scope) where
             let own = readEvent i (i + variableCount p) o e ∷ [] in
             let total = variable-count-append p own in
             within-append (i + variableCount (p ++ own)) p own (within-more (i + variableCount p) (i + variableCount (p ++ own)) p (omega arith) (x .claims i)) tt;
+      }
+
+  pub ended-within : (events : Events) → Within events → Within (ended events)
+  unfolding ended ClaimsWithin variablesOf
+  ended-within events x =
+      record {
+        claims = λ i.
+            let own = endEvent (i + variableCount (events i)) ∷ [] in
+            let total = variable-count-append (events i) own in
+            within-append (i + variableCount (events i ++ own)) (events i) own
+            (within-more (i + variableCount (events i)) (i + variableCount (events i ++ own)) (events i) (omega arith) (x .claims i)) tt;
       }
 
   either-within : (test : Bool) (a b : Events) → Within a → Within b → Within (cond test a b)
@@ -142,14 +155,14 @@ module _ (scope : Scope) where
 
   pub statement-within : (s : Statement) (g : Guard) → Within (statementEvents scope s g)
   unfolding statementEvents
-  statement-within Statement.skip g = none-within
+  statement-within Statement.skip g = ended-within _ none-within
   statement-within (Statement.sequence first second) g = turn-within _ _ (statement-within first g) (statement-within second g)
-  statement-within (Statement.assignField f value) g = place-within g (placeOwner ((fieldAt (scope .fields) f) .owner) none) value
+  statement-within (Statement.assignField f value) g = ended-within _ (place-within g (placeOwner ((fieldAt (scope .fields) f) .owner) none) value)
   statement-within (Statement.assignEntry f key value) g =
-      turn-within _ _ (body-within g key) (place-within g (placeOwner ((fieldAt (scope .fields) f) .owner) (nameOf scope key)) value)
-  statement-within (Statement.require condition) g = body-within g condition
+      ended-within _ (turn-within _ _ (body-within g key) (place-within g (placeOwner ((fieldAt (scope .fields) f) .owner) (nameOf scope key)) value))
+  statement-within (Statement.require condition) g = ended-within _ (body-within g condition)
   statement-within (Statement.conditional condition then else) g =
-      turn-within _ _ (body-within g condition) (turn-within _ _ (branch-within (statementEvents scope then) (statement-within then)) (branch-within (statementEvents scope else) (statement-within else)))
+      turn-within _ _ (ended-within _ (body-within g condition)) (turn-within _ _ (branch-within (statementEvents scope then) (statement-within then)) (branch-within (statementEvents scope else) (statement-within else)))
 
   -- So few variables that every number is one of two bytes.
   pub claims-few : (events : Events) (i : ℕ) → Within events → i + variableCount (events i) ≤ 65535 → ClaimsWithin scope 65535 (events i)

@@ -2,7 +2,7 @@
 use mathlib.Core.List.{List, [], _∷_}
 use Prim.Native.Nat.{ℕ, suc, _+_, _≤_}
 use Rattle.definitions.specs.ContractFile.{Scope}
-use Rattle.rewrite_events.specs.Events.{Event, suppliedEvent, claimedEvent, readEvent, guardEvent}
+use Rattle.rewrite_events.specs.Events.{Event, suppliedEvent, claimedEvent, readEvent, guardEvent, endEvent}
 use Rattle.write_variable_counts.specs.Counts.{circuitCount}
 
 -- The variables of the circuits have numbers up to a limit.
@@ -12,3 +12,4 @@ ClaimsWithin scope limit (suppliedEvent i o e ∷ events) = ClaimsWithin scope l
 ClaimsWithin scope limit (claimedEvent g i o e ∷ events) = (suc i + circuitCount scope e ≤ limit) × ClaimsWithin scope limit events
 ClaimsWithin scope limit (readEvent s j o e ∷ events) = ClaimsWithin scope limit events
 ClaimsWithin scope limit (guardEvent i ∷ events) = ClaimsWithin scope limit events
+ClaimsWithin scope limit (endEvent i ∷ events) = ClaimsWithin scope limit events

@@ -9,7 +9,7 @@ use lib.Dec.{ltb}
 use lib.ListN.{length, take, length-map}
 use Rattle.definitions.specs.Basics.{flatMap}
 use Rattle.definitions.specs.ContractFile.{Parameter, byteAt, twoBytesAt, functionEnd, parameterRecords, parameterOf, node}
-use Rattle.definitions.specs.Rewriting.{Command, Constraint, Step, privateParameters, openings, stepsBefore, withVerify, rewriteFunction, Tree, leaf, twoChildren, nodeBytes, commandTree}
+use Rattle.definitions.specs.Rewriting.{Command, Constraint, always, Step, privateParameters, openings, stepsBefore, withVerify, rewriteFunction, Tree, leaf, twoChildren, nodeBytes, commandTree}
 use Rattle.theory_laws.proofs.Records.{parameters-length}
 use Rattle.theory_laws.proofs.Written.{opening-count}
 use Rattle.theory_trees.specs.Trees.{statementIn}
@@ -28,8 +28,8 @@ use Rattle.write_bodies.specs.declared.Extent.{Extent}
 use Rattle.write_bodies.specs.Parts.{commandOf, statementTree, openingSteps, passageTree}
 use Rattle.write_bodies.specs.Bodies.{StatementReady, StatementWritten, PassageReady, BodyReady}
 
-module _ (file : List ℕ) (functionStart : ℕ) (source : List ℕ) (private : ℕ) (verified : Bool) (scratch roots out : List ℕ) (at base : ℕ)
-    (ready : PassageReady file functionStart source private verified scratch roots out at base)
+module _ (file : List ℕ) (functionStart : ℕ) (source : List ℕ) (private : ℕ) (verified : Bool) (log roots out : List ℕ) (at base : ℕ)
+    (ready : PassageReady file functionStart source private verified log roots out at base)
     (end root : ℕ) (ends : end ≡ functionEnd file functionStart) (read : root ≡ twoBytesAt file (end - 2)) where
   root-is : root ≡ rootAt file functionStart
   root-is = read ∙ ap (λ (x : ℕ). twoBytesAt file (x - 2)) ends
@@ -41,21 +41,22 @@ module _ (file : List ℕ) (functionStart : ℕ) (source : List ℕ) (private : 
   room-body true room = room-left out at base 17 0 _ _ room
   room-body false room = room
 
-  pub root-ready : StatementReady file functionStart source root private scratch roots out at base
+  pub root-ready : StatementReady file functionStart source root log (record { at = 0; variable = private }) roots out at base
   root-ready =
-      subst (λ (n : ℕ). StatementReady file functionStart source n private scratch roots out at base) (sym root-is)
+      subst (λ (n : ℕ). StatementReady file functionStart source n log (record { at = 0; variable = private }) roots out at base) (sym root-is)
       (record {
         inside = ready .root;
         context = ready .context;
-        space = ready .space;
+        guard = always;
+        logged = ready .logged;
         steps = ready .steps;
         few = ready .few;
         room = room-body verified (ready .room);
       })
 
-  module _ (between : List ℕ) (e : Extent) (w : StatementWritten file functionStart root private out between at base e) where
+  module _ (between : List ℕ) (e : Extent) (w : StatementWritten file functionStart root (record { at = 0; variable = private }) out between at base e) where
     own : Numbered out between at base body (e .nodes)
-    own = subst (λ (n : ℕ). StatementWritten file functionStart n private out between at base e) root-is w .written
+    own = subst (λ (n : ℕ). StatementWritten file functionStart n (record { at = 0; variable = private }) out between at base e) root-is w .written
 
     pub unverified : verified ≡ false → Numbered out between at base (passageTree file functionStart private verified) (e .nodes)
     unverified v = rw v own
@@ -104,8 +105,8 @@ verify-ends : (constraints : List Constraint) (command : Command) → withVerify
 verify-ends [] command = refl
 verify-ends (c ∷ cs) command = rw (lt-ltb 0 (suc (length cs)) (omega arith))
 
-module _ (file : List ℕ) (functionStart : ℕ) (source : List ℕ) (private : ℕ) (verified : Bool) (scratch roots out : List ℕ) (at base : ℕ)
-    (ready : BodyReady file functionStart source private verified scratch roots out at base) where
+module _ (file : List ℕ) (functionStart : ℕ) (source : List ℕ) (private : ℕ) (verified : Bool) (log roots out : List ℕ) (at base : ℕ)
+    (ready : BodyReady file functionStart source private verified log roots out at base) where
   abbrev privates : List ℕ
   privates = privateParameters 0 (map parameterOf (parameterRecords (byteAt file functionStart) file (functionStart + 1)))
 
@@ -174,7 +175,7 @@ module _ (file : List ℕ) (functionStart : ℕ) (source : List ℕ) (private : 
       rest-room = nested-rest-room out roots at base steps rest room-own enough between rootsAfter r put
 
       pub passage-ready : (rootsNow : List ℕ) → length rootsNow ≡ length rootsAfter - r .count → length rootsAfter ≡ length roots
-          → PassageReady file functionStart source private verified scratch rootsNow between (at + 8 * r .nodes) (base + r .nodes)
+          → PassageReady file functionStart source private verified log rootsNow between (at + 8 * r .nodes) (base + r .nodes)
       passage-ready rootsNow a b =
           let few = few-steps in
           let opened = put .count in
@@ -183,7 +184,7 @@ module _ (file : List ℕ) (functionStart : ℕ) (source : List ℕ) (private : 
           (record {
             context = ready .context;
             root = ready .root;
-            space = ready .space;
+            logged = ready .logged;
             steps = omega (arith, ready .steps);
             few = ready .few;
             room = rw (ready .privateIs) at (room-as between (at + 8 * r .nodes) (base + r .nodes) _ _ passage-is rest-room);

@@ -6,6 +6,7 @@ use file_kinds::PARAMETER_BYTE;
 use file_kinds::SEQUENCE_BYTE;
 use file_kinds::VERIFY_BYTE;
 use memory_buffer::put_number;
+use rewrite_log::Position;
 use write_bodies::write_statement;
 use write_nodes::put_above_two;
 use write_nodes::put_leaf;
@@ -66,31 +67,35 @@ pub fn put_openings(
     }
 }
 
-// "A verify ends the body if any constraint exists."
+// "A verify ends the body if any constraint exists." The log holds the events of the body.
 pub fn write_passage(
     file: &[u8],
     function_at: usize,
     source: &[u16],
     private: usize,
     verified: bool,
-    scratch: &mut [u16],
+    log: &[u16],
     roots: &mut [u16],
     out: &mut [u8],
     at: usize,
     base: usize,
 ) -> usize
-    requires { ⌜ PassageReady (now file) «function_at» (now source) private verified (now scratch) (now roots) (now out) at base ⌝ }
+    requires { ⌜ PassageReady (now file) «function_at» (now source) private verified (now log) (now roots) (now out) at base ⌝ }
     ensures { λ r. ⌜ Numbered (now (out .entry)) (now (out .exit)) at base
         (passageTree (now (file .entry)) «function_at» private verified) r ⌝ }
 {
     let root = two_bytes_at(file, function_end(file, function_at) - 2);
+    let start = Position {
+        at: 0,
+        variable: private,
+    };
     let body = write_statement(
         file,
         function_at,
         source,
         root,
-        private,
-        scratch,
+        log,
+        start,
         roots,
         out,
         at,
@@ -112,13 +117,13 @@ pub fn write_function_body(
     source: &[u16],
     private: usize,
     verified: bool,
-    scratch: &mut [u16],
+    log: &[u16],
     roots: &mut [u16],
     out: &mut [u8],
     at: usize,
     base: usize,
 ) -> usize
-    requires { ⌜ BodyReady (now file) «function_at» (now source) private verified (now scratch) (now roots) (now out) at base ⌝ }
+    requires { ⌜ BodyReady (now file) «function_at» (now source) private verified (now log) (now roots) (now out) at base ⌝ }
     ensures { λ r. ⌜ Numbered (now (out .entry)) (now (out .exit)) at base
         (commandTree ((writtenIn (now (file .entry)) «function_at») .body)) r ⌝ }
 {
@@ -143,7 +148,7 @@ pub fn write_function_body(
         source,
         private,
         verified,
-        scratch,
+        log,
         &mut roots[count..],
         out,
         place,

@@ -1,5 +1,5 @@
 -- The headings alone: 97 bytes for a function, and 18 for each node of its body.
-use mathlib.Core.Path.{_≡_, refl, ap}
+use mathlib.Core.Path.{ap}
 use mathlib.Core.List.{List, [], _∷_, map}
 use Prim.Native.Nat.{ℕ, _+_, _*_, _≤_}
 use native.Mathlib.Omega.{arith}
@@ -7,20 +7,21 @@ use lib.ListN.{length, length-append}
 use Rattle.definitions.specs.ContractFile.{Field, Function, Scope}
 use Rattle.definitions.specs.Rewriting.{Constraint, Variable, always, heldUnder, privateParameters, rewriteFunction, sizes, functionTrees, functionBytes, functionsBytes, functionsWritten}
 use Rattle.theory_trees.specs.Sizes.{statementSize}
-use Rattle.rewrite_events.specs.Events.{Event, suppliedEvent, claimedEvent, readEvent, guardEvent, variablesOf, constraintsOf, variableCount}
+use Rattle.rewrite_events.specs.Events.{Event, suppliedEvent, claimedEvent, readEvent, guardEvent, endEvent, variablesOf, constraintsOf, variableCount}
 use Rattle.rewrite_events.proofs.Functions.{opening, functionScope, functionEvents, function-variables, function-constraints}
 use Rattle.rewrite_events.proofs.Lengths.{statement-length}
 use Rattle.write_room.specs.Sizes.{bodiesSize, fewParameters}
 use Rattle.write_room.proofs.Functions.{heading-length, openings-variables, openings-constraints, private-length}
 
--- An event makes a variable or a constraint.
-each-makes-one : (scope : Scope) (events : List Event) → variableCount events + length (constraintsOf scope events) ≡ length events
+-- An event makes a variable or a constraint at most.
+each-makes-one : (scope : Scope) (events : List Event) → variableCount events + length (constraintsOf scope events) ≤ length events
 unfolding variablesOf constraintsOf
-each-makes-one scope [] = refl
+each-makes-one scope [] = omega arith
 each-makes-one scope (suppliedEvent i o e ∷ events) = omega (arith, each-makes-one scope events)
 each-makes-one scope (claimedEvent g i o e ∷ events) = omega (arith, each-makes-one scope events)
 each-makes-one scope (readEvent s j o e ∷ events) = omega (arith, each-makes-one scope events)
 each-makes-one scope (guardEvent i ∷ events) = omega (arith, each-makes-one scope events)
+each-makes-one scope (endEvent i ∷ events) = omega (arith, each-makes-one scope events)
 
 module _ (fields : List Field) where
   pub function-heading : (n : ℕ) (g : Function) → length (g .parameters) ≤ 8

@@ -3,7 +3,7 @@ use mathlib.Core.List.{List, [], _∷_}
 use Prim.Native.Nat.{_<_}
 use native.Mathlib.Omega.{arith}
 use Rattle.definitions.specs.ContractFile.{meName, finalName, parameterName, Owner, everyone, ownedBy, ownerCode}
-use Rattle.rewrite_events.specs.Events.{Event, suppliedEvent, claimedEvent, readEvent, guardEvent}
+use Rattle.rewrite_events.specs.Events.{Event, suppliedEvent, claimedEvent, readEvent, guardEvent, endEvent}
 use Rattle.rewrite_event_owners.specs.Listed.{Listed, ownersListed}
 use Rattle.write_variables.specs.Variables.{ownersFit}
 
@@ -20,3 +20,4 @@ owners-fit (suppliedEvent i o e ∷ events) h = (code-small o (h .0), owners-fit
 owners-fit (claimedEvent g i o e ∷ events) h = owners-fit events (h .1)
 owners-fit (readEvent s j o e ∷ events) h = (code-small o (h .0), owners-fit events (h .1))
 owners-fit (guardEvent i ∷ events) h = owners-fit events h
+owners-fit (endEvent i ∷ events) h = owners-fit events h

@@ -8,7 +8,7 @@ use lib.ListN.{length-append}
 use Rattle.definitions.specs.ContractFile.{meName, Owner, everyone, ownedBy, Expression, Statement, Scope, fieldAt, isDivision}
 use Rattle.definitions.specs.Owners.{nameOf, placeOwner, isPublic}
 use Rattle.definitions.specs.Rewriting.{Guard, under}
-use Rattle.rewrite_events.specs.Events.{claimedEvent, readEvent, variablesOf, variableCount, Events, noEvents, inTurn, supplyEvents, readEvents, bodyEvents, circuitEvents, placeEvents, branchEvents, statementEvents}
+use Rattle.rewrite_events.specs.Events.{claimedEvent, readEvent, endEvent, variablesOf, variableCount, Events, noEvents, inTurn, supplyEvents, readEvents, bodyEvents, circuitEvents, placeEvents, ended, branchEvents, statementEvents}
 use Rattle.theory_trees.specs.Sizes.{expressionSize, statementSize}
 use Rattle.rewrite_events.proofs.Appended.{variables-append}
 
@@ -51,6 +51,15 @@ read-makes n m o e events le h =
           let read = readEvent i (i + variableCount (events i)) o e ∷ [] in
           rw (variables-append (events i) read)
           (omega (arith, h .atMost i, length-append (variablesOf (events i)) (variablesOf read)));
+    }
+
+ended-makes : (n : ℕ) (events : Events) → Makes n events → Makes n (ended events)
+unfolding ended variablesOf
+ended-makes n events h =
+    record {
+      atMost = λ i.
+          rw (variables-append (events i) (endEvent (i + variableCount (events i)) ∷ []))
+          (omega (arith, h .atMost i, length-append (variablesOf (events i)) []));
     }
 
 either-makes : (n : ℕ) (b : Bool) (x y : Events) → Makes n x → Makes n y → Makes n (cond b x y)
@@ -121,18 +130,18 @@ some-node (Expression.reveal part o) = omega arith
 module _ (scope : Scope) where
   statement-makes : (s : Statement) (g : Guard) → Makes (3 * statementSize s) (statementEvents scope s g)
   unfolding statementEvents statementSize
-  statement-makes Statement.skip g = nothing-makes _
+  statement-makes Statement.skip g = ended-makes _ _ (nothing-makes _)
   statement-makes (Statement.sequence first second) g =
       turn-makes _ (3 * statementSize first) (3 * statementSize second) _ _ (omega arith) (statement-makes first g) (statement-makes second g)
   statement-makes (Statement.assignField f value) g =
-      more-makes _ (2 * expressionSize value + 2) _ (omega arith) (place-makes scope g (placeOwner ((fieldAt (scope .fields) f) .owner) none) value)
+      ended-makes _ _ (more-makes _ (2 * expressionSize value + 2) _ (omega arith) (place-makes scope g (placeOwner ((fieldAt (scope .fields) f) .owner) none) value))
   statement-makes (Statement.assignEntry f key value) g =
-      turn-makes _ (2 * expressionSize key) (2 * expressionSize value + 2) _ _ (omega arith) (body-makes scope g key)
-      (place-makes scope g (placeOwner ((fieldAt (scope .fields) f) .owner) (nameOf scope key)) value)
-  statement-makes (Statement.require condition) g = more-makes _ (2 * expressionSize condition) _ (omega arith) (body-makes scope g condition)
+      ended-makes _ _ (turn-makes _ (2 * expressionSize key) (2 * expressionSize value + 2) _ _ (omega arith) (body-makes scope g key)
+      (place-makes scope g (placeOwner ((fieldAt (scope .fields) f) .owner) (nameOf scope key)) value))
+  statement-makes (Statement.require condition) g = ended-makes _ _ (more-makes _ (2 * expressionSize condition) _ (omega arith) (body-makes scope g condition))
   statement-makes (Statement.conditional condition then else) g =
       let some = some-node condition in
-      turn-makes _ (2 * expressionSize condition) (3 * (statementSize then + statementSize else) + 4) _ _ (omega arith) (body-makes scope g condition)
+      turn-makes _ (2 * expressionSize condition) (3 * (statementSize then + statementSize else) + 4) _ _ (omega arith) (ended-makes _ _ (body-makes scope g condition))
       (turn-makes _ (3 * statementSize then + 2) (3 * statementSize else + 2) _ _ (omega arith)
       (branch-makes _ (3 * statementSize then) _ (omega arith) (λ k. statement-makes then k)) (branch-makes _ (3 * statementSize else) _ (omega arith) (λ k. statement-makes else k)))
 

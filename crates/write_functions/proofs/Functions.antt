@@ -1,11 +1,11 @@
 -- A function's circuits, then its body: the nodes of both together, and room for the body and the heading.
-use mathlib.Core.Path.{_≡_, ap, sym, _∙_}
+use mathlib.Core.Path.{_≡_, refl, ap, sym, _∙_}
 use mathlib.Core.Bool.{Bool}
 use mathlib.Core.List.{List, [], _∷_, _++_}
 use Prim.Native.Nat.{ℕ, _+_, _*_, _≤_}
 use native.Mathlib.Omega.{arith}
 use lib.Dec.{ltb}
-use lib.ListN.{length, take}
+use lib.ListN.{length, take, drop, take-append-drop}
 use Rattle.definitions.specs.Basics.{flatMap}
 use Rattle.definitions.specs.ContractFile.{byteAt}
 use Rattle.definitions.specs.Rewriting.{Tree, size, sizes, numberedAll, nodeBytes, commandTree, functionTrees, functionBytes}
@@ -24,6 +24,7 @@ use Rattle.write_heading_laws.proofs.Heading.{crossings-counted}
 use Rattle.write_nodes.specs.Numbering.{treeBytes, Numbered}
 use Rattle.write_nodes.proofs.TreeNodes.{nodes-append, run-then}
 use Rattle.write_trees.proofs.Functions.{numbered-append, all-length}
+use Rattle.write_logged_steps.specs.Held.{HoldsEvents}
 use Rattle.write_bodies.specs.Bodies.{BodyReady}
 use Rattle.write_function_room.specs.Functions.{writtenIn, eventsIn, mostBytes}
 use Rattle.write_functions.specs.declared.Parts.{Parts}
@@ -41,8 +42,8 @@ bytes-then ts t n =
 trees-length : (ts : List Tree) (n : ℕ) → length (flatMap nodeBytes (numberedAll n ts)) ≡ 8 * sizes ts
 trees-length ts n = nodes-length (numberedAll n ts) ∙ ap (λ (k : ℕ). 8 * k) (all-length ts n)
 
-module _ (file : List ℕ) (at : ℕ) (source : List ℕ) (log scratch roots numbers claims headings : List ℕ) (from : ℕ) (nodes : List ℕ) (base : ℕ)
-    (ready : FunctionReady file at source log scratch roots numbers claims headings from nodes base) where
+module _ (file : List ℕ) (at : ℕ) (source : List ℕ) (log roots numbers claims headings : List ℕ) (from : ℕ) (nodes : List ℕ) (base : ℕ)
+    (ready : FunctionReady file at source log roots numbers claims headings from nodes base) where
   pub circuits-ready : CircuitsReady file at source log numbers nodes base
   circuits-ready =
       record { from = from; room = ready .room; held = ready .held; logSpace = ready .logSpace; numberSpace = ready .numberSpace; nodeSpace = ready .nodeSpace }
@@ -75,8 +76,16 @@ module _ (file : List ℕ) (at : ℕ) (source : List ℕ) (log scratch roots num
         let few = nodes-fit in
         ap length (written .contents) ∙ stored-length nodes (8 * base) (flatMap nodeBytes (numberedAll base (circuitsIn file at))) (omega (arith, ready .nodeSpace, written .nodes))
 
+    events-held : HoldsEvents (nodesIn file) logAfter 0 (eventsIn file at)
+    events-held =
+        record {
+          numbers = take (parts .logged) logAfter;
+          entries = written .told .entries;
+          holds = record { front = []; back = drop (parts .logged) logAfter; split = sym (take-append-drop (parts .logged) logAfter); place = refl };
+        }
+
     pub body-ready : (verified : Bool) → verified ≡ ltb 0 (parts .private + parts .claims)
-        → BodyReady file at source (parts .private) verified scratch roots between (8 * (base + parts .nodes)) (base + parts .nodes)
+        → BodyReady file at source (parts .private) verified logAfter roots between (8 * (base + parts .nodes)) (base + parts .nodes)
     body-ready verified test =
         let few = nodes-few in
         let fit = nodes-fit in
@@ -88,7 +97,7 @@ module _ (file : List ℕ) (at : ℕ) (source : List ℕ) (log scratch roots num
           root = ready .room .root;
           privateIs = written .told .private;
           verifies = test ∙ ap (ltb 0) counted;
-          space = omega (arith, ready .room .eventsByNodes, ready .scratchSpace);
+          logged = events-held;
           steps = omega (arith, ready .room .eventsByNodes, ready .rootSpace);
           few = omega (arith, ready .room .variables);
           room = record { bytes = omega (arith, ready .nodeSpace); numbers = omega arith };

@@ -11,7 +11,7 @@ use Rattle.theory_laws.proofs.Written.{claim-count, opening-count, sizes-append
 use Rattle.theory_trees.specs.Trees.{statementIn}
 use Rattle.file_accepted.specs.Context.{nodesIn, fieldsIn, parametersIn, scopeIn}
 use Rattle.file_accepted.specs.Functions.{rootAt}
-use Rattle.rewrite_events.specs.Events.{Event, suppliedEvent, claimedEvent, readEvent, guardEvent, constraintsOf, statementEvents}
+use Rattle.rewrite_events.specs.Events.{Event, suppliedEvent, claimedEvent, readEvent, guardEvent, endEvent, constraintsOf, statementEvents}
 use Rattle.rewrite_events.proofs.Functions.{function-constraints}
 use Rattle.write_parameters.specs.Parameters.{privateCount}
 use Rattle.write_function_room.specs.Functions.{functionIn, writtenIn, privateIn}
@@ -25,6 +25,7 @@ constraints-few scope (suppliedEvent i o e ∷ events) = let h = constraints-few
 constraints-few scope (claimedEvent g i o e ∷ events) = let h = constraints-few scope events in omega arith
 constraints-few scope (readEvent s j o e ∷ events) = let h = constraints-few scope events in omega arith
 constraints-few scope (guardEvent i ∷ events) = let h = constraints-few scope events in omega arith
+constraints-few scope (endEvent i ∷ events) = let h = constraints-few scope events in omega arith
 
 abbrev treesIn : List Constraint → List Tree
 treesIn cs = flatMap (λ c. claimTrees (c .claim)) cs

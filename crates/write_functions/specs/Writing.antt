@@ -55,12 +55,11 @@ pub record HeadingReady (file : List ℕ) (at : ℕ) (log numbers claims heading
   pub claimSpace : 18 * nodeCount file ≤ length claims
   pub headingSpace : mostHeadings file ≤ length headings
 
-pub record FunctionReady (file : List ℕ) (at : ℕ) (source : List ℕ) (log scratch roots numbers claims headings : List ℕ) (from : ℕ)
+pub record FunctionReady (file : List ℕ) (at : ℕ) (source : List ℕ) (log roots numbers claims headings : List ℕ) (from : ℕ)
     (nodes : List ℕ) (base : ℕ) : Type 0 where
   pub room : FunctionRoom file at from base
   pub held : Source file source
   pub logSpace : 15 * nodeCount file ≤ length log
-  pub scratchSpace : 15 * nodeCount file ≤ length scratch
   pub rootSpace : 3 * nodeCount file + 8 ≤ length roots
   pub numberSpace : 12 * nodeCount file ≤ length numbers
   pub claimSpace : 18 * nodeCount file ≤ length claims

@@ -101,13 +101,12 @@ fn write_heading(
 }
 
 // The nodes of the function that begins at a place go behind the `base` nodes that are there, and its heading stands from place
-// `from` on. The first five buffers are scratch space.
+// `from` on. The first four buffers are scratch space.
 pub fn write_function(
     file: &[u8],
     function_at: usize,
     source: &[u16],
     log: &mut [u16],
-    scratch: &mut [u16],
     roots: &mut [u16],
     numbers: &mut [u16],
     claims: &mut [u8],
@@ -116,7 +115,7 @@ pub fn write_function(
     nodes: &mut [u8],
     base: usize,
 ) -> Finished
-    requires { ⌜ FunctionReady (now file) «function_at» (now source) (now log) (now scratch) (now roots) (now numbers) (now claims)
+    requires { ⌜ FunctionReady (now file) «function_at» (now source) (now log) (now roots) (now numbers) (now claims)
         (now headings) from (now nodes) base ⌝ }
     ensures { λ r. ⌜ FunctionWritten (now (file .entry)) «function_at» (now (headings .entry)) (now (headings .exit)) from
         (now (nodes .entry)) (now (nodes .exit)) base r ⌝ }
@@ -130,7 +129,7 @@ pub fn write_function(
         source,
         parts.private,
         verified,
-        scratch,
+        log,
         roots,
         nodes,
         8 * first,

@@ -1,4 +1,5 @@
 pub mod Held
+pub mod Apart
 pub mod Logged
 pub mod Readings
 pub mod Within

@@ -10,7 +10,7 @@ use Rattle.definitions.specs.Owners.{ownerOf}
 use Rattle.definitions.specs.Rewriting.{Step, inBody}
 use Rattle.theory_trees.specs.Trees.{expressionIn}
 use Rattle.rewrite_events.specs.Events.{Event, stepsOf}
-use Rattle.rewrite_log.specs.Entries.{suppliedEntry, claimedEntry, readEntry, guardEntry, Entries, noEntry, entryThen}
+use Rattle.rewrite_log.specs.Entries.{suppliedEntry, claimedEntry, readEntry, guardEntry, endEntry, Entries, noEntry, entryThen}
 use Rattle.write_steps.specs.Steps.{loggedSteps}
 use Rattle.write_logged_steps.specs.Held.{Holds}
 use Rattle.write_logged_steps.proofs.Held.{holds-tag, holds-variable, holds-node, holds-last, holds-rest}
@@ -43,4 +43,7 @@ module _ (scope : Scope) (nodes : List Node) (log : List ℕ) where
       (steps-logged events numbers rest (from + 5) (holds-rest log numbers from _ _ _ _ _ holds))
   steps-logged _ _ (entryThen {events} {numbers} (guardEntry i) rest) from holds =
       skipped from (length events) 3 (holds-tag log numbers from _ _ _ _ _ holds) refl
+      ∙ steps-logged events numbers rest (from + 5) (holds-rest log numbers from _ _ _ _ _ holds)
+  steps-logged _ _ (entryThen {events} {numbers} (endEntry i) rest) from holds =
+      skipped from (length events) 4 (holds-tag log numbers from _ _ _ _ _ holds) refl
       ∙ steps-logged events numbers rest (from + 5) (holds-rest log numbers from _ _ _ _ _ holds)

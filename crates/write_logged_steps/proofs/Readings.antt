@@ -9,7 +9,7 @@ use Rattle.theory_trees.specs.Trees.{expressionIn}
 use Rattle.file_accepted.specs.Context.{nodesIn, scopeIn}
 use Rattle.write_variable_counts.specs.Counts.{bodyCount}
 use Rattle.rewrite_events.specs.Events.{Event}
-use Rattle.rewrite_log.specs.Entries.{suppliedEntry, claimedEntry, readEntry, guardEntry, Entries, noEntry, entryThen}
+use Rattle.rewrite_log.specs.Entries.{suppliedEntry, claimedEntry, readEntry, guardEntry, endEntry, Entries, noEntry, entryThen}
 use Rattle.write_steps.specs.Steps.{Readable}
 use Rattle.write_logged_steps.specs.Held.{Holds, ReadsWithin}
 use Rattle.write_logged_steps.proofs.Held.{holds-tag, holds-node, holds-last, holds-rest}
@@ -20,6 +20,7 @@ entries-length nodes _ _ (entryThen {events} {numbers} (suppliedEntry i o n h) r
 entries-length nodes _ _ (entryThen {events} {numbers} (claimedEntry g i o n h) rest) = let k = entries-length nodes events numbers rest in omega arith
 entries-length nodes _ _ (entryThen {events} {numbers} (readEntry s j o n h) rest) = let k = entries-length nodes events numbers rest in omega arith
 entries-length nodes _ _ (entryThen {events} {numbers} (guardEntry i) rest) = let k = entries-length nodes events numbers rest in omega arith
+entries-length nodes _ _ (entryThen {events} {numbers} (endEntry i) rest) = let k = entries-length nodes events numbers rest in omega arith
 
 -- What is asked of the entry at a place.
 record Fit (file : List ℕ) (functionStart : ℕ) (log : List ℕ) (at : ℕ) : Type 0 where
@@ -59,6 +60,10 @@ module _ (file : List ℕ) (functionStart : ℕ) (counted : length (nodesIn file
   fit _ _ (entryThen {events} {numbers} (guardEntry i) rest) from holds few zero less =
       never from 0 3 (holds-tag log numbers from _ _ _ _ _ holds) (λ e. omega arith) (omega arith)
   fit _ _ (entryThen {events} {numbers} (guardEntry i) rest) from holds few (suc k) less =
+      later from k (fit events numbers rest (from + 5) (holds-rest log numbers from _ _ _ _ _ holds) few k (omega arith))
+  fit _ _ (entryThen {events} {numbers} (endEntry i) rest) from holds few zero less =
+      never from 0 4 (holds-tag log numbers from _ _ _ _ _ holds) (λ e. omega arith) (omega arith)
+  fit _ _ (entryThen {events} {numbers} (endEntry i) rest) from holds few (suc k) less =
       later from k (fit events numbers rest (from + 5) (holds-rest log numbers from _ _ _ _ _ holds) few k (omega arith))
 
   pub readable : (events : List Event) (numbers : List ℕ) → Entries (nodesIn file) events numbers → (from : ℕ) → Holds log numbers from → ReadsWithin (scopeIn file functionStart) 65535 events

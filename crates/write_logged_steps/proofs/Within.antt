@@ -14,7 +14,7 @@ use Rattle.theory_laws.proofs.TruthValues.{and-left}
 use Rattle.write_variable_counts.specs.Counts.{bodyCount}
 use Rattle.write_variable_counts.proofs.Counts.{body-makes}
 use Rattle.write_variable_counts.proofs.Steps.{body-field, body-parameter, body-entry, body-operator}
-use Rattle.rewrite_events.specs.Events.{Event, suppliedEvent, claimedEvent, readEvent, guardEvent, variablesOf, variableCount, Events, noEvents, inTurn, supplyEvents, readEvents, operatorEvents, bodyEvents, circuitEvents, placeEvents, branchEvents, statementEvents}
+use Rattle.rewrite_events.specs.Events.{Event, suppliedEvent, claimedEvent, readEvent, guardEvent, endEvent, variablesOf, variableCount, Events, noEvents, inTurn, supplyEvents, readEvents, operatorEvents, bodyEvents, circuitEvents, placeEvents, ended, branchEvents, statementEvents}
 use Rattle.rewrite_events.proofs.Pieces.{body-made}
 use Rattle.write_logged_steps.specs.Held.{ReadsWithin}
 
@@ -26,6 +26,7 @@ module _ (scope : Scope) where
   within-more m n (claimedEvent g i o e ∷ events) h r = within-more m n events h r
   within-more m n (readEvent s j o e ∷ events) h r = let low = r .0 in (omega arith, within-more m n events h (r .1))
   within-more m n (guardEvent i ∷ events) h r = within-more m n events h r
+  within-more m n (endEvent i ∷ events) h r = within-more m n events h r
 
   within-append : (m : ℕ) (first second : List Event) → ReadsWithin scope m first → ReadsWithin scope m second → ReadsWithin scope m (first ++ second)
   unfolding ReadsWithin
@@ -34,6 +35,7 @@ module _ (scope : Scope) where
   within-append m (claimedEvent g i o e ∷ events) second a b = within-append m events second a b
   within-append m (readEvent s j o e ∷ events) second a b = (a .0, within-append m events second (a .1) b)
   within-append m (guardEvent i ∷ events) second a b = within-append m events second a b
+  within-append m (endEvent i ∷ events) second a b = within-append m events second a b
 
   pub record Within (events : Events) : Type 0 where
     pub reads : (i : ℕ) → ReadsWithin scope (i + variableCount (events i)) (events i)
@@ -78,6 +80,17 @@ module _ (scope : Scope) where
             let total = variable-count-append p own in
             let same = counted i in
             within-append (i + variableCount (p ++ own)) p own (within-more (i + variableCount p) (i + variableCount (p ++ own)) p (omega arith) (x .reads i)) (omega arith, tt);
+      }
+
+  pub ended-within : (events : Events) → Within events → Within (ended events)
+  unfolding ended ReadsWithin variablesOf
+  ended-within events x =
+      record {
+        reads = λ i.
+            let own = endEvent (i + variableCount (events i)) ∷ [] in
+            let total = variable-count-append (events i) own in
+            within-append (i + variableCount (events i ++ own)) (events i) own
+            (within-more (i + variableCount (events i)) (i + variableCount (events i ++ own)) (events i) (omega arith) (x .reads i)) tt;
       }
 
   either-within : (test : Bool) (a b : Events) → (test ≡ true → Within a) → (test ≡ false → Within b) → Within (cond test a b)
@@ -143,14 +156,14 @@ module _ (scope : Scope) where
 
   pub statement-within : (s : Statement) (g : Guard) → Within (statementEvents scope s g)
   unfolding statementEvents
-  statement-within Statement.skip g = none-within
+  statement-within Statement.skip g = ended-within _ none-within
   statement-within (Statement.sequence first second) g = turn-within _ _ (statement-within first g) (statement-within second g)
-  statement-within (Statement.assignField f value) g = place-within g (placeOwner ((fieldAt (scope .fields) f) .owner) none) value
+  statement-within (Statement.assignField f value) g = ended-within _ (place-within g (placeOwner ((fieldAt (scope .fields) f) .owner) none) value)
   statement-within (Statement.assignEntry f key value) g =
-      turn-within _ _ (body-within g key) (place-within g (placeOwner ((fieldAt (scope .fields) f) .owner) (nameOf scope key)) value)
-  statement-within (Statement.require condition) g = body-within g condition
+      ended-within _ (turn-within _ _ (body-within g key) (place-within g (placeOwner ((fieldAt (scope .fields) f) .owner) (nameOf scope key)) value))
+  statement-within (Statement.require condition) g = ended-within _ (body-within g condition)
   statement-within (Statement.conditional condition then else) g =
-      turn-within _ _ (body-within g condition) (turn-within _ _ (branch-within (statementEvents scope then) (statement-within then)) (branch-within (statementEvents scope else) (statement-within else)))
+      turn-within _ _ (ended-within _ (body-within g condition)) (turn-within _ _ (branch-within (statementEvents scope then) (statement-within then)) (branch-within (statementEvents scope else) (statement-within else)))
 
   -- So few variables that every number is one of two bytes.
   pub reads-few : (events : Events) (i : ℕ) → Within events → i + variableCount (events i) ≤ 65535 → ReadsWithin scope 65535 (events i)

@@ -1,6 +1,6 @@
 -- What is written of a statement that holds no other is the tree of its rewritten command.
 use mathlib.Core.Path.{_≡_, refl, ap, sym, _∙_}
-use mathlib.Core.Bool.{Bool, true, false, false≢true}
+use mathlib.Core.Bool.{true, false≢true}
 use mathlib.Core.List.{List}
 use mathlib.Core.Option.{none}
 use Prim.Native.Nat.{ℕ}
@@ -10,21 +10,14 @@ use Rattle.definitions.specs.Owners.{nameOf, placeOwner, ownerOf}
 use Rattle.definitions.specs.Rewriting.{Command, Guard, Step, single, stepsBefore, inBody, inPlace, rewriteStatement, commandTree}
 use Rattle.theory_trees.specs.Trees.{statementIn}
 use Rattle.file_accepted.specs.Context.{nodesIn, scopeIn}
-use Rattle.rewrite_events.specs.Events.{stepsOf, bodyEvents, placeEvents, statementEvents}
-use Rattle.rewrite_events.proofs.Pieces.{kept-made, one-made, two-made, body-made, place-made}
+use Rattle.rewrite_events.specs.Events.{stepsOf, noEvents, inTurn, bodyEvents, placeEvents, statementEvents}
+use Rattle.rewrite_events.specs.Ends.{isSimple}
+use Rattle.rewrite_events.proofs.Pieces.{kept-made, ended-made, one-made, two-made, body-made, place-made}
 use Rattle.rewrite_log.specs.Entries.{Entries}
 use Rattle.write_simple_statements.specs.Statements.{simple}
 use Rattle.write_logged_steps.specs.Held.{Holds}
 use Rattle.write_logged_steps.proofs.Logged.{steps-logged}
 use Rattle.write_stepped_statements.specs.Single.{singleTree}
-
-abbrev pub isSimple : Statement → Bool
-isSimple Statement.skip = true
-isSimple (Statement.sequence first second) = false
-isSimple (Statement.assignField f value) = true
-isSimple (Statement.assignEntry f key value) = true
-isSimple (Statement.require condition) = true
-isSimple (Statement.conditional condition then else) = false
 
 module _ (scope : Scope) (g : Guard) (i : ℕ) where
   pub simple-command : (s : Statement) → isSimple s ≡ true → (rewriteStatement scope s g i) .command ≡ stepsBefore ((simple scope s i) .steps) ((simple scope s i) .form)
@@ -38,16 +31,18 @@ module _ (scope : Scope) (g : Guard) (i : ℕ) where
 
   pub simple-steps : (s : Statement) → isSimple s ≡ true → stepsOf scope (statementEvents scope s g i) ≡ (simple scope s i) .steps
   unfolding statementEvents simple
-  simple-steps Statement.skip h = (kept-made scope g Command.skip i) .steps
+  simple-steps Statement.skip h = (ended-made scope g _ noEvents i (kept-made scope g Command.skip i)) .steps
   simple-steps (Statement.sequence first second) h = absurd (false≢true h)
   simple-steps (Statement.assignField f value) h =
       let o = placeOwner ((fieldAt (scope .fields) f) .owner) none in
-      (one-made scope g (Command.assignField f) (inPlace (ownerOf scope) o value) (placeEvents scope g o value i) i (place-made scope g o value i)) .steps
+      (ended-made scope g _ (placeEvents scope g o value) i (one-made scope g (Command.assignField f) (inPlace (ownerOf scope) o value) (placeEvents scope g o value i) i (place-made scope g o value i))) .steps
   simple-steps (Statement.assignEntry f key value) h =
       let o = placeOwner ((fieldAt (scope .fields) f) .owner) (nameOf scope key) in
-      (two-made scope g (Command.assignEntry f) (inBody (ownerOf scope) key) (inPlace (ownerOf scope) o value) (bodyEvents scope g key) (placeEvents scope g o value) (body-made scope g key) (place-made scope g o value) i) .steps
+      (ended-made scope g _ (inTurn (bodyEvents scope g key) (placeEvents scope g o value)) i
+      (two-made scope g (Command.assignEntry f) (inBody (ownerOf scope) key) (inPlace (ownerOf scope) o value) (bodyEvents scope g key) (placeEvents scope g o value) (body-made scope g key) (place-made scope g o value) i)) .steps
   simple-steps (Statement.require condition) h =
-      (one-made scope g Command.require (inBody (ownerOf scope) condition) (bodyEvents scope g condition i) i (body-made scope g condition i)) .steps
+      (ended-made scope g _ (bodyEvents scope g condition) i
+      (one-made scope g Command.require (inBody (ownerOf scope) condition) (bodyEvents scope g condition i) i (body-made scope g condition i))) .steps
   simple-steps (Statement.conditional condition then else) h = absurd (false≢true h)
 
 pub single-rewritten : (file : List ℕ) (functionStart : ℕ) (log : List ℕ) (n i : ℕ) (g : Guard) (numbers : List ℕ) (from : ℕ)

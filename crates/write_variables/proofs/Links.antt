@@ -13,7 +13,7 @@ use Rattle.definitions.specs.ContractFile.{Name, meName, finalName, parameterNa
 use Rattle.definitions.specs.Rewriting.{supplied, readFrom, origin, variableBytes, keyOf}
 use Rattle.theory_trees.specs.Trees.{expressionIn}
 use Rattle.rewrite_events.specs.Events.{Event, variablesOf, constraintsOf}
-use Rattle.rewrite_log.specs.Entries.{suppliedEntry, claimedEntry, readEntry, guardEntry, Entries, noEntry, entryThen}
+use Rattle.rewrite_log.specs.Entries.{suppliedEntry, claimedEntry, readEntry, guardEntry, endEntry, Entries, noEntry, entryThen}
 use Rattle.write_variables.specs.PerEntry.{perEntry, countTag}
 use Rattle.write_variables.specs.Variables.{originOf, variableOf, keyCode, ownersFit}
 
@@ -57,6 +57,7 @@ module _ (nodes : List Node) where
       let second = code-byte o (h .0) in
       λ t. first t ∷ second t ∷ later t
   variables-told (entryThen (guardEntry i) rest) h = ap (λ (l : List ℕ). 4 ∷ 0 ∷ l) (variables-told rest h)
+  variables-told (entryThen (endEntry i) rest) h = variables-told rest h
 
   pub keys-told : {events : List Event} {numbers : List ℕ} → Entries nodes events numbers → ownersFit events
       → perEntry keyCode numbers ≡ flatMap keyOf (variablesOf events)
@@ -67,6 +68,7 @@ module _ (nodes : List Node) where
   keys-told (entryThen (claimedEntry g i o n below) rest) h = keys-told rest h
   keys-told (entryThen (readEntry s j o n below) rest) h = keys-told rest (h .1)
   keys-told (entryThen (guardEntry i) rest) h = keys-told rest h
+  keys-told (entryThen (endEntry i) rest) h = keys-told rest h
 
   pub claims-told : (scope : Scope) {events : List Event} {numbers : List ℕ} → Entries nodes events numbers → countTag 1 numbers ≡ length (constraintsOf scope events)
   unfolding perEntry constraintsOf
@@ -75,6 +77,7 @@ module _ (nodes : List Node) where
   claims-told scope (entryThen (claimedEntry g i o n below) rest) = ap suc (claims-told scope rest)
   claims-told scope (entryThen (readEntry s j o n below) rest) = claims-told scope rest
   claims-told scope (entryThen (guardEntry i) rest) = claims-told scope rest
+  claims-told scope (entryThen (endEntry i) rest) = claims-told scope rest
 
   supplied-crosses : (o : Owner) (e : Expression) → _≡_ {A = ℕ} (cond (leb (origin (supplied o e)) 3) 1 0) 1
   supplied-crosses everyone e = refl
@@ -95,3 +98,4 @@ module _ (nodes : List Node) where
   crossings-told (entryThen (readEntry s j o n below) rest) =
       let h = crossings-told rest in let k = read-crosses o (expressionIn nodes n) in omega arith
   crossings-told (entryThen (guardEntry i) rest) = let h = crossings-told rest in omega arith
+  crossings-told (entryThen (endEntry i) rest) = crossings-told rest

@@ -1,5 +1,6 @@
 -- The ways out of the tests on one entry.
 use mathlib.Core.Path.{_≡_, ap}
+use mathlib.Core.Bool.{true, false}
 use mathlib.Core.List.{List, [], _∷_}
 use Prim.Native.Nat.{ℕ, _+_, _%_, _≤_}
 use native.Mathlib.Omega.{arith}
@@ -7,6 +8,7 @@ use borrow.Author.Tests.{eq-eqb, ne-eqb}
 use lib.ListN.{length}
 use Rattle.memory_append.specs.Append.{Appended}
 use Rattle.memory_append.proofs.Appending.{appended-nothing, appended-then}
+use Rattle.rewrite_log.specs.Entries.{makesNone}
 use Rattle.write_variables.specs.PerEntry.{ofTag}
 use Rattle.write_variables.specs.Variables.{originOf, variableOf}
 
@@ -37,13 +39,13 @@ module _ (tag owner : ℕ) where
   unfolding originOf
   neither n t = rw (ne-eqb tag 0 n, ne-eqb tag 2 t)
 
-  -- A claim makes no variable, and every other entry one.
-  pub claim-none : (held : List ℕ) (at : ℕ) → tag ≡ 1 → Appended held held at (variableOf tag 0 owner 0 0) at
-  claim-none held at t = rw (eq-eqb tag 1 t) (appended-nothing held at)
+  -- A claim or an end makes no variable, and every other entry one.
+  pub nothing-made : (held : List ℕ) (at : ℕ) → makesNone tag ≡ true → Appended held held at (variableOf tag 0 owner 0 0) at
+  nothing-made held at t = rw t (appended-nothing held at)
 
-  module _ (t : tag ≡ 1 → ⊥) where
+  module _ (t : makesNone tag ≡ false) where
     two-bytes : variableOf tag 0 owner 0 0 ≡ originOf tag owner ∷ owner % 256 ∷ []
-    two-bytes = rw (ne-eqb tag 1 t)
+    two-bytes = rw t
 
     pub variable-room : (at most : ℕ) → at + length (variableOf tag 0 owner 0 0) ≤ most → at + 2 ≤ most
     variable-room at most h = let e = ap length two-bytes in omega arith

@@ -7,16 +7,17 @@ use lib.Dec.{eqb}
 use lib.ListN.{getD}
 use Rattle.definitions.specs.ContractFile.{ownerCode}
 use Rattle.memory_append.specs.Append.{Appended}
-use Rattle.rewrite_events.specs.Events.{Event, suppliedEvent, claimedEvent, readEvent, guardEvent}
+use Rattle.rewrite_events.specs.Events.{Event, suppliedEvent, claimedEvent, readEvent, guardEvent, endEvent}
+use Rattle.rewrite_log.specs.Entries.{makesNone}
 use Rattle.write_variables.specs.PerEntry.{FromEntry}
 
 -- "Origins: 0 supplied plain, 1 supplied cell, 2 read plain, 3 read cell, 4 guard."
 unfoldable pub originOf : ℕ → ℕ → ℕ
 originOf tag owner = cond (eqb tag 0) (cond (eqb owner 0) 0 1) (cond (eqb tag 2) (cond (eqb owner 0) 2 3) 4)
 
--- "each origin and owner code (0 unless a cell)"; a claim makes no variable.
+-- "each origin and owner code (0 unless a cell)"; a claim makes no variable, nor does an end.
 abbrev pub variableOf : FromEntry
-variableOf tag variable owner node last = cond (eqb tag 1) [] (originOf tag owner ∷ owner % 256 ∷ [])
+variableOf tag variable owner node last = cond (makesNone tag) [] (originOf tag owner ∷ owner % 256 ∷ [])
 
 -- "owner codes needing keys (those of supplied cells)"
 abbrev pub keyCode : FromEntry
@@ -43,3 +44,4 @@ ownersFit (suppliedEvent i o e ∷ events) = (ownerCode o < 256) × ownersFit ev
 ownersFit (claimedEvent g i o e ∷ events) = ownersFit events
 ownersFit (readEvent s j o e ∷ events) = (ownerCode o < 256) × ownersFit events
 ownersFit (guardEvent i ∷ events) = ownersFit events
+ownersFit (endEvent i ∷ events) = ownersFit events

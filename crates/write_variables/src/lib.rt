@@ -1,8 +1,8 @@
 // 01, Rewriting: a function's variables and keys, written from its log.
 use memory_append::append_byte;
-use rewrite_log::CLAIM_LOGGED;
 use rewrite_log::READ_LOGGED;
 use rewrite_log::SUPPLIED_LOGGED;
+use rewrite_log::makes_none;
 ghost use mathlib.Core.Path.{_≡_};
 ghost use mathlib.Core.List.{[], _∷_};
 ghost use Prim.Native.Nat.{_+_, _≤_};
@@ -44,7 +44,7 @@ pub fn count_tag(log: &[u16], tag: u16) -> usize
     count
 }
 
-// The origin of an entry's variable. A claim makes none.
+// The origin of the variable that an entry makes.
 fn origin_of(tag: u16, owner: u16) -> u8
     ensures { λ r. ⌜ r ≡ originOf tag owner ⌝ }
 {
@@ -61,12 +61,12 @@ fn origin_of(tag: u16, owner: u16) -> u8
     }
 }
 
-// An entry's variable: "each origin and owner code". A claim makes none.
+// The variable that an entry makes, if any: "each origin and owner code".
 fn append_variable(tag: u16, owner: u16, out: &mut [u8], at: usize) -> usize
     requires { ⌜ at + length (variableOf tag 0 owner 0 0) ≤ length (now out) ⌝ }
     ensures { λ r. ⌜ Appended (now (out .entry)) (now (out .exit)) at (variableOf tag 0 owner 0 0) r ⌝ }
 {
-    if tag == CLAIM_LOGGED {
+    if makes_none(tag) {
         at
     } else {
         let next = append_byte(origin_of(tag, owner), out, at);

@@ -2,7 +2,7 @@
 use mathlib.Core.Path.{_∙_}
 use native.Mathlib.Omega.{arith}
 use Prim.Native.Nat.{_+_, _*_}
-use Rattle.rewrite_statements.proofs.Statements.{still-logged, steps-less, first-ready, second-ready, sequence-logged, assign-field-ready, assign-field-logged, entry-value-inside, assign-entry-ready, assign-entry-logged, require-ready, require-logged, branches-less, condition-ready, then-ready, else-ready, conditional-logged, guard-slot, guard-small, inside-ready, branch-done}
+use Rattle.rewrite_statements.proofs.Statements.{others-ready, steps-less, first-ready, second-ready, sequence-logged, branches-less, condition-ready, then-ready, else-ready, conditional-logged, guard-slot, guard-small, inside-ready, branch-done}
 use Prim.Native.Nat.{ℕ, _<_}
 use borrow.Fn.Kinds.{In}
 use borrow.Fn.PlainCycle.{Measures, is, falls, and}
@@ -14,9 +14,8 @@ use Rattle.rewrite_statements.proofs.statement_log.Kinds as statement-l
 use Rattle.rewrite_statements.proofs.+branch_log+statement_log.Lts-statement_log as statement-log-lts
 use Rattle.rewrite_log.proofs.log_entry.Reads as log-entry-reads
 use Rattle.file_decoded.proofs.node_at.Reads as node-at-reads
-use Rattle.rewrite_expressions.proofs.body_log.Reads as body-log-reads
-use Rattle.rewrite_assignments.proofs.assign_entry_log.Reads as assign-entry-log-reads
-use Rattle.rewrite_assignments.proofs.assign_field_log.Reads as assign-field-log-reads
+use Rattle.rewrite_simple_statements.proofs.condition_log.Reads as condition-log-reads
+use Rattle.rewrite_simple_statements.proofs.simple_log.Reads as simple-log-reads
 use Rattle.rewrite_statements.proofs.+branch_log+statement_log.{statement}
 use Rattle.rewrite_statements.proofs.+branch_log+statement_log.Tie.{close}
 
@@ -47,14 +46,12 @@ statement-log-claims t = (
   node-at-reads.Learnt,
   statement-log-below t,
   statement-log.Post,
-  assign-field-log-reads.Asked,
-  assign-field-log-reads.Learnt,
-  assign-entry-log-reads.Asked,
-  assign-entry-log-reads.Learnt,
-  body-log-reads.Asked,
-  body-log-reads.Learnt,
+  condition-log-reads.Asked,
+  condition-log-reads.Learnt,
   branch-log-below t,
   branch-log.Post,
+  simple-log-reads.Asked,
+  simple-log-reads.Learnt,
 )
 
 -- What is logged of a branch and of a sequence stands above the other answers: another guard or order is refused here first.
@@ -86,57 +83,28 @@ pub +branch-log+statement-log-spec : {M : Type 1} → statement M
     λ t. statement-log-lts.spec (statement-log-claims t)
     (statement-log-at t) statement-log.Post
     (λ c κs. let (_, ready) = c .before .before .before .pre in (ready .context .narrow, omega (arith, ready .inside, ready .context .long)))
-    (λ c κs. let start = c .before .before .before .before .before .before in let args-guard = start .args .guard in let (_, ready) = start .pre in
-    let node-at-same = c .before .before .node-at .ensures .same in let match-keys1 = c .before .match .keys1 in
-    let less = steps-less _ _ _ args-guard _ _ _ ready _ node-at-same match-keys1 in (omega arith, first-ready _ _ _ args-guard _ _ _ ready _ node-at-same match-keys1))
-    (λ c κs. let start = c .before .before .before .before .before .before .before .before .before .before in let args-guard = start .args .guard in
-    let (_, ready) = start .pre in let node-at-same = c .before .before .before .before .before .before .node-at .ensures .same in
-    let match-keys1 = c .before .before .before .before .before .match .keys1 in
-    let less = steps-less _ _ _ args-guard _ _ _ ready _ node-at-same match-keys1 in (omega arith, second-ready _ _ _ args-guard _ _ _ ready _ node-at-same match-keys1 _ _ (c .before .before .before .statement-log .ensures)))
-    (λ c κs. let start = c .before .before .before .before .before .before in let args-guard = start .args .guard in let (_, ready) = start .pre in
-    let node-at = c .before .before .node-at .ensures in
-    (node-at .smallArg, assign-field-ready _ _ _ args-guard _ _ _ ready _ (node-at .same) (c .before .match .keys2)))
-    (λ c κs. let start = c .before .before .before .before .before .before in let args-guard = start .args .guard in let (_, ready) = start .pre in
-    let node-at = c .before .before .node-at .ensures in let match-keys3 = c .before .match .keys3 in
-    ((node-at .smallArg, entry-value-inside _ _ _ args-guard _ _ _ ready _ (node-at .same) match-keys3), assign-entry-ready _ _ _ args-guard _ _ _ ready _ (node-at .same) match-keys3))
+    (λ c κs. let guard = c .before .before .before .before .before .before .args .guard in let (_, ready) = c .before .before .before .before .before .before .pre in
+    let same = c .before .before .node-at .ensures .same in let kind = c .before .match .keys1 in
+    let less = steps-less _ _ _ guard _ _ _ ready _ same kind in (omega arith, first-ready _ _ _ guard _ _ _ ready _ same kind))
+    (λ c κs. let guard = c .before .before .before .before .before .before .before .before .before .before .args .guard in let (_, ready) = c .before .before .before .before .before .before .before .before .before .before .pre in
+    let same = c .before .before .before .before .before .before .node-at .ensures .same in let kind = c .before .before .before .before .before .match .keys1 in
+    let less = steps-less _ _ _ guard _ _ _ ready _ same kind in (omega arith, second-ready _ _ _ guard _ _ _ ready _ same kind _ _ (c .before .before .before .statement-log .ensures)))
     (λ c κs. let (_, ready) = c .before .before .before .before .before .before .pre in
-    require-ready _ _ _ (c .before .before .before .before .before .before .args .guard) _ _ _ ready _ (c .before .before .node-at .ensures .same) (c .before .match .keys4))
-    (λ c κs. let (_, ready) = c .before .before .before .before .before .before .pre in
-    condition-ready _ _ _ (c .before .before .before .before .before .before .args .guard) _ _ _ ready _ (c .before .before .node-at .ensures .same) (c .before .match .keys5))
-    (λ c κs. let start = c .before .before .before .before .before .before .before .before .before .before in let args-guard = start .args .guard in
-    let (_, ready) = start .pre in let node-at-same = c .before .before .before .before .before .before .node-at .ensures .same in
-    let match-keys5 = c .before .before .before .before .before .match .keys5 in
-    let less = branches-less _ _ _ args-guard _ _ _ ready _ node-at-same match-keys5 in (omega arith, then-ready _ _ _ args-guard _ _ _ ready _ node-at-same match-keys5 _ _ (c .before .before .before .body-log2 .ensures)))
-    (λ c κs. let start = c .before .before .before .before .before .before .before .before .before .before .before .before .before .before in
-    let args-guard = start .args .guard in let (_, ready) = start .pre in
-    let node-at-same = c .before .before .before .before .before .before .before .before .before .before .node-at .ensures .same in
-    let match-keys5 = c .before .before .before .before .before .before .before .before .before .match .keys5 in
-    let body-log2 = c .before .before .before .before .before .before .before .body-log2 .ensures in
-    let less = branches-less _ _ _ args-guard _ _ _ ready _ node-at-same match-keys5 in (omega arith, else-ready _ _ _ args-guard _ _ _ ready _ node-at-same match-keys5 _ _ body-log2 _ _ (c .before .before .before .branch-log .ensures)))
+    condition-ready _ _ _ (c .before .before .before .before .before .before .args .guard) _ _ _ ready _ (c .before .before .node-at .ensures .same) (c .before .match .keys2))
+    (λ c κs. let guard = c .before .before .before .before .before .before .before .before .before .before .args .guard in let (_, ready) = c .before .before .before .before .before .before .before .before .before .before .pre in
+    let same = c .before .before .before .before .before .before .node-at .ensures .same in let kind = c .before .before .before .before .before .match .keys2 in
+    let less = branches-less _ _ _ guard _ _ _ ready _ same kind in (omega arith, then-ready _ _ _ guard _ _ _ ready _ same kind _ _ (c .before .before .before .condition-log .ensures)))
+    (λ c κs. let guard = c .before .before .before .before .before .before .before .before .before .before .before .before .before .before .args .guard in let (_, ready) = c .before .before .before .before .before .before .before .before .before .before .before .before .before .before .pre in
+    let same = c .before .before .before .before .before .before .before .before .before .before .node-at .ensures .same in let kind = c .before .before .before .before .before .before .before .before .before .match .keys2 in
+    let less = branches-less _ _ _ guard _ _ _ ready _ same kind in
+    (omega arith, else-ready _ _ _ guard _ _ _ ready _ same kind _ _ (c .before .before .before .before .before .before .before .condition-log .ensures) _ _ (c .before .before .before .branch-log .ensures)))
+    (λ c κs. let (_, ready) = c .before .before .before .before .before .before .pre in let rest = c .before .match .rest in
+    others-ready _ _ _ (c .before .before .before .before .before .before .args .guard) _ _ _ ready _ (c .before .before .node-at .ensures .same) (rest .0 .1) (rest .1))
     (λ c. c .before .before .statement-log2 .kept .1 .1 .1 .1 .1 .0 ∙ c .before .before .before .before .before .before .statement-log .kept .1 .1 .1 .1 .1 .0)
     (sequence-returns t)
-    (λ c. c .before .before .assign-field-log .kept .1 .1 .1 .1 .1 .1 .0)
-    (λ c. let start = c .before .before .before .before .before .before .before .before .before in let args-guard = start .args .guard in
-    let (_, ready) = start .pre in let node-at-same = c .before .before .before .before .before .node-at .ensures .same in
-    assign-field-logged _ _ _ args-guard _ _ _ ready _ node-at-same (c .before .before .before .before .match .keys2) _ _ (c .before .before .assign-field-log .ensures))
-    (λ c. c .before .before .assign-entry-log .kept .1 .1 .1 .1 .1 .1 .1 .0)
-    (λ c. let start = c .before .before .before .before .before .before .before .before .before in let args-guard = start .args .guard in
-    let (_, ready) = start .pre in let node-at-same = c .before .before .before .before .before .node-at .ensures .same in
-    assign-entry-logged _ _ _ args-guard _ _ _ ready _ node-at-same (c .before .before .before .before .match .keys3) _ _ (c .before .before .assign-entry-log .ensures))
-    (λ c. c .before .before .body-log .kept .1 .1 .1 .1 .1 .0)
-    (λ c. let start = c .before .before .before .before .before .before .before .before .before in let args-guard = start .args .guard in
-    let (_, ready) = start .pre in let node-at-same = c .before .before .before .before .before .node-at .ensures .same in
-    require-logged _ _ _ args-guard _ _ _ ready _ node-at-same (c .before .before .before .before .match .keys4) _ _ (c .before .before .body-log .ensures))
-    (λ c. let body-log2-kept = c .before .before .before .before .before .before .before .before .before .before .body-log2 .kept .1 .1 .1 .1 .1 .0 in
-    let branch-log-kept = c .before .before .before .before .before .before .branch-log .kept .1 .1 .1 .1 .0 in
-    c .before .before .branch-log2 .kept .1 .1 .1 .1 .0 ∙ branch-log-kept ∙ body-log2-kept)
-    (λ c. let start = c .before .before .before .before .before .before .before .before .before .before .before .before .before .before .before .before .before in
-    let args-guard = start .args .guard in let (_, ready) = start .pre in
-    let node-at-same = c .before .before .before .before .before .before .before .before .before .before .before .before .before .node-at .ensures .same in
-    let match-keys5 = c .before .before .before .before .before .before .before .before .before .before .before .before .match .keys5 in
-    let body-log2 = c .before .before .before .before .before .before .before .before .before .before .body-log2 .ensures in
-    let branch-log-2 = c .before .before .before .before .before .before .branch-log .ensures in
-    conditional-logged _ _ _ args-guard _ _ _ ready _ node-at-same match-keys5 _ _ body-log2 _ _ branch-log-2 _ _ (c .before .before .branch-log2 .ensures))
-    (λ c. let (_, ready) = c .before .before .before .before .before .pre in
-    let u = c .match .rest in
-    still-logged _ _ _ (c .before .before .before .before .before .args .guard) _ _ _ ready _ (c .before .node-at .ensures .same) (record { sequence = u .0 .0 .0 .0 .1; assignField = u .0 .0 .0 .1; assignEntry = u .0 .0 .1; require = u .0 .1; conditional = u .1 }))
+    (λ c. c .before .before .branch-log2 .kept .1 .1 .1 .1 .0 ∙ c .before .before .before .before .before .before .branch-log .kept .1 .1 .1 .1 .0 ∙ c .before .before .before .before .before .before .before .before .before .before .condition-log .kept .1 .1 .1 .1 .1 .0)
+    (λ c. let guard = c .before .before .before .before .before .before .before .before .before .before .before .before .before .before .before .before .before .args .guard in let (_, ready) = c .before .before .before .before .before .before .before .before .before .before .before .before .before .before .before .before .before .pre in
+    let same = c .before .before .before .before .before .before .before .before .before .before .before .before .before .node-at .ensures .same in let kind = c .before .before .before .before .before .before .before .before .before .before .before .before .match .keys2 in
+    conditional-logged _ _ _ guard _ _ _ ready _ same kind _ _ (c .before .before .before .before .before .before .before .before .before .before .condition-log .ensures) _ _ (c .before .before .before .before .before .before .branch-log .ensures) _ _ (c .before .before .branch-log2 .ensures))
+    (λ c. c .before .before .simple-log .kept .1 .1 .1 .1 .1 .0)
+    (λ c. c .before .before .simple-log .ensures)

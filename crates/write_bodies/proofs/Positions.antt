@@ -1,0 +1,36 @@
+-- Events in turn stand in a log one behind another.
+use mathlib.Core.Path.{_≡_, ap, sym, subst, _∙_}
+use mathlib.Core.List.{List, _++_}
+use Prim.Native.Nat.{ℕ, _+_, _*_}
+use native.Mathlib.Omega.{arith}
+use lib.ListN.{length, length-append}
+use Rattle.definitions.specs.ContractFile.{Node}
+use Rattle.rewrite_events.specs.Events.{Event, variableCount, Events, inTurn}
+use Rattle.rewrite_events.proofs.Appended.{variable-count-append}
+use Rattle.rewrite_log.specs.declared.Position.{Position}
+use Rattle.write_logged_steps.specs.Held.{HoldsEvents}
+use Rattle.write_logged_steps.proofs.Apart.{holds-first, holds-second}
+use Rattle.write_bodies.specs.Bodies.{Behind}
+use Rattle.write_bodies.proofs.Guards.{Alike}
+
+pub turn-first : (nodes : List Node) (log : List ℕ) (from : ℕ) (a b : Events) (i : ℕ) → HoldsEvents nodes log from (inTurn a b i) → HoldsEvents nodes log from (a i)
+unfolding inTurn
+turn-first nodes log from a b i h = holds-first nodes log from (a i) _ h
+
+-- The second of two stand behind the first, or behind others as many that make as many variables.
+pub turn-second : (nodes : List Node) (log : List ℕ) (p q : Position) (a b c : Events) → Alike a c → Behind p (c (p .variable)) q
+    → HoldsEvents nodes log (p .at) (inTurn a b (p .variable)) → HoldsEvents nodes log (q .at) (b (q .variable))
+unfolding inTurn
+turn-second nodes log p q a b c alike behind h =
+    let place : p .at + 5 * length (a (p .variable)) ≡ q .at = ap (λ (n : ℕ). p .at + 5 * n) (alike .lengths _ _) ∙ sym (behind .place) in
+    let variable : p .variable + variableCount (a (p .variable)) ≡ q .variable = ap (λ (n : ℕ). p .variable + n) (alike .variables _ _) ∙ sym (behind .variable) in
+    subst (λ (m : ℕ). HoldsEvents nodes log m (b (q .variable))) place
+    (subst (λ (m : ℕ). HoldsEvents nodes log (p .at + 5 * length (a (p .variable))) (b m)) variable
+    (holds-second nodes log (p .at) (a (p .variable)) _ h))
+
+-- One behind another.
+pub behind-both : (p q r : Position) (first second : List Event) → Behind p first q → Behind q second r → Behind p (first ++ second) r
+behind-both p q r first second h k =
+    let events = length-append first second in
+    let variables = variable-count-append first second in
+    record { place = omega (arith, h .place, k .place); variable = omega (arith, h .variable, k .variable) }
