@@ -73,8 +73,7 @@ fn walk_short(
         (stateOf (now (places .entry)) (now (variables .entry))) (stateOf (now (places .exit)) (now (variables .exit))) r ⌝ }
 {
     let mut log = [0u16; 960];
-    let mut numbers = [0u16; 800];
-    let mut scratch = [0u16; 960];
+    let mut numbers = [0u16; 288];
     let mut roots = [0u16; 200];
     let mut nodes = [0u8; 9172];
     walk_function(
@@ -84,7 +83,6 @@ fn walk_short(
         addresses,
         &mut log[..],
         &mut numbers[..],
-        &mut scratch[..],
         &mut roots[..],
         &mut nodes[..],
         parameters,
@@ -107,8 +105,7 @@ fn walk_long(
         (stateOf (now (places .entry)) (now (variables .entry))) (stateOf (now (places .exit)) (now (variables .exit))) r ⌝ }
 {
     let mut log = [0u16; 7680];
-    let mut numbers = [0u16; 6176];
-    let mut scratch = [0u16; 7680];
+    let mut numbers = [0u16; 2080];
     let mut roots = [0u16; 1544];
     let mut nodes = [0u8; 37844];
     walk_function(
@@ -118,7 +115,6 @@ fn walk_long(
         addresses,
         &mut log[..],
         &mut numbers[..],
-        &mut scratch[..],
         &mut roots[..],
         &mut nodes[..],
         parameters,

@@ -13,7 +13,9 @@ use Rattle.definitions.specs.Original.{readerOf}
 use Rattle.definitions.specs.Ledger.{Content, plain, contentFor, honestContents, honestVariables}
 use Rattle.theory_laws.proofs.Written.{opening-count}
 use Rattle.file_accepted.specs.Context.{scopeIn}
-use Rattle.rewrite_events.specs.Events.{Events, variablesOf, bodyEvents, statementEvents}
+use Rattle.rewrite_events.specs.Events.{Events, variablesOf, bodyEvents}
+use Rattle.rewrite_events.specs.Ends.{simpleEvents}
+use Rattle.rewrite_events.proofs.Ends.{simple-variables}
 use Rattle.rewrite_events.proofs.Pieces.{body-made}
 use Rattle.rewrite_events.proofs.Statements.{statement-made}
 use Rattle.honest_values.specs.Values.{numbersAfter}
@@ -99,19 +101,22 @@ module _ (file : List ℕ) (functionStart : ℕ) (arguments : List ℕ) (caller 
 
   -- The variables of a statement that holds no other do not depend on its guard.
   field-variables : (f : ℕ) (e : Expression) (g : Guard) (i : ℕ)
-      → variablesOf (statementEvents (scopeIn file functionStart) (Statement.assignField f e) always i) ≡ (rewriteStatement (scopeIn file functionStart) (Statement.assignField f e) g i) .variables
+      → variablesOf (simpleEvents (scopeIn file functionStart) (Statement.assignField f e) always i) ≡ (rewriteStatement (scopeIn file functionStart) (Statement.assignField f e) g i) .variables
   unfolding rewriteStatement single
-  field-variables f e g i = statement-made (scopeIn file functionStart) (Statement.assignField f e) always i .variables
+  field-variables f e g i =
+      sym (simple-variables (scopeIn file functionStart) (Statement.assignField f e) always i refl) ∙ statement-made (scopeIn file functionStart) (Statement.assignField f e) always i .variables
 
   entry-variables : (f : ℕ) (key e : Expression) (g : Guard) (i : ℕ)
-      → variablesOf (statementEvents (scopeIn file functionStart) (Statement.assignEntry f key e) always i) ≡ (rewriteStatement (scopeIn file functionStart) (Statement.assignEntry f key e) g i) .variables
+      → variablesOf (simpleEvents (scopeIn file functionStart) (Statement.assignEntry f key e) always i) ≡ (rewriteStatement (scopeIn file functionStart) (Statement.assignEntry f key e) g i) .variables
   unfolding rewriteStatement single
-  entry-variables f key e g i = statement-made (scopeIn file functionStart) (Statement.assignEntry f key e) always i .variables
+  entry-variables f key e g i =
+      sym (simple-variables (scopeIn file functionStart) (Statement.assignEntry f key e) always i refl) ∙ statement-made (scopeIn file functionStart) (Statement.assignEntry f key e) always i .variables
 
   require-variables : (e : Expression) (g : Guard) (i : ℕ)
-      → variablesOf (statementEvents (scopeIn file functionStart) (Statement.require e) always i) ≡ (rewriteStatement (scopeIn file functionStart) (Statement.require e) g i) .variables
+      → variablesOf (simpleEvents (scopeIn file functionStart) (Statement.require e) always i) ≡ (rewriteStatement (scopeIn file functionStart) (Statement.require e) g i) .variables
   unfolding rewriteStatement single
-  require-variables e g i = statement-made (scopeIn file functionStart) (Statement.require e) always i .variables
+  require-variables e g i =
+      sym (simple-variables (scopeIn file functionStart) (Statement.require e) always i refl) ∙ statement-made (scopeIn file functionStart) (Statement.require e) always i .variables
 
   pub honest-count : (s : Statement) (live : Bool) (p : List ℕ) (g : Guard) (i : ℕ)
       → length (honestNumbers file functionStart arguments caller s live p i) ≡ length ((rewriteStatement (scopeIn file functionStart) s g i) .variables)

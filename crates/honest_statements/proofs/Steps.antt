@@ -12,7 +12,8 @@ use Rattle.definitions.specs.Original.{position, value, placesAfter}
 use Rattle.definitions.specs.Rewriting.{Variable, supplied, readFrom, guard, always}
 use Rattle.memory_buffer.specs.Buffer.{stored}
 use Rattle.file_accepted.specs.Context.{fieldsIn, scopeIn}
-use Rattle.rewrite_events.specs.Events.{Events, variablesOf, inTurn, placeEvents, bodyEvents, statementEvents}
+use Rattle.rewrite_events.specs.Events.{Events, variablesOf, inTurn, placeEvents, bodyEvents}
+use Rattle.rewrite_events.specs.Ends.{simpleEvents}
 use Rattle.honest_values.specs.Values.{valueOf, numbersAfter}
 use Rattle.honest_supplies.specs.Supplies.{suppliedNumber, Room, Wrote}
 use Rattle.honest_statements.specs.Honest.{Numbering, inOrder, branchNumbers, afterIf, numbersFor, isTaken, honestNumbers, branchesNumbers, SimpleKind, Space, Put, Honest, BranchHonest, BranchesHonest}
@@ -128,19 +129,19 @@ module _ (file : List ℕ) (functionStart : ℕ) (arguments : List ℕ) (caller 
     pub require-honest : (c : Expression) (out after : List ℕ) (i j : ℕ) → s ≡ Statement.require c
         → Wrote (suppliedNumber file arguments caller live numbers) out after i j (bodyEvents (scopeIn file functionStart) always c)
         → Honest file functionStart arguments caller live s numbers numbers out after i j
-    unfolding honestNumbers statementEvents
+    unfolding honestNumbers simpleEvents
     require-honest c out after i j e w = rw e (record { places = require-after live numbers c; slots = events-put file functionStart arguments caller _ live numbers out after i j w })
 
     pub require-room : (c : Expression) (out : List ℕ) (i : ℕ) → s ≡ Statement.require c
         → Space out i (honestNumbers file functionStart arguments caller s live numbers) → Room out i (bodyEvents (scopeIn file functionStart) always c)
-    unfolding honestNumbers statementEvents
+    unfolding honestNumbers simpleEvents
     require-room c out i e space = events-room file functionStart arguments caller (bodyEvents (scopeIn file functionStart) always c) live numbers out i (rw e at space)
 
     pub field-honest : (f : ℕ) (e : Expression) (numbers′ out after : List ℕ) (i j : ℕ) → s ≡ Statement.assignField f e
         → numbers′ ≡ cond live (set numbers (position (fieldsIn file) f 0) (valueOf file arguments caller numbers e)) numbers
         → Wrote (suppliedNumber file arguments caller live numbers) out after i j (placeEvents (scopeIn file functionStart) always (placeOwner ((fieldAt (fieldsIn file) f) .owner) none) e)
         → Honest file functionStart arguments caller live s numbers numbers′ out after i j
-    unfolding honestNumbers statementEvents
+    unfolding honestNumbers simpleEvents
     field-honest f e numbers′ out after i j h p w =
         rw h (record { places = p ∙ field-after live numbers f e; slots = events-put file functionStart arguments caller _ live numbers out after i j w })
 
@@ -148,22 +149,22 @@ module _ (file : List ℕ) (functionStart : ℕ) (arguments : List ℕ) (caller 
         → numbers′ ≡ cond live (set numbers (position (fieldsIn file) f (valueOf file arguments caller numbers key)) (valueOf file arguments caller numbers e)) numbers
         → Wrote (suppliedNumber file arguments caller live numbers) out after i j (inTurn (bodyEvents (scopeIn file functionStart) always key) (placeEvents (scopeIn file functionStart) always (placeOwner ((fieldAt (fieldsIn file) f) .owner) (nameOf (scopeIn file functionStart) key)) e))
         → Honest file functionStart arguments caller live s numbers numbers′ out after i j
-    unfolding honestNumbers statementEvents
+    unfolding honestNumbers simpleEvents
     entry-honest f key e numbers′ out after i j h p w =
         rw h (record { places = p ∙ entry-after live numbers f key e; slots = events-put file functionStart arguments caller _ live numbers out after i j w })
 
     pub field-room : (f : ℕ) (e : Expression) (out : List ℕ) (i : ℕ) → s ≡ Statement.assignField f e
         → Space out i (honestNumbers file functionStart arguments caller s live numbers) → Room out i (placeEvents (scopeIn file functionStart) always (placeOwner ((fieldAt (fieldsIn file) f) .owner) none) e)
-    unfolding honestNumbers statementEvents
+    unfolding honestNumbers simpleEvents
     field-room f e out i h space =
-        events-room file functionStart arguments caller (statementEvents (scopeIn file functionStart) (Statement.assignField f e) always) live numbers out i (rw h at space)
+        events-room file functionStart arguments caller (simpleEvents (scopeIn file functionStart) (Statement.assignField f e) always) live numbers out i (rw h at space)
 
     pub entry-room : (f : ℕ) (key e : Expression) (out : List ℕ) (i : ℕ) → s ≡ Statement.assignEntry f key e
         → Space out i (honestNumbers file functionStart arguments caller s live numbers)
         → Room out i (inTurn (bodyEvents (scopeIn file functionStart) always key) (placeEvents (scopeIn file functionStart) always (placeOwner ((fieldAt (fieldsIn file) f) .owner) (nameOf (scopeIn file functionStart) key)) e))
-    unfolding honestNumbers statementEvents
+    unfolding honestNumbers simpleEvents
     entry-room f key e out i h space =
-        events-room file functionStart arguments caller (statementEvents (scopeIn file functionStart) (Statement.assignEntry f key e) always) live numbers out i (rw h at space)
+        events-room file functionStart arguments caller (simpleEvents (scopeIn file functionStart) (Statement.assignEntry f key e) always) live numbers out i (rw h at space)
 
     -- Two statements in sequence.
     module _ (a b : Statement) (h : s ≡ Statement.sequence a b) (out : List ℕ) (i : ℕ) (space : Space out i (honestNumbers file functionStart arguments caller s live numbers)) where

@@ -12,7 +12,8 @@ use Rattle.definitions.specs.Ledger.{Content, plain, contentFor}
 use Rattle.theory_trees.specs.Trees.{statementIn}
 use Rattle.memory_buffer.specs.Buffer.{stored}
 use Rattle.file_accepted.specs.Context.{Context, nodesIn, scopeIn}
-use Rattle.rewrite_events.specs.Events.{Events, variablesOf, bodyEvents, statementEvents}
+use Rattle.rewrite_events.specs.Events.{Events, variablesOf, bodyEvents}
+use Rattle.rewrite_events.specs.Ends.{simpleEvents}
 use Rattle.honest_values.specs.Values.{valueOf, numbersAfter}
 use Rattle.honest_supplies.specs.Supplies.{suppliedNumber}
 
@@ -43,11 +44,11 @@ module _ (file : List ℕ) (functionStart : ℕ) (arguments : List ℕ) (caller 
   honestNumbers (Statement.sequence first second) live numbers =
       inOrder (honestNumbers first live numbers) (honestNumbers second live (afterIf live numbers first))
   honestNumbers (Statement.assignField f e) live numbers =
-      numbersFor (statementEvents (scopeIn file functionStart) (Statement.assignField f e) always) live numbers
+      numbersFor (simpleEvents (scopeIn file functionStart) (Statement.assignField f e) always) live numbers
   honestNumbers (Statement.assignEntry f key e) live numbers =
-      numbersFor (statementEvents (scopeIn file functionStart) (Statement.assignEntry f key e) always) live numbers
+      numbersFor (simpleEvents (scopeIn file functionStart) (Statement.assignEntry f key e) always) live numbers
   honestNumbers (Statement.require condition) live numbers =
-      numbersFor (statementEvents (scopeIn file functionStart) (Statement.require condition) always) live numbers
+      numbersFor (simpleEvents (scopeIn file functionStart) (Statement.require condition) always) live numbers
   honestNumbers (Statement.conditional condition then else) live numbers =
       inOrder (numbersFor (bodyEvents (scopeIn file functionStart) always condition) live numbers)
       (inOrder (branchNumbers (honestNumbers then (live && isTaken numbers condition) numbers))

@@ -11,7 +11,8 @@ use Rattle.definitions.specs.Rewriting.{Variable, supplied, readFrom, guard, va
 use Rattle.theory_laws.proofs.TruthValues.{and-left, and-right}
 use Rattle.theory_relations.specs.Acceptance.{constantsFit, constantsFitIn, FieldsFit}
 use Rattle.theory_typing.proofs.Faults.{entry-read-fits, operator-fits, negation-fits, reveal-fits, sequence-fits, assign-field-fits, assign-entry-fits, require-fits, conditional-fits}
-use Rattle.rewrite_events.specs.Events.{Event, claimedEvent, readEvent, variablesOf, variableCount, Events, noEvents, inTurn, supplyEvents, readEvents, bodyEvents, circuitEvents, placeEvents, branchEvents, statementEvents}
+use Rattle.rewrite_events.specs.Events.{Event, claimedEvent, readEvent, endEvent, variablesOf, variableCount, Events, noEvents, inTurn, supplyEvents, readEvents, bodyEvents, circuitEvents, placeEvents, ended, branchEvents, statementEvents}
+use Rattle.rewrite_events.specs.Ends.{simpleEvents}
 use Rattle.rewrite_events.proofs.Appended.{variables-append}
 
 module _ (scope : Scope) where
@@ -184,15 +185,15 @@ module _ (scope : Scope) where
 
         -- The statements that hold no other.
         pub assign-field-events : (f : ℕ) (e : Expression) → statementFaults scope linked (Statement.assignField f e) ≡ [] → constantsFitIn (Statement.assignField f e) ≡ true
-            → Fit (statementEvents scope (Statement.assignField f e) g)
-        unfolding statementEvents constantsFitIn
+            → Fit (simpleEvents scope (Statement.assignField f e) g)
+        unfolding simpleEvents constantsFitIn
         assign-field-events f e h c =
             placed-fits (placeOwner ((fieldAt (scope .fields) f) .owner) none) e (place-fits f none tt)
             (record { faultless = (assign-field-fits scope linked f e h) .valueFit .faultless; constants = c })
 
         pub assign-entry-events : (f : ℕ) (key e : Expression) → statementFaults scope linked (Statement.assignEntry f key e) ≡ [] → constantsFitIn (Statement.assignEntry f key e) ≡ true
-            → Fit (statementEvents scope (Statement.assignEntry f key e) g)
-        unfolding statementEvents constantsFitIn
+            → Fit (simpleEvents scope (Statement.assignEntry f key e) g)
+        unfolding simpleEvents constantsFitIn
         assign-entry-events f key e h c =
             let fits = assign-entry-fits scope linked f key e h in
             turn-fits _ _ (body-fits key (record { faultless = fits .keyFaults; constants = and-left (constantsFit key) (constantsFit e) c }))
@@ -200,8 +201,8 @@ module _ (scope : Scope) where
             (record { faultless = fits .valueFit .faultless; constants = and-right (constantsFit key) (constantsFit e) c }))
 
         pub require-events : (condition : Expression) → statementFaults scope linked (Statement.require condition) ≡ [] → constantsFitIn (Statement.require condition) ≡ true
-            → Fit (statementEvents scope (Statement.require condition) g)
-        unfolding statementEvents constantsFitIn
+            → Fit (simpleEvents scope (Statement.require condition) g)
+        unfolding simpleEvents constantsFitIn
         require-events condition h c = body-fits condition (record { faultless = (require-fits scope linked condition h) .faultless; constants = c })
 
         pub condition-events : (condition : Expression) (then else : Statement) → statementFaults scope linked (Statement.conditional condition then else) ≡ []
@@ -214,22 +215,26 @@ module _ (scope : Scope) where
               constants = and-left (constantsFit condition) (constantsFitIn then && constantsFitIn else) c;
             })
 
+    ended-owned : (linked : Links) (events : Events) (i : ℕ) → Fit linked events → EachOwned (variablesOf (ended events i))
+    unfolding ended variablesOf
+    ended-owned linked events i h = both-owned (events i) (endEvent (i + variableCount (events i)) ∷ []) (fit-owned linked events i h) tt
+
     -- All variables of a statement have owners that fit.
     pub statement-owned : (s : Statement) (linked : Links) (g : Guard) (i : ℕ) → statementFaults scope linked s ≡ [] → constantsFitIn s ≡ true
         → EachOwned (variablesOf (statementEvents scope s g i))
-    unfolding statementEvents constantsFitIn noEvents inTurn branchEvents variablesOf
-    statement-owned Statement.skip linked g i h c = tt
+    unfolding statementEvents simpleEvents constantsFitIn noEvents inTurn branchEvents variablesOf
+    statement-owned Statement.skip linked g i h c = ended-owned linked noEvents i (nothing-fits linked)
     statement-owned (Statement.sequence first second) linked g i h c =
         let fits = sequence-fits scope linked first second h in
         both-owned (statementEvents scope first g i) _ (statement-owned first linked g i (fits .firstFaults) (and-left (constantsFitIn first) (constantsFitIn second) c))
         (statement-owned second (linksAfter scope first linked) g _ (fits .secondFaults) (and-right (constantsFitIn first) (constantsFitIn second) c))
-    statement-owned (Statement.assignField f e) linked g i h c = fit-owned linked (statementEvents scope (Statement.assignField f e) g) i (assign-field-events linked g f e h c)
-    statement-owned (Statement.assignEntry f key e) linked g i h c = fit-owned linked (statementEvents scope (Statement.assignEntry f key e) g) i (assign-entry-events linked g f key e h c)
-    statement-owned (Statement.require condition) linked g i h c = fit-owned linked (statementEvents scope (Statement.require condition) g) i (require-events linked g condition h c)
+    statement-owned (Statement.assignField f e) linked g i h c = ended-owned linked (simpleEvents scope (Statement.assignField f e) g) i (assign-field-events linked g f e h c)
+    statement-owned (Statement.assignEntry f key e) linked g i h c = ended-owned linked (simpleEvents scope (Statement.assignEntry f key e) g) i (assign-entry-events linked g f key e h c)
+    statement-owned (Statement.require condition) linked g i h c = ended-owned linked (simpleEvents scope (Statement.require condition) g) i (require-events linked g condition h c)
     statement-owned (Statement.conditional condition then else) linked g i h c =
         let fits = conditional-fits scope linked condition then else h in
         let branches = and-right (constantsFit condition) (constantsFitIn then && constantsFitIn else) c in
-        both-owned (bodyEvents scope g condition i) _ (fit-owned linked (bodyEvents scope g condition) i (condition-events linked g condition then else h c))
+        both-owned (ended (bodyEvents scope g condition) i) _ (ended-owned linked (bodyEvents scope g condition) i (condition-events linked g condition then else h c))
         (both-owned (branchEvents (statementEvents scope then) _) _
         (refl, statement-owned then (linksOfCondition scope condition linked) _ _ (fits .thenFaults) (and-left (constantsFitIn then) (constantsFitIn else) branches))
         (refl, statement-owned else linked _ _ (fits .elseFaults) (and-right (constantsFitIn then) (constantsFitIn else) branches)))

@@ -1,14 +1,15 @@
 -- The events of expressions hold no end; those of a statement that holds no other have theirs last.
-use mathlib.Core.Path.{_≡_, refl}
+use mathlib.Core.Path.{_≡_, refl, ap, _∙_}
 use mathlib.Core.Bool.{Bool, true, false, false≢true, _&&_, cond}
-use mathlib.Core.List.{List, [], _∷_, _++_}
+use mathlib.Core.List.{List, [], _∷_, _++_, append-nil}
 use mathlib.Core.Option.{none}
 use Prim.Native.Nat.{ℕ, suc, _+_}
 use Rattle.definitions.specs.ContractFile.{meName, Owner, everyone, ownedBy, Expression, Statement, Scope, fieldAt, isDivision}
 use Rattle.definitions.specs.Owners.{isPublic, nameOf, placeOwner}
 use Rattle.definitions.specs.Rewriting.{Guard}
-use Rattle.rewrite_events.specs.Events.{Event, suppliedEvent, claimedEvent, readEvent, guardEvent, endEvent, variableCount, Events, noEvents, inTurn, supplyEvents, readEvents, bodyEvents, circuitEvents, placeEvents, ended, statementEvents}
+use Rattle.rewrite_events.specs.Events.{Event, suppliedEvent, claimedEvent, readEvent, guardEvent, endEvent, variablesOf, variableCount, Events, noEvents, inTurn, supplyEvents, readEvents, bodyEvents, circuitEvents, placeEvents, ended, statementEvents}
 use Rattle.rewrite_events.specs.Ends.{isSimple, simpleEvents, Unended}
+use Rattle.rewrite_events.proofs.Appended.{variables-append}
 
 pub simple-ended : (scope : Scope) (s : Statement) (g : Guard) → isSimple s ≡ true → statementEvents scope s g ≡ ended (simpleEvents scope s g)
 unfolding statementEvents simpleEvents
@@ -18,6 +19,12 @@ simple-ended scope (Statement.assignField f value) g h = refl
 simple-ended scope (Statement.assignEntry f key value) g h = refl
 simple-ended scope (Statement.require condition) g h = refl
 simple-ended scope (Statement.conditional condition then else) g h = absurd (false≢true h)
+
+pub simple-variables : (scope : Scope) (s : Statement) (g : Guard) (i : ℕ) → isSimple s ≡ true
+    → variablesOf (statementEvents scope s g i) ≡ variablesOf (simpleEvents scope s g i)
+unfolding ended variablesOf
+simple-variables scope s g i h =
+    ap (λ (x : Events). variablesOf (x i)) (simple-ended scope s g h) ∙ variables-append (simpleEvents scope s g i) _ ∙ append-nil _
 
 both-unended : (first second : List Event) → Unended first → Unended second → Unended (first ++ second)
 unfolding Unended

@@ -35,7 +35,7 @@ use Rattle.walk_function_nodes.proofs.Parts.{sizes-are, constraints-by-nodes}
 use Rattle.walk_function.specs.Walks.{LastReady, WalkReady}
 use Rattle.write_trees.proofs.Numbers.{constraint-numbers-length}
 
-module _ (file : List ℕ) (at : ℕ) (source : List ℕ) (log numbers scratch roots nodes : List ℕ) (ready : WalkReady file at source log numbers scratch roots nodes) where
+module _ (file : List ℕ) (at : ℕ) (source : List ℕ) (log numbers roots nodes : List ℕ) (ready : WalkReady file at source log numbers roots nodes) where
   context-here : Context file at source
   context-here = context-with file at source (ready .room .context) (ready .held)
 
@@ -56,7 +56,7 @@ module _ (file : List ℕ) (at : ℕ) (source : List ℕ) (log numbers scratch r
       entries-are : end .at / 5 ≡ length (eventsIn file at)
       entries-are = omega (arith, events-logged .next)
 
-      pub function-ready : FunctionReady file at source logAfter (end .at / 5) private numbers scratch roots nodes
+      pub function-ready : FunctionReady file at source logAfter (end .at / 5) private numbers roots nodes
       function-ready =
           record {
             constraints =
@@ -66,15 +66,17 @@ module _ (file : List ℕ) (at : ℕ) (source : List ℕ) (log numbers scratch r
                         decoded = ready .held;
                         room = ready .room;
                         privateIs = counted;
-                        numbers = events-logged .numbers;
-                        told = events-logged .entries;
-                        held = stored-holds log logAfter (events-logged .numbers) 0 (omega arith) (events-logged .held);
+                        held =
+                            record {
+                              numbers = events-logged .numbers;
+                              entries = events-logged .entries;
+                              holds = stored-holds log logAfter (events-logged .numbers) 0 (omega arith) (events-logged .held);
+                            };
                         count = entries-are;
                       };
-                  space = omega (arith, entries-are, ready .room .eventsByNodes, ready .numbersSpace);
+                  space = ready .numbersSpace;
                   bytes = omega (arith, ready .room .nodesByNodes, ready .nodesSpace);
                 };
-            scratchSpace = omega (arith, entries-are, ready .room .eventsByNodes, ready .scratchSpace);
             rootsSpace = omega (arith, entries-are, ready .room .eventsByNodes, ready .rootsSpace);
           }
 

@@ -17,11 +17,10 @@ pub record LastReady (nodes : List ℕ) (count : ℕ) (numbers : List ℕ) (cons
   pub fewFields : fieldCount file ≤ 64
 
 -- A function that can be written, and the memory that suffices for it by the file's nodes.
-pub record WalkReady (file : List ℕ) (functionStart : ℕ) (source : List ℕ) (log numbers scratch roots nodes : List ℕ) : Type 0 where
+pub record WalkReady (file : List ℕ) (functionStart : ℕ) (source : List ℕ) (log numbers roots nodes : List ℕ) : Type 0 where
   pub held : Source file source
   pub room : FunctionRoom file functionStart 0 0
   pub logSpace : 15 * nodeCount file ≤ length log
-  pub numbersSpace : 12 * nodeCount file + 32 ≤ length numbers
-  pub scratchSpace : 15 * nodeCount file ≤ length scratch
+  pub numbersSpace : 4 * nodeCount file + 32 ≤ length numbers
   pub rootsSpace : 3 * nodeCount file + 8 ≤ length roots
   pub nodesSpace : mostBytes file ≤ length nodes

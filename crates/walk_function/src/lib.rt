@@ -63,14 +63,13 @@ pub fn walk_function(
     addresses: &[u32],
     log: &mut [u16],
     numbers: &mut [u16],
-    scratch: &mut [u16],
     roots: &mut [u16],
     nodes: &mut [u8],
     parameters: &[u32],
     places: &mut [u32],
     variables: &mut [u32],
 ) -> bool
-    requires { ⌜ WalkReady (now file) «function_at» (now source) (now log) (now numbers) (now scratch) (now roots) (now nodes) ⌝ }
+    requires { ⌜ WalkReady (now file) «function_at» (now source) (now log) (now numbers) (now roots) (now nodes) ⌝ }
     ensures { λ r. ⌜ Ran (walkCompletes (addressFrom (now (addresses .entry))) (fieldsIn (now (file .entry)))
         (contentsOf (now (parameters .entry))) ((writtenIn (now (file .entry)) «function_at») .constraints)
         (stateOf (now (places .entry)) (now (variables .entry))) ((writtenIn (now (file .entry)) «function_at») .body))
@@ -90,7 +89,6 @@ pub fn walk_function(
         entries,
         private,
         numbers,
-        scratch,
         roots,
         nodes,
     );

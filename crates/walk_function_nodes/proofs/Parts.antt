@@ -15,7 +15,7 @@ use Rattle.memory_buffer.proofs.Storing.{stored-length}
 use Rattle.file_accepted.specs.Context.{Context, nodesIn, fieldsIn, parametersIn, scopeIn, Source}
 use Rattle.file_accepted.specs.Functions.{rootAt}
 use Rattle.write_nodes.proofs.TreeNodes.{run-then}
-use Rattle.rewrite_events.specs.Events.{Event, suppliedEvent, claimedEvent, readEvent, guardEvent, endEvent, constraintsOf, statementEvents}
+use Rattle.rewrite_events.specs.Events.{constraintsOf, statementEvents}
 use Rattle.rewrite_events.proofs.Functions.{function-constraints}
 use Rattle.write_parameters.specs.Parameters.{privateCount}
 use Rattle.write_function_room.specs.Functions.{functionIn, writtenIn, privateIn, eventsIn, FunctionRoom}
@@ -40,15 +40,6 @@ private-few k (p ∷ ps) = let h = private-few (suc k) ps in either (p .private)
         → length (cond t (k ∷ privateParameters (suc k) ps) (privateParameters (suc k) ps)) ≤ suc (length ps)
     either true h = omega arith
     either false h = omega arith
-
-constraints-few : (scope : Scope) (events : List Event) → length (constraintsOf scope events) ≤ length events
-unfolding constraintsOf
-constraints-few scope [] = omega arith
-constraints-few scope (suppliedEvent i o e ∷ events) = let h = constraints-few scope events in omega arith
-constraints-few scope (claimedEvent g i o e ∷ events) = let h = constraints-few scope events in omega arith
-constraints-few scope (readEvent s j o e ∷ events) = let h = constraints-few scope events in omega arith
-constraints-few scope (guardEvent i ∷ events) = let h = constraints-few scope events in omega arith
-constraints-few scope (endEvent i ∷ events) = let h = constraints-few scope events in omega arith
 
 module _ (file : List ℕ) (at : ℕ) where
   abbrev written : WrittenFunction
@@ -89,11 +80,11 @@ module _ (file : List ℕ) (at : ℕ) where
   pub few-private : FunctionRoom file at 0 0 → privateIn file at ≤ 8
   few-private room = omega (arith, private-few 0 (parametersIn file at), private-is, parameters-count file at, room .context .fewParameters)
 
-  pub constraints-bound : FunctionRoom file at 0 0 → length (written .constraints) ≤ 1544
-  constraints-bound room = omega (arith, count-is, few-private room, constraints-few (scopeIn file at) (eventsIn file at), room .events)
+  pub constraints-by-nodes : FunctionRoom file at 0 0 → length (written .constraints) ≤ nodeCount file + 8
+  constraints-by-nodes room = omega (arith, count-is, few-private room, room .claims)
 
-  pub constraints-by-nodes : FunctionRoom file at 0 0 → length (written .constraints) ≤ 3 * nodeCount file + 8
-  constraints-by-nodes room = omega (arith, count-is, few-private room, constraints-few (scopeIn file at) (eventsIn file at), room .eventsByNodes)
+  pub constraints-bound : FunctionRoom file at 0 0 → length (written .constraints) ≤ 520
+  constraints-bound room = omega (arith, constraints-by-nodes room, room .context .fewNodes)
 
   pub room-context : (source : List ℕ) → Source file source → FunctionRoom file at 0 0 → Context file at source
   room-context source held room = context-with file at source (room .context) held
@@ -101,23 +92,23 @@ module _ (file : List ℕ) (at : ℕ) where
   module _ (source : List ℕ) (log : List ℕ) (entries private : ℕ) (logged : FunctionLogged file at source log entries private) where
     claims-logged-are : (base : ℕ) → foursOf base (claimsIn file at log 0 entries) ≡ constraintNumbers base claims
     claims-logged-are base =
-        rw (logged .count) (claims-logged (scopeIn file at) (nodesIn file) log (eventsIn file at) (logged .numbers) (logged .told) 0 (logged .held) base)
+        rw (logged .count) (claims-logged (scopeIn file at) (nodesIn file) log (eventsIn file at) (logged .held .numbers) (logged .held .entries) 0 (logged .held .holds) base)
 
     trees-logged-are : treesOf (claimsIn file at log 0 entries) ≡ circuitTrees written
     trees-logged-are =
-        rw (logged .count) (circuits-logged (scopeIn file at) (nodesIn file) log (eventsIn file at) (logged .numbers) (logged .told) 0 (logged .held)) ∙ sym trees-are
+        rw (logged .count) (circuits-logged (scopeIn file at) (nodesIn file) log (eventsIn file at) (logged .held .numbers) (logged .held .entries) 0 (logged .held .holds)) ∙ sym trees-are
 
     count-logged-is : length (claimsIn file at log 0 entries) ≡ length claims
-    count-logged-is = rw (logged .count) (count-logged (scopeIn file at) (nodesIn file) log (eventsIn file at) (logged .numbers) (logged .told) 0 (logged .held))
+    count-logged-is = rw (logged .count) (count-logged (scopeIn file at) (nodesIn file) log (eventsIn file at) (logged .held .numbers) (logged .held .entries) 0 (logged .held .holds))
 
     pub function-claimable : Claimable file at log 0 entries
     function-claimable =
         let body = statementIn (nodesIn file) (rootAt file at) in
         let few = claims-few (scopeIn file at) (statementEvents (scopeIn file at) body always) (privateIn file at) (statement-within (scopeIn file at) body always)
         (omega (arith, logged .room .variables)) in
-        rw (logged .count) (claimable file at (nodes-counted file) log (eventsIn file at) (logged .numbers) (logged .told) 0 (logged .held) few)
+        rw (logged .count) (claimable file at (nodes-counted file) log (eventsIn file at) (logged .held .numbers) (logged .held .entries) 0 (logged .held .holds) few)
 
-    pub private-space : (numbers : List ℕ) → 4 * (entries + 8) ≤ length numbers → (private ≤ 8) × (4 * private ≤ length numbers)
+    pub private-space : (numbers : List ℕ) → 4 * nodeCount file + 32 ≤ length numbers → (private ≤ 8) × (4 * private ≤ length numbers)
     private-space numbers space =
         let few = few-private (logged .room) in
         (omega (arith, logged .privateIs), omega (arith, logged .privateIs))
@@ -143,8 +134,7 @@ module _ (file : List ℕ) (at : ℕ) where
                   opened-length,
                   ready .space,
                   count-logged-is,
-                  constraints-few (scopeIn file at) (eventsIn file at),
-                  logged .count,
+                  logged .room .claims,
                   private-space numbers (ready .space) .0,
                 );
           }

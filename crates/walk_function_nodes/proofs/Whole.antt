@@ -35,8 +35,8 @@ function-bytes w =
     (ap (flatMap nodeBytes) split ∙ nodes-append (numberedAll 0 circuits) (numberedAll (sizes circuits) (t ∷ []))
     ∙ ap (λ (l : List ℕ). flatMap nodeBytes (numberedAll 0 circuits) ++ l) (one-tree (sizes circuits) t))
 
-module _ (file : List ℕ) (at : ℕ) (source : List ℕ) (log : List ℕ) (entries private : ℕ) (numbers scratch roots out : List ℕ)
-    (ready : FunctionReady file at source log entries private numbers scratch roots out) where
+module _ (file : List ℕ) (at : ℕ) (source : List ℕ) (log : List ℕ) (entries private : ℕ) (numbers roots out : List ℕ)
+    (ready : FunctionReady file at source log entries private numbers roots out) where
   abbrev written : WrittenFunction
   written = writtenIn file at
 
@@ -50,18 +50,18 @@ module _ (file : List ℕ) (at : ℕ) (source : List ℕ) (log : List ℕ) (entr
         ∙ stored-length out 0 (flatMap nodeBytes (numberedAll 0 (circuitTrees written)))
         (omega (arith, circuit-bytes written, sizes-are file at, ready .constraints .bytes))
 
-    pub circuits-few : (8 * r .nodes ≤ 49152) × (private + r .count ≤ 1544)
+    pub circuits-few : (8 * r .nodes ≤ 49152) × (private + r .count ≤ 520)
     circuits-few = (omega (arith, put .nodes, sizes-are file at, room .nodes), omega (arith, put .count, constraints-bound file at room))
 
     pub body-ready : (verified : Bool) → verified ≡ ltb 0 (private + r .count)
-        → BodyReady file at source private verified scratch roots between (8 * r .nodes) (r .nodes)
+        → BodyReady file at source private verified log roots between (8 * r .nodes) (r .nodes)
     body-ready verified h =
         record {
           context = room-context file at source (ready .constraints .logged .decoded) room;
           root = room .root;
           privateIs = ready .constraints .logged .privateIs;
           verifies = h ∙ ap (ltb 0) (put .count);
-          space = omega (arith, ready .scratchSpace, ready .constraints .logged .count);
+          logged = ready .constraints .logged .held;
           steps = omega (arith, ready .rootsSpace, ready .constraints .logged .count);
           few = omega (arith, room .variables);
           room =

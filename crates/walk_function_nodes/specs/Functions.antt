@@ -4,12 +4,11 @@ use mathlib.Core.List.{List, [], _++_}
 use Prim.Native.Nat.{ℕ, zero, suc, _+_, _*_, _≤_}
 use lib.ListN.{length}
 use Rattle.definitions.specs.Basics.{flatMap}
-use Rattle.definitions.specs.ContractFile.{nodesAt}
+use Rattle.definitions.specs.ContractFile.{nodeCount}
 use Rattle.definitions.specs.Rewriting.{WrittenFunction, Tree, sizes, numberedAll, nodeBytes, claimTrees, functionTrees}
 use Rattle.memory_buffer.specs.Buffer.{stored}
 use Rattle.file_accepted.specs.Context.{nodesIn, Source}
-use Rattle.rewrite_log.specs.Entries.{Entries}
-use Rattle.write_logged_steps.specs.Held.{Holds}
+use Rattle.write_logged_steps.specs.Held.{HoldsEvents}
 use Rattle.write_function_room.specs.Functions.{writtenIn, privateIn, eventsIn, FunctionRoom}
 use Rattle.write_circuits.specs.declared.Circuits.{Circuits}
 use Rattle.write_circuits.specs.Circuits.{four}
@@ -30,15 +29,13 @@ pub record FunctionLogged (file : List ℕ) (functionStart : ℕ) (source : List
   pub decoded : Source file source
   pub room : FunctionRoom file functionStart 0 0
   pub privateIs : private ≡ privateIn file functionStart
-  pub numbers : List ℕ
-  pub told : Entries (nodesIn file) (eventsIn file functionStart) numbers
-  pub held : Holds log numbers 0
+  pub held : HoldsEvents (nodesIn file) log 0 (eventsIn file functionStart)
   pub count : entries ≡ length (eventsIn file functionStart)
 
 pub record ConstraintsReady (file : List ℕ) (functionStart : ℕ) (source : List ℕ) (log : List ℕ) (entries private : ℕ)
     (numbers out : List ℕ) : Type 0 where
   pub logged : FunctionLogged file functionStart source log entries private
-  pub space : 4 * (entries + 8) ≤ length numbers
+  pub space : 4 * nodeCount file + 32 ≤ length numbers
   pub bytes : 8 * sizes (functionTrees (writtenIn file functionStart)) ≤ length out
 
 -- The constraints' numbers are stored in one buffer and their circuits' nodes in another, and they are so many behind the private ones.
@@ -49,9 +46,8 @@ pub record ConstraintsPut (w : WrittenFunction) (private : ℕ) (numbers numbers
   pub count : private + r .count ≡ length (w .constraints)
 
 pub record FunctionReady (file : List ℕ) (functionStart : ℕ) (source : List ℕ) (log : List ℕ) (entries private : ℕ)
-    (numbers scratch roots out : List ℕ) : Type 0 where
+    (numbers roots out : List ℕ) : Type 0 where
   pub constraints : ConstraintsReady file functionStart source log entries private numbers out
-  pub scratchSpace : 5 * entries ≤ length scratch
   pub rootsSpace : entries + 8 ≤ length roots
 
 -- A function's nodes, numbered from 0, and its constraints' numbers, and how many they are.

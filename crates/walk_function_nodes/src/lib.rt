@@ -60,7 +60,7 @@ fn put_constraints(
     )
 }
 
-// The nodes of the function that begins at a place, and its constraints; `scratch` and `roots` are scratch space.
+// The nodes of the function that begins at a place, and its constraints; `roots` is scratch space.
 pub fn put_function(
     file: &[u8],
     function_at: usize,
@@ -69,12 +69,11 @@ pub fn put_function(
     entries: usize,
     private: usize,
     numbers: &mut [u16],
-    scratch: &mut [u16],
     roots: &mut [u16],
     out: &mut [u8],
 ) -> Extent
     requires { ⌜ FunctionReady (now file) «function_at» (now source) (now log) entries private
-        (now numbers) (now scratch) (now roots) (now out) ⌝ }
+        (now numbers) (now roots) (now out) ⌝ }
     ensures { λ r. ⌜ FunctionPut (writtenIn (now (file .entry)) «function_at») (now (numbers .entry)) (now (numbers .exit))
         (now (out .entry)) (now (out .exit)) r ⌝ }
 {
@@ -96,7 +95,7 @@ pub fn put_function(
         source,
         private,
         0 < count,
-        scratch,
+        log,
         roots,
         out,
         8 * nodes,

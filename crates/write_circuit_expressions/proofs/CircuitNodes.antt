@@ -9,7 +9,7 @@ use Rattle.theory_trees.specs.Trees.{expressionIn}
 use Rattle.file_accepted.specs.Context.{Context, nodesIn, scopeIn}
 use Rattle.file_accepted.proofs.Nodes.{constant-is, field-is, entry-is, parameter-is, operator-is, negation-is, reveal-is, other-is, Unlisted}
 use Rattle.write_variable_counts.specs.Counts.{circuitCount}
-use Rattle.write_variable_counts.proofs.Steps.{circuit-entry, circuit-division, circuit-operator, circuit-negation, circuit-reveal}
+use Rattle.write_variable_counts.proofs.Steps.{circuit-constant, circuit-me, circuit-field, circuit-parameter, circuit-entry, circuit-division, circuit-operator, circuit-negation, circuit-reveal}
 use Rattle.write_reads.specs.Forms.{circuitForm, readKind}
 use Rattle.write_circuit_expressions.proofs.Circuits.{circuit-of-constant, circuit-of-me, circuit-of-field, circuit-of-parameter, circuit-of-entry, circuit-of-division, circuit-of-operator, circuit-of-negation, circuit-of-reveal}
 use Rattle.write_body_expressions.proofs.Listed.{operator-kept, constant-kept}
@@ -36,6 +36,18 @@ module _ (file : List ℕ) (functionStart : ℕ) (source : List ℕ) (context : 
 
   pub other-circuit : (i : ℕ) → Unlisted (r .kind) → circuitAt file functionStart n i ≡ leaf 2 0 0 0
   other-circuit i u = circuit-of-me _ _ i (other-is file functionStart source context n inside r same u)
+
+  pub constant-variables : r .kind ≡ 1 → 0 ≡ circuitCountAt file functionStart n
+  constant-variables e = circuit-constant _ _ _ _ (constant-is file functionStart source context n inside r same e)
+
+  pub field-variables : r .kind ≡ 3 → 1 ≡ circuitCountAt file functionStart n
+  field-variables e = circuit-field _ _ _ (field-is file functionStart source context n inside r same e)
+
+  pub parameter-variables : r .kind ≡ 5 → 1 ≡ circuitCountAt file functionStart n
+  parameter-variables e = circuit-parameter _ _ _ (parameter-is file functionStart source context n inside r same e)
+
+  pub other-variables : Unlisted (r .kind) → 0 ≡ circuitCountAt file functionStart n
+  other-variables u = circuit-me _ _ (other-is file functionStart source context n inside r same u)
 
   pub entry-variables : r .kind ≡ 4 → countAt file functionStart (r .first) + 1 ≡ circuitCountAt file functionStart n
   entry-variables e = circuit-entry _ _ _ _ (entry-is file functionStart source context n inside r same e)
@@ -72,13 +84,13 @@ module _ (file : List ℕ) (functionStart : ℕ) (source : List ℕ) (context : 
         → countAt file functionStart (r .first) + countAt file functionStart (r .second) + 1 ≡ circuitCountAt file functionStart n
     division-variables h e = circuit-division _ _ _ _ _ (operator-is file functionStart source context n inside r same e) (sym found ∙ h)
 
-    pub operator-circuit : flag ≡ false → (i : ℕ) → r .kind ≡ 6 → (more : ℕ) → more ≡ circuitCountAt file functionStart (r .first)
-        → circuitAt file functionStart n i ≡ twoChildren 6 (r .arg) (circuitAt file functionStart (r .first) i) (circuitAt file functionStart (r .second) (i + more))
-    operator-circuit h i e more counted =
+    pub operator-circuit : flag ≡ false → (i : ℕ) → r .kind ≡ 6 → (next : ℕ) → next ≡ i + circuitCountAt file functionStart (r .first)
+        → circuitAt file functionStart n i ≡ twoChildren 6 (r .arg) (circuitAt file functionStart (r .first) i) (circuitAt file functionStart (r .second) next)
+    operator-circuit h i e next counted =
         circuit-of-operator _ _ i _ _ _ (operator-is file functionStart source context n inside r same e) (sym found ∙ h)
         ∙ ap (λ (code : ℕ). twoChildren 6 code (circuitAt file functionStart (r .first) i) (circuitAt file functionStart (r .second) (i + circuitCountAt file functionStart (r .first))))
         (operator-kept file functionStart source context n inside r same e)
-        ∙ ap (λ (j : ℕ). twoChildren 6 (r .arg) (circuitAt file functionStart (r .first) i) (circuitAt file functionStart (r .second) (i + j))) (sym counted)
+        ∙ ap (λ (j : ℕ). twoChildren 6 (r .arg) (circuitAt file functionStart (r .first) i) (circuitAt file functionStart (r .second) j)) (sym counted)
 
     pub operator-variables : flag ≡ false → r .kind ≡ 6
         → circuitCountAt file functionStart (r .first) + circuitCountAt file functionStart (r .second) ≡ circuitCountAt file functionStart n

@@ -11,25 +11,67 @@ use file_kinds::OPERATOR;
 use file_kinds::OPERATOR_BYTE;
 use file_kinds::PARAMETER;
 use file_kinds::REVEAL;
-use file_kinds::VARIABLE_BYTE;
 use rewrite_owners::is_public;
 use write_nodes::put_above_one;
 use write_nodes::put_above_two;
 use write_nodes::put_leaf;
 use write_reads::put_read;
 use write_variable_counts::body_count;
-use write_variable_counts::circuit_count;
 use write_variable_counts::is_public_division;
 ghost use mathlib.Core.Path.{_≡_};
-ghost use Prim.Native.Nat.{_+_, _<_, _≤_};
-ghost use Rattle.definitions.specs.ContractFile.{nodeCount, node};
+ghost use Prim.Native.Nat.{ℕ, _+_, _<_, _≤_};
+ghost use lib.ListN.{length};
+ghost use Rattle.definitions.specs.ContractFile.{nodeCount};
+ghost use Rattle.definitions.specs.Rewriting.{leaf};
 ghost use Rattle.theory_trees.specs.Trees.{expressionIn};
 ghost use Rattle.file_accepted.specs.Context.{Context, nodesIn, scopeIn};
 ghost use Rattle.write_nodes.specs.Numbering.{Room, Numbered};
 ghost use Rattle.write_variable_counts.specs.Counts.{circuitCount};
-ghost use Rattle.write_reads.specs.Forms.{circuitForm, kindAt};
+ghost use Rattle.write_reads.specs.Forms.{circuitForm, readKind, kindAt};
+ghost use Rattle.write_circuit_expressions.specs.Forms.{FormWritten};
 
-// The circuit's form of node n, whose first variable is number i; the answer is how many nodes it has.
+// How many nodes a form has, and the number of the next variable.
+pub struct FormExtent {
+    pub nodes: usize,
+    pub next: usize,
+}
+
+// A leaf that makes no variable, so that number i is still the next one's.
+fn put_plain(
+    kind: u8,
+    arg: u8,
+    first: usize,
+    second: usize,
+    i: usize,
+    out: &mut [u8],
+    at: usize,
+) -> FormExtent
+    requires { ⌜ at + 8 ≤ length (now out) ⌝ }
+    ensures { λ r. ⌜ ((base : ℕ) → Numbered (now (out .entry)) (now (out .exit)) at base (leaf kind arg first second) (r .nodes))
+        × (r .next ≡ i) ⌝ }
+{
+    let nodes = put_leaf(kind, arg, first, second, out, at);
+    FormExtent {
+        nodes: nodes,
+        next: i,
+    }
+}
+
+// A form that is a variable, the last one that it makes, so that the number behind it is the next one's.
+fn put_variable(public: bool, variable: usize, out: &mut [u8], at: usize) -> FormExtent
+    requires { ⌜ (variable + 1 ≤ 65535) × (at + 8 ≤ length (now out)) ⌝ }
+    ensures { λ r. ⌜ ((base : ℕ) → Numbered (now (out .entry)) (now (out .exit)) at base (leaf (readKind public) 0 variable 0) (r .nodes))
+        × (r .next ≡ variable + 1) ⌝ }
+{
+    let nodes = put_read(public, variable, out, at);
+    FormExtent {
+        nodes: nodes,
+        next: variable + 1,
+    }
+}
+
+// The circuit's form of node n, whose first variable is number i. The answer has the number of the next one, with which
+// an operator begins its right operand: it need not count the variables of the left one.
 pub fn write_circuit_form(
     file: &[u8],
     function_at: usize,
@@ -39,32 +81,35 @@ pub fn write_circuit_form(
     out: &mut [u8],
     at: usize,
     base: usize,
-) -> usize
+) -> FormExtent
     requires { ⌜ (n < nodeCount (now file))
         × ((Context (now file) «function_at» (now source))
         × ((i + circuitCount (scopeIn (now file) «function_at») (expressionIn (nodesIn (now file)) n) ≤ 65535)
         × (Room (now out) at base (circuitForm (scopeIn (now file) «function_at») (expressionIn (nodesIn (now file)) n) i)))) ⌝ }
-    ensures { λ r. ⌜ Numbered (now (out .entry)) (now (out .exit)) at base
-        (circuitForm (scopeIn (now (file .entry)) «function_at») (expressionIn (nodesIn (now (file .entry))) n) i) r ⌝ }
+    ensures { λ r. ⌜ FormWritten (now (file .entry)) «function_at» n i (now (out .entry)) (now (out .exit)) at base r ⌝ }
 {
     let node = node_at(source, n);
     let kind = node.kind;
     let arg = node.arg as u8;
     match kind {
-        CONSTANT => put_leaf(CONSTANT_BYTE, arg, node.first, node.second, out, at),
-        FIELD => put_read(is_public(file, function_at, source, n), i, out, at),
+        CONSTANT => put_plain(CONSTANT_BYTE, arg, node.first, node.second, i, out, at),
+        FIELD => put_variable(is_public(file, function_at, source, n), i, out, at),
         ENTRY => {
             let j = i + body_count(file, function_at, source, node.first);
-            put_read(is_public(file, function_at, source, n), j, out, at)
+            put_variable(is_public(file, function_at, source, n), j, out, at)
         }
-        PARAMETER => put_read(is_public(file, function_at, source, n), i, out, at),
+        PARAMETER => put_variable(is_public(file, function_at, source, n), i, out, at),
         OPERATOR => write_circuit_operator(file, function_at, source, n, i, out, at, base),
         NOT => {
             let part = write_circuit_form(file, function_at, source, node.first, i, out, at, base);
-            put_above_one(NOT_BYTE, 0, part, out, at, base)
+            let nodes = put_above_one(NOT_BYTE, 0, part.nodes, out, at, base);
+            FormExtent {
+                nodes: nodes,
+                next: part.next,
+            }
         }
         REVEAL => write_circuit_form(file, function_at, source, node.first, i, out, at, base),
-        _ => put_leaf(ME_BYTE, 0, 0, 0, out, at),
+        _ => put_plain(ME_BYTE, 0, 0, 0, i, out, at),
     }
 }
 
@@ -78,27 +123,30 @@ fn write_circuit_operator(
     out: &mut [u8],
     at: usize,
     base: usize,
-) -> usize
+) -> FormExtent
     requires { ⌜ (kindAt (now source) n ≡ 6)
         × ((n < nodeCount (now file))
         × ((Context (now file) «function_at» (now source))
         × ((i + circuitCount (scopeIn (now file) «function_at») (expressionIn (nodesIn (now file)) n) ≤ 65535)
         × (Room (now out) at base (circuitForm (scopeIn (now file) «function_at») (expressionIn (nodesIn (now file)) n) i))))) ⌝ }
-    ensures { λ r. ⌜ Numbered (now (out .entry)) (now (out .exit)) at base
-        (circuitForm (scopeIn (now (file .entry)) «function_at») (expressionIn (nodesIn (now (file .entry))) n) i) r ⌝ }
+    ensures { λ r. ⌜ FormWritten (now (file .entry)) «function_at» n i (now (out .entry)) (now (out .exit)) at base r ⌝ }
 {
     let node = node_at(source, n);
     let arg = node.arg as u8;
     if is_public_division(file, function_at, source, n, node.arg) {
         let j = i + body_count(file, function_at, source, node.first);
         let k = j + body_count(file, function_at, source, node.second);
-        put_leaf(VARIABLE_BYTE, 0, k, 0, out, at)
+        put_variable(true, k, out, at)
     } else {
-        let j = i + circuit_count(file, function_at, source, node.first);
         let left = write_circuit_form(file, function_at, source, node.first, i, out, at, base);
-        let a = at + 8 * left;
-        let b = base + left;
+        let a = at + 8 * left.nodes;
+        let b = base + left.nodes;
+        let j = left.next;
         let right = write_circuit_form(file, function_at, source, node.second, j, out, a, b);
-        put_above_two(OPERATOR_BYTE, arg, left, right, out, at, base)
+        let nodes = put_above_two(OPERATOR_BYTE, arg, left.nodes, right.nodes, out, at, base);
+        FormExtent {
+            nodes: nodes,
+            next: right.next,
+        }
     }
 }

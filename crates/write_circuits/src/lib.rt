@@ -46,7 +46,8 @@ fn put_circuit(
 {
     let first = log[from + 1] as usize + 1;
     let n = log[from + 3] as usize;
-    write_circuit_form(file, function_at, source, n, first, out, at, base)
+    let form = write_circuit_form(file, function_at, source, n, first, out, at, base);
+    form.nodes
 }
 
 // The numbers of one claim, whose circuit has this root.

@@ -21,7 +21,6 @@ ghost use Rattle.write_output.specs.Answers.{Promised};
 fn write_in(
     file: &[u8],
     log: &mut [u16],
-    scratch: &mut [u16],
     roots: &mut [u16],
     numbers: &mut [u16],
     claims: &mut [u8],
@@ -30,11 +29,11 @@ fn write_in(
     out: &mut [u8],
 ) -> Answer
     requires { ⌜ (Ready (now file) (now headings) (now nodes))
-        × (Scratch (now file) (now log) (now scratch) (now roots) (now numbers) (now claims)) ⌝ }
+        × (Scratch (now file) (now log) (now roots) (now numbers) (now claims)) ⌝ }
     ensures { λ r. ⌜ Promised (now (file .entry)) (now (out .entry)) (now (out .exit)) (r .number) (r .length)
         (r .counts .crossings) ⌝ }
 {
-    let parts = write_parts(file, log, scratch, roots, numbers, claims, headings, nodes);
+    let parts = write_parts(file, log, roots, numbers, claims, headings, nodes);
     let end = parts.extent.end;
     let count = parts.extent.nodes;
     let bytes = 8 * count;
@@ -48,16 +47,14 @@ fn write_short(file: &[u8], out: &mut [u8]) -> Answer
         (r .counts .crossings) ⌝ }
 {
     let mut log = [0u16; 960];
-    let mut scratch = [0u16; 960];
     let mut roots = [0u16; 200];
-    let mut numbers = [0u16; 768];
-    let mut claims = [0u8; 1152];
-    let mut headings = [0u8; 2898];
+    let mut numbers = [0u16; 256];
+    let mut claims = [0u8; 384];
+    let mut headings = [0u8; 2450];
     let mut nodes = [0u8; 9172];
     write_in(
         file,
         &mut log[..],
-        &mut scratch[..],
         &mut roots[..],
         &mut numbers[..],
         &mut claims[..],
@@ -73,16 +70,14 @@ fn write_long(file: &[u8], out: &mut [u8]) -> Answer
         (r .counts .crossings) ⌝ }
 {
     let mut log = [0u16; 7680];
-    let mut scratch = [0u16; 7680];
     let mut roots = [0u16; 1544];
-    let mut numbers = [0u16; 6144];
-    let mut claims = [0u8; 9216];
-    let mut headings = [0u8; 10962];
+    let mut numbers = [0u16; 2048];
+    let mut claims = [0u8; 3072];
+    let mut headings = [0u8; 7378];
     let mut nodes = [0u8; 37844];
     write_in(
         file,
         &mut log[..],
-        &mut scratch[..],
         &mut roots[..],
         &mut numbers[..],
         &mut claims[..],

@@ -1,31 +1,22 @@
--- The headings alone: 97 bytes for a function, and 18 for each node of its body.
+-- The headings alone: 97 bytes for a function, and 11 for each node of its body.
 use mathlib.Core.Path.{ap}
 use mathlib.Core.List.{List, [], _∷_, map}
 use Prim.Native.Nat.{ℕ, _+_, _*_, _≤_}
 use native.Mathlib.Omega.{arith}
 use lib.ListN.{length, length-append}
-use Rattle.definitions.specs.ContractFile.{Field, Function, Scope}
+use Rattle.definitions.specs.ContractFile.{Field, Function}
 use Rattle.definitions.specs.Rewriting.{Constraint, Variable, always, heldUnder, privateParameters, rewriteFunction, sizes, functionTrees, functionBytes, functionsBytes, functionsWritten}
 use Rattle.theory_trees.specs.Sizes.{statementSize}
-use Rattle.rewrite_events.specs.Events.{Event, suppliedEvent, claimedEvent, readEvent, guardEvent, endEvent, variablesOf, constraintsOf, variableCount}
+use Rattle.rewrite_events.specs.Events.{variablesOf, constraintsOf}
 use Rattle.rewrite_events.proofs.Functions.{opening, functionScope, functionEvents, function-variables, function-constraints}
-use Rattle.rewrite_events.proofs.Lengths.{statement-length}
 use Rattle.write_room.specs.Sizes.{bodiesSize, fewParameters}
 use Rattle.write_room.proofs.Functions.{heading-length, openings-variables, openings-constraints, private-length}
-
--- An event makes a variable or a constraint at most.
-each-makes-one : (scope : Scope) (events : List Event) → variableCount events + length (constraintsOf scope events) ≤ length events
-unfolding variablesOf constraintsOf
-each-makes-one scope [] = omega arith
-each-makes-one scope (suppliedEvent i o e ∷ events) = omega (arith, each-makes-one scope events)
-each-makes-one scope (claimedEvent g i o e ∷ events) = omega (arith, each-makes-one scope events)
-each-makes-one scope (readEvent s j o e ∷ events) = omega (arith, each-makes-one scope events)
-each-makes-one scope (guardEvent i ∷ events) = omega (arith, each-makes-one scope events)
-each-makes-one scope (endEvent i ∷ events) = omega (arith, each-makes-one scope events)
+use Rattle.write_function_room.proofs.Sparse.{variables-sparse}
+use Rattle.write_function_room.proofs.Claims.{claims-few}
 
 module _ (fields : List Field) where
   pub function-heading : (n : ℕ) (g : Function) → length (g .parameters) ≤ 8
-      → length (functionBytes n (rewriteFunction fields g)) ≤ 97 + 18 * statementSize (g .body)
+      → length (functionBytes n (rewriteFunction fields g)) ≤ 97 + 11 * statementSize (g .body)
   unfolding rewriteFunction
   function-heading n g few =
       let w = rewriteFunction fields g in
@@ -41,12 +32,12 @@ module _ (fields : List Field) where
         openings-variables ks 0,
         openings-constraints ks 0,
         private-length 0 (g .parameters),
-        each-makes-one (functionScope fields g) events,
-        statement-length (functionScope fields g) (g .body) always (length (opening fields g .variables)),
+        variables-sparse (functionScope fields g) (g .body) always (length (opening fields g .variables)),
+        claims-few (functionScope fields g) (g .body) always (length (opening fields g .variables)),
       )
 
   pub functions-headings : (n : ℕ) (gs : List Function) → fewParameters gs
-      → length (functionsBytes n (map (rewriteFunction fields) gs)) ≤ 97 * length gs + 18 * bodiesSize gs
+      → length (functionsBytes n (map (rewriteFunction fields) gs)) ≤ 97 * length gs + 11 * bodiesSize gs
   unfolding functionsWritten bodiesSize fewParameters
   functions-headings n [] few = omega arith
   functions-headings n (g ∷ gs) few =

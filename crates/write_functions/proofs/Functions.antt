@@ -29,7 +29,7 @@ use Rattle.write_bodies.specs.Bodies.{BodyReady}
 use Rattle.write_function_room.specs.Functions.{writtenIn, eventsIn, mostBytes}
 use Rattle.write_functions.specs.declared.Parts.{Parts}
 use Rattle.write_functions.specs.Writing.{circuitsIn, CircuitsReady, CircuitsWritten, HeadingReady, FunctionReady, FunctionWritten}
-use Rattle.write_functions.proofs.Written.{constraints-few, constraints-counted, trees-are, trees-counted}
+use Rattle.write_functions.proofs.Written.{constraints-counted, trees-are, trees-counted}
 use Rattle.write_functions.proofs.Logs.{context-at}
 
 -- The bytes of trees with one more behind them.
@@ -57,7 +57,7 @@ module _ (file : List ℕ) (at : ℕ) (source : List ℕ) (log roots numbers cla
 
     pub constraints-fit : parts .private + parts .claims ≤ 65535
     constraints-fit =
-        omega (arith, written .told .private, written .told .claims, constraints-few (scopeIn file at) (eventsIn file at), ready .room .events, ready .room .variables)
+        omega (arith, written .told .private, written .told .claims, ready .room .claims, ready .room .context .fewNodes, ready .room .variables)
 
     -- What is counted is the log that the heading's variables are written from.
     pub log-few : (parts .private ≤ 1024) × (length (take (parts .logged) logAfter) ≤ 7680)

@@ -23,7 +23,7 @@ use Rattle.write_claims.proofs.Sixes.{sixes-length}
 use Rattle.write_function_room.specs.Functions.{writtenIn, eventsIn}
 use Rattle.write_functions.specs.declared.Parts.{Parts}
 use Rattle.write_functions.specs.Writing.{constraintsIn, HeadingReady}
-use Rattle.write_functions.proofs.Written.{constraints-few, trees-counted}
+use Rattle.write_functions.proofs.Written.{trees-counted}
 use Rattle.write_functions.proofs.Logs.{take-stored}
 
 heading-parts : (file : List ℕ) (at base : ℕ) (log : List ℕ) → Entries (nodesIn file) (eventsIn file at) log → ownersFit (eventsIn file at)
@@ -36,8 +36,8 @@ heading-parts file at base log entries fit =
 
 module _ (file : List ℕ) (at : ℕ) (log numbers claims headings : List ℕ) (from : ℕ) (parts : Parts) (base total : ℕ)
     (ready : HeadingReady file at log numbers claims headings from parts base total) where
-  claims-few : parts .claims ≤ 3 * nodeCount file
-  claims-few = omega (arith, ready .told .claims, constraints-few (scopeIn file at) (eventsIn file at), ready .room .eventsByNodes)
+  claims-few : parts .claims ≤ nodeCount file
+  claims-few = omega (arith, ready .told .claims, ready .room .claims)
 
   pub claims-asked : (4 * parts .claims ≤ length numbers) × (0 + 6 * parts .claims ≤ length claims)
   claims-asked = (ready .told .fours, omega (arith, claims-few, ready .claimSpace))
@@ -61,7 +61,7 @@ module _ (file : List ℕ) (at : ℕ) (log numbers claims headings : List ℕ) (
     pub heading-asked : HeadingFits file at (parts .made) (take (parts .logged) log) (take claimed claimsAfter) (base + total - 1) from (length headings)
     heading-asked =
         let counted = claims-told (nodesIn file) (scopeIn file at) (ready .told .entries) in
-        let few = constraints-few (scopeIn file at) (eventsIn file at) in
+        let few = ready .room .claims in
         let long = ap length parts-are in
         record {
           near = ready .room .context .nearFunction;

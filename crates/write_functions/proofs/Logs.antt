@@ -33,7 +33,7 @@ use Rattle.write_circuits.proofs.Within.{statement-within, claims-few}
 use Rattle.write_circuits.proofs.Claimable.{claimable}
 use Rattle.write_function_room.specs.Functions.{privateIn, eventsIn, FunctionRoom}
 use Rattle.write_functions.specs.Writing.{constraintsIn, circuitsIn, CircuitsReady, CircuitsWritten}
-use Rattle.write_functions.proofs.Written.{constraints-few, trees-counted}
+use Rattle.write_functions.proofs.Written.{trees-counted}
 
 pub take-stored : (held values : List ℕ) (n : ℕ) → n ≡ length values → take n (stored held 0 values) ≡ values
 unfolding stored
@@ -98,14 +98,13 @@ module _ (file : List ℕ) (at : ℕ) (source : List ℕ) (log numbers out : Lis
         let within = statement-within (scopeIn file at) (statementIn (nodesIn file) (rootAt file at)) always in
         let total = trees-counted file at in
         let sized = ap sizes trees-logged in
-        let counted = claims-counted in
-        let fewer = constraints-few (scopeIn file at) (eventsIn file at) in (
+        let counted = claims-counted in (
           claimable file at (nodes-counted file) logAfter (eventsIn file at) (logged .numbers) entries 0 holds
               (claims-few (scopeIn file at) (statementEvents (scopeIn file at) (statementIn (nodesIn file) (rootAt file at)) always) (privateIn file at) within few),
           record {
             bytes = omega (arith, ready .room .nodesByNodes, ready .nodeSpace);
             numbers = omega (arith, ready .room .nodes);
-            space = omega (arith, ready .room .eventsByNodes, ready .numberSpace);
+            space = omega (arith, ready .room .claims, ready .numberSpace);
           },
         )
 
@@ -134,7 +133,6 @@ module _ (file : List ℕ) (at : ℕ) (source : List ℕ) (log numbers out : Lis
           let place = end-place in
           let same = log-kept in
           let many = ap variableCount same-events in
-          let fewer = constraints-few (scopeIn file at) (eventsIn file at) in
           let front : take (end .at) logAfter ≡ logged .numbers =
           ap (take (end .at)) (logged .held) ∙ take-stored log (logged .numbers) (end .at) (omega arith) in
           record {
@@ -144,7 +142,7 @@ module _ (file : List ℕ) (at : ℕ) (source : List ℕ) (log numbers out : Lis
               logged = omega (arith, ready .room .eventsByNodes, ready .logSpace);
               entries = subst (Entries (nodesIn file) (eventsIn file at)) (sym front) entries;
               claims = count-is;
-              fours = omega (arith, count-is, ready .room .eventsByNodes, ready .numberSpace);
+              fours = omega (arith, count-is, ready .room .claims, ready .numberSpace);
               bytes = bytes-are;
             };
             contents = put-all .contents ∙ ap (λ (ts : List Tree). stored out (8 * base) (flatMap nodeBytes (numberedAll base ts))) trees-logged;

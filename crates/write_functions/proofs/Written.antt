@@ -11,21 +11,11 @@ use Rattle.theory_laws.proofs.Written.{claim-count, opening-count, sizes-append
 use Rattle.theory_trees.specs.Trees.{statementIn}
 use Rattle.file_accepted.specs.Context.{nodesIn, fieldsIn, parametersIn, scopeIn}
 use Rattle.file_accepted.specs.Functions.{rootAt}
-use Rattle.rewrite_events.specs.Events.{Event, suppliedEvent, claimedEvent, readEvent, guardEvent, endEvent, constraintsOf, statementEvents}
+use Rattle.rewrite_events.specs.Events.{constraintsOf, statementEvents}
 use Rattle.rewrite_events.proofs.Functions.{function-constraints}
 use Rattle.write_parameters.specs.Parameters.{privateCount}
 use Rattle.write_function_room.specs.Functions.{functionIn, writtenIn, privateIn}
 use Rattle.write_functions.specs.Writing.{constraintsIn, circuitsIn}
-
--- An event makes one constraint or none.
-pub constraints-few : (scope : Scope) (events : List Event) → length (constraintsOf scope events) ≤ length events
-unfolding constraintsOf
-constraints-few scope [] = omega arith
-constraints-few scope (suppliedEvent i o e ∷ events) = let h = constraints-few scope events in omega arith
-constraints-few scope (claimedEvent g i o e ∷ events) = let h = constraints-few scope events in omega arith
-constraints-few scope (readEvent s j o e ∷ events) = let h = constraints-few scope events in omega arith
-constraints-few scope (guardEvent i ∷ events) = let h = constraints-few scope events in omega arith
-constraints-few scope (endEvent i ∷ events) = let h = constraints-few scope events in omega arith
 
 abbrev treesIn : List Constraint → List Tree
 treesIn cs = flatMap (λ c. claimTrees (c .claim)) cs

@@ -39,7 +39,7 @@ pub record CircuitsReady (file : List ℕ) (at : ℕ) (source : List ℕ) (log n
   pub room : FunctionRoom file at from base
   pub held : Source file source
   pub logSpace : 15 * nodeCount file ≤ length log
-  pub numberSpace : 12 * nodeCount file ≤ length numbers
+  pub numberSpace : 4 * nodeCount file ≤ length numbers
   pub nodeSpace : mostBytes file ≤ length out
 
 pub record CircuitsWritten (file : List ℕ) (at : ℕ) (log numbers out after : List ℕ) (base : ℕ) (r : Parts) : Type 0 where
@@ -52,7 +52,7 @@ pub record HeadingReady (file : List ℕ) (at : ℕ) (log numbers claims heading
   pub room : FunctionRoom file at from base
   pub told : Told file at base log numbers parts
   pub whole : total ≡ sizes (functionTrees (writtenIn file at))
-  pub claimSpace : 18 * nodeCount file ≤ length claims
+  pub claimSpace : 6 * nodeCount file ≤ length claims
   pub headingSpace : mostHeadings file ≤ length headings
 
 pub record FunctionReady (file : List ℕ) (at : ℕ) (source : List ℕ) (log roots numbers claims headings : List ℕ) (from : ℕ)
@@ -61,8 +61,8 @@ pub record FunctionReady (file : List ℕ) (at : ℕ) (source : List ℕ) (log r
   pub held : Source file source
   pub logSpace : 15 * nodeCount file ≤ length log
   pub rootSpace : 3 * nodeCount file + 8 ≤ length roots
-  pub numberSpace : 12 * nodeCount file ≤ length numbers
-  pub claimSpace : 18 * nodeCount file ≤ length claims
+  pub numberSpace : 4 * nodeCount file ≤ length numbers
+  pub claimSpace : 6 * nodeCount file ≤ length claims
   pub headingSpace : mostHeadings file ≤ length headings
   pub nodeSpace : mostBytes file ≤ length nodes
 

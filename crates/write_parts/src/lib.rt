@@ -27,7 +27,6 @@ fn write_functions(
     count: usize,
     source: &[u16],
     log: &mut [u16],
-    scratch: &mut [u16],
     roots: &mut [u16],
     numbers: &mut [u16],
     claims: &mut [u8],
@@ -36,7 +35,7 @@ fn write_functions(
     nodes: &mut [u8],
 ) -> Functions
     requires { ⌜ (FunctionsReady (now file) first count (now source) from (now headings) (now nodes))
-        × (Scratch (now file) (now log) (now scratch) (now roots) (now numbers) (now claims)) ⌝ }
+        × (Scratch (now file) (now log) (now roots) (now numbers) (now claims)) ⌝ }
     ensures { λ r. ⌜ FunctionsPut (now (file .entry)) (functionCount (now (file .entry))) from
         (now (headings .entry)) (now (headings .exit)) (now (nodes .entry)) (now (nodes .exit))
         (r .extent .end) (r .extent .nodes) (r .counts .crossings) ⌝ }
@@ -54,7 +53,6 @@ fn write_functions(
             function_at,
             source,
             log,
-            scratch,
             roots,
             numbers,
             claims,
@@ -74,11 +72,10 @@ fn write_functions(
     }
 }
 
-// The whole file: fields, count of functions, functions. The first five buffers are scratch space.
+// The whole file: fields, count of functions, functions. The first four buffers are scratch space.
 pub fn write_parts(
     file: &[u8],
     log: &mut [u16],
-    scratch: &mut [u16],
     roots: &mut [u16],
     numbers: &mut [u16],
     claims: &mut [u8],
@@ -86,7 +83,7 @@ pub fn write_parts(
     nodes: &mut [u8],
 ) -> Functions
     requires { ⌜ (Ready (now file) (now headings) (now nodes))
-        × (Scratch (now file) (now log) (now scratch) (now roots) (now numbers) (now claims)) ⌝ }
+        × (Scratch (now file) (now log) (now roots) (now numbers) (now claims)) ⌝ }
     ensures { λ r. ⌜ PartsPut (now (file .entry)) (now (headings .entry)) (now (headings .exit))
         (now (nodes .entry)) (now (nodes .exit)) (r .extent .end) (r .extent .nodes) (r .counts .crossings) ⌝ }
 {
@@ -101,7 +98,6 @@ pub fn write_parts(
         layout.functions,
         &room[..count],
         log,
-        scratch,
         roots,
         numbers,
         claims,

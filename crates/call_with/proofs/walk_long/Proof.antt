@@ -9,15 +9,14 @@ use Rattle.call_with.proofs.walk_long.Tie as tie
 pub walk-long-spec : {M : Type 1} → statement M
 walk-long-spec =
     tie.close (tie.spec
-    (λ c. search needs) (λ c. search needs) (λ c. search needs) (λ c. search needs) (λ c. search needs)
-    (λ c κs. let s = c .before .before .before .before .before .before .before .before .before .before .before .before .before in let held = s .pre .0 in let room = s .pre .1 in
-    let few : nodeCount (s .args .file .now) ≤ 512 = room .context .fewNodes in
+    (λ c. search needs) (λ c. search needs) (λ c. search needs) (λ c. search needs)
+    (λ c κs. let start = c .before .before .before .before .before .before .before .before .before .before .before .before in let held = start .pre .0 in let room = start .pre .1 in
+    let few : nodeCount (start .args .file .now) ≤ 512 = room .context .fewNodes in
     record {
       held = held;
       room = room;
       logSpace = omega arith;
       numbersSpace = omega arith;
-      scratchSpace = omega arith;
       rootsSpace = omega arith;
       nodesSpace = omega arith;
     })

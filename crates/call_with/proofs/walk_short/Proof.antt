@@ -9,15 +9,14 @@ use Rattle.call_with.proofs.walk_short.Tie as tie
 pub walk-short-spec : {M : Type 1} → statement M
 walk-short-spec =
     tie.close (tie.spec
-    (λ c. search needs) (λ c. search needs) (λ c. search needs) (λ c. search needs) (λ c. search needs)
-    (λ c κs. let s = c .before .before .before .before .before .before .before .before .before .before .before .before .before in let held = s .pre .0 in let room = s .pre .1 in
-    let few : nodeCount (s .args .file .now) ≤ 64 = omega (arith, s .pre .2, held .long) in
+    (λ c. search needs) (λ c. search needs) (λ c. search needs) (λ c. search needs)
+    (λ c κs. let start = c .before .before .before .before .before .before .before .before .before .before .before .before in let held = start .pre .0 in let room = start .pre .1 in
+    let few : nodeCount (start .args .file .now) ≤ 64 = omega (arith, start .pre .2, held .long) in
     record {
       held = held;
       room = room;
       logSpace = omega arith;
       numbersSpace = omega arith;
-      scratchSpace = omega arith;
       rootsSpace = omega arith;
       nodesSpace = omega arith;
     })

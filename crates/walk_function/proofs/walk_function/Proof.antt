@@ -11,24 +11,24 @@ pub walk-function-spec : {M : Type 1} → statement M
 walk-function-spec =
     tie.close (tie.spec
     (λ c κs. search needs) (λ c. search needs) (λ c κs. search needs)
-    (λ c κs. let s = c .before .before .before .before .before .before .before .before .before .before .before .before .before .before in
-    let counted = private-counted (s .args .file .now) (s .args .function-at) _ _ (c .before .before .byte-at .ensures .0) (c .before .count-private .ensures) in
-    log-ready _ _ _ _ _ _ _ _ (s .pre) _ counted)
-    (λ c κs. let byte-at = c .before .before .before .before .before .before .before .before .before .before .before .byte-at .ensures .0 in
-    let count-private = c .before .before .before .before .before .before .before .before .before .before .count-private .ensures in
-    let function-log = c .before .before .before .before .before .before .before .before .function-log .ensures in
-    let s = c .before .before .before .before .before .before .before .before .before .before .before .before .before .before .before .before .before .before .before .before .before .before .before in
-    let counted = private-counted (s .args .file .now) (s .args .function-at) _ _ byte-at count-private in
-    function-ready _ _ _ _ _ _ _ _ (s .pre) _ counted _ _ function-log)
-    (λ c κs. let shared-slice-known = c .before .before .before .before .before .before .before .before .before .before .before .before .before .before .before .before .before .before .before .before .before .before .before .before .before .before .before .before .before .before .before .before .before .before .before .shared-slice-known .given in
-    let put-function = c .before .before .before .before .before .before .before .before .before .before .before .before .put-function .ensures in
-    let s = c .before .before .before .before .before .before .before .before .before .before .before .before .before .before .before .before .before .before .before .before .before .before .before .before .before .before .before .before .before .before .before .before .before .before .before .before in
-    let bytes : Bytes (s .args .file .now) = record { small = λ i. omega (arith, shared-slice-known i) } in
-    last-ready _ _ _ _ _ _ _ _ (s .pre) bytes _ _ _ put-function)
-    (λ c. search needs) (λ c. search needs) (λ c. search needs) (λ c. search needs) (λ c. search needs) (λ c. search needs)
+    (λ c κs. let start = c .before .before .before .before .before .before .before .before .before .before .before .before .before in
+    let counted = private-counted (start .args .file .now) (start .args .function-at) _ _ (c .before .before .byte-at .ensures .0) (c .before .count-private .ensures) in
+    log-ready _ _ _ _ _ _ _ (start .pre) _ counted)
+    (λ c κs. let byte-at = c .before .before .before .before .before .before .before .before .before .before .byte-at .ensures .0 in
+    let count-private = c .before .before .before .before .before .before .before .before .before .count-private .ensures in
+    let function-log = c .before .before .before .before .before .before .before .function-log .ensures in
+    let start = c .before .before .before .before .before .before .before .before .before .before .before .before .before .before .before .before .before .before .before .before .before in
+    let counted = private-counted (start .args .file .now) (start .args .function-at) _ _ byte-at count-private in
+    function-ready _ _ _ _ _ _ _ (start .pre) _ counted _ _ function-log)
+    (λ c κs. let shared-slice-known = c .before .before .before .before .before .before .before .before .before .before .before .before .before .before .before .before .before .before .before .before .before .before .before .before .before .before .before .before .before .before .before .shared-slice-known .given in
+    let put-function = c .before .before .before .before .before .before .before .before .before .before .put-function .ensures in
+    let start = c .before .before .before .before .before .before .before .before .before .before .before .before .before .before .before .before .before .before .before .before .before .before .before .before .before .before .before .before .before .before .before .before in
+    let bytes : Bytes (start .args .file .now) = record { small = λ i. omega (arith, shared-slice-known i) } in
+    last-ready _ _ _ _ _ _ _ (start .pre) bytes _ _ _ put-function)
+    (λ c. search needs) (λ c. search needs) (λ c. search needs) (λ c. search needs) (λ c. search needs)
     (λ c. search needs)
-    (λ c. let shared-slice-known = c .before .before .before .before .before .before .before .before .before .before .before .before .before .before .before .before .before .before .before .before .before .before .before .before .before .before .before .before .before .before .before .before .before .before .before .before .before .before .before .before .shared-slice-known .given in
-    let put-function = c .before .before .before .before .before .before .before .before .before .before .before .before .before .before .before .before .before .put-function .ensures in
-    let s = c .before .before .before .before .before .before .before .before .before .before .before .before .before .before .before .before .before .before .before .before .before .before .before .before .before .before .before .before .before .before .before .before .before .before .before .before .before .before .before .before .before in
-    let bytes : Bytes (s .args .file .now) = record { small = λ i. omega (arith, shared-slice-known i) } in
-    function-walked _ _ _ _ _ _ _ _ (s .pre) bytes _ _ _ put-function _ _ _ _ _ (c .before .before .before .before .run-last .ensures)))
+    (λ c. let shared-slice-known = c .before .before .before .before .before .before .before .before .before .before .before .before .before .before .before .before .before .before .before .before .before .before .before .before .before .before .before .before .before .before .before .before .before .before .before .before .shared-slice-known .given in
+    let put-function = c .before .before .before .before .before .before .before .before .before .before .before .before .before .before .before .put-function .ensures in
+    let start = c .before .before .before .before .before .before .before .before .before .before .before .before .before .before .before .before .before .before .before .before .before .before .before .before .before .before .before .before .before .before .before .before .before .before .before .before .before in
+    let bytes : Bytes (start .args .file .now) = record { small = λ i. omega (arith, shared-slice-known i) } in
+    function-walked _ _ _ _ _ _ _ (start .pre) bytes _ _ _ put-function _ _ _ _ _ (c .before .before .before .before .run-last .ensures)))

@@ -9,10 +9,10 @@ use Rattle.write_contract.proofs.write_long.Tie as tie
 pub write-long-spec : {M : Type 1} → statement M
 write-long-spec =
     tie.close (tie.spec
-    (λ c. search needs) (λ c. search needs) (λ c. search needs) (λ c. search needs) (λ c. search needs) (λ c. search needs) (λ c. search needs)
-    (λ c κs. let start = c .before .before .before .before .before .before .before .before .before .before in
+    (λ c. search needs) (λ c. search needs) (λ c. search needs) (λ c. search needs) (λ c. search needs) (λ c. search needs)
+    (λ c κs. let start = c .before .before .before .before .before .before .before .before .before in
     let few = few-nodes (start .args .file .now) (accepted-settled (start .args .file .now) (start .pre) .counts) in (
       record { accepted = start .pre; headingSpace = omega arith; nodeSpace = omega arith },
-      record { logSpace = omega arith; scratchSpace = omega arith; rootSpace = omega arith; numberSpace = omega arith; claimSpace = omega arith },
+      record { logSpace = omega arith; rootSpace = omega arith; numberSpace = omega arith; claimSpace = omega arith },
     ))
     (λ c. search needs) (λ c. search needs))
