@@ -2,7 +2,7 @@
 use mathlib.Core.Path.{_≡_}
 use mathlib.Core.Bool.{false}
 use mathlib.Core.List.{List, _∷_}
-use Prim.Native.Nat.{ℕ, _/_, _≤_}
+use Prim.Native.Nat.{ℕ, _*_, _/_, _≤_}
 use lib.Dec.{ltb}
 use lib.ListN.{length}
 use Rattle.definitions.specs.Basics.{any, firstThatHolds}
@@ -38,6 +38,11 @@ pub record Room (file : List ℕ) (l : Layout) (fields functions parameters node
   pub fewFields : length fields ≤ 192
   pub counts : countOffLimits file ≡ false
   pub column : length nodes / 5 ≤ length owners
+
+-- There is room for as many nodes as the file says, unless number 2 refuses so many.
+pub record Enough (l : Layout) (nodes owners : List ℕ) : Type 0 where
+  pub forNodes : l .nodes ≤ 512 → 5 * l .nodes ≤ length nodes
+  pub forOwners : l .nodes ≤ 512 → l .nodes ≤ length owners
 
 -- Numbers 1 and 2 let the file pass.
 pub record Counted (file : List ℕ) (l : Layout) : Type 0 where

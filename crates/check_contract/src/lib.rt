@@ -9,11 +9,13 @@ use file_decoder::decode;
 use rules_contract::rules_number;
 ghost use mathlib.Core.Path.{_≡_};
 ghost use Prim.Native.Nat.{_*_, _≤_};
-ghost use lib.ListN.{length};
+ghost use lib.ListN.{length, take};
 ghost use Rattle.definitions.specs.ContractFile.{sectionsOf};
 ghost use Rattle.definitions.specs.Numbers.{checkNumber};
+ghost use Rattle.file_bytes.specs.Layout.{IsLayout};
 ghost use Rattle.file_decoded.specs.Slices.{sectionsFrom};
-ghost use Rattle.check_contract.specs.Decoding.{contractNumber, Held, Room, Counted};
+ghost use Rattle.file_accepted.specs.Context.{Source};
+ghost use Rattle.check_contract.specs.Decoding.{contractNumber, Held, Room, Counted, Enough};
 
 // The first of the sentences 3 to 15 that holds of the sections that four slices hold, or 0.
 fn slices_number(
@@ -34,7 +36,7 @@ fn slices_number(
     rules_number(fields, functions, parameters, nodes, owners)
 }
 
-// The same of a file of right counts, decoded into lent slices.
+// The same of a file of right counts, decoded into lent slices. Its nodes stay where they were decoded.
 fn decoded_number(
     file: &[u8],
     l: Layout,
@@ -45,7 +47,7 @@ fn decoded_number(
     owners: &mut [u16],
 ) -> u8
     requires { ⌜ Room (now file) l (now fields) (now functions) (now parameters) (now nodes) (now owners) ⌝ }
-    ensures { λ r. ⌜ r ≡ contractNumber (sectionsOf (now (file .entry))) ⌝ }
+    ensures { λ r. ⌜ (r ≡ contractNumber (sectionsOf (now (file .entry)))) × (Source (now (file .entry)) (now (nodes .exit))) ⌝ }
 {
     decode(file, l, fields, functions, parameters, nodes);
     slices_number(fields, functions, parameters, nodes, owners)
@@ -54,7 +56,8 @@ fn decoded_number(
 // The same in room for the largest sections that number 2 lets pass, of which that for the nodes is lent.
 fn number_in_room(file: &[u8], l: Layout, nodes: &mut [u16], owners: &mut [u16]) -> u8
     requires { ⌜ (Counted (now file) l) × (5 * l .nodes ≤ length (now nodes)) × (l .nodes ≤ length (now owners)) ⌝ }
-    ensures { λ r. ⌜ r ≡ contractNumber (sectionsOf (now (file .entry))) ⌝ }
+    ensures { λ r. ⌜ (r ≡ contractNumber (sectionsOf (now (file .entry))))
+        × (Source (now (file .entry)) (take (5 * l .nodes) (now (nodes .exit)))) ⌝ }
 {
     let mut fields = file_decoded::field_room();
     let mut functions = file_decoded::function_room();
@@ -74,22 +77,38 @@ fn number_in_room(file: &[u8], l: Layout, nodes: &mut [u16], owners: &mut [u16])
     )
 }
 
-fn number_of_short(file: &[u8], l: Layout) -> u8
-    requires { ⌜ (Counted (now file) l) × (l .nodes ≤ 64) ⌝ }
-    ensures { λ r. ⌜ r ≡ contractNumber (sectionsOf (now (file .entry))) ⌝ }
+// The number of a file, in room that is lent for its nodes and their owners. The nodes of an accepted file stand at the front of the room
+// then, for whoever goes on with them.
+pub fn check_in(file: &[u8], l: Layout, nodes: &mut [u16], owners: &mut [u16]) -> u8
+    requires { ⌜ (IsLayout (now file) l) × (Enough l (now nodes) (now owners)) ⌝ }
+    ensures { λ r. ⌜ (r ≡ checkNumber (now (file .entry)))
+        × (r ≡ 0 → Source (now (file .entry)) (take (5 * l .nodes) (now (nodes .exit)))) ⌝ }
+{
+    if ends_wrongly(file, l) {
+        return 1;
+    }
+    if count_off_limits(file, l) {
+        return 2;
+    }
+    number_in_room(file, l, nodes, owners)
+}
+
+fn check_short(file: &[u8], l: Layout) -> u8
+    requires { ⌜ (IsLayout (now file) l) × (l .nodes ≤ 64) ⌝ }
+    ensures { λ r. ⌜ r ≡ checkNumber (now (file .entry)) ⌝ }
 {
     let mut nodes = file_decoded::short_node_room();
     let mut owners = file_decoded::short_column_room();
-    number_in_room(file, l, &mut nodes, &mut owners)
+    check_in(file, l, &mut nodes, &mut owners)
 }
 
-fn number_of_long(file: &[u8], l: Layout) -> u8
-    requires { ⌜ Counted (now file) l ⌝ }
-    ensures { λ r. ⌜ r ≡ contractNumber (sectionsOf (now (file .entry))) ⌝ }
+fn check_long(file: &[u8], l: Layout) -> u8
+    requires { ⌜ IsLayout (now file) l ⌝ }
+    ensures { λ r. ⌜ r ≡ checkNumber (now (file .entry)) ⌝ }
 {
     let mut nodes = file_decoded::node_room();
     let mut owners = file_decoded::column_room();
-    number_in_room(file, l, &mut nodes, &mut owners)
+    check_in(file, l, &mut nodes, &mut owners)
 }
 
 // Most contracts are short. A wrong checker that this rules out: one that refuses every file (file A has 0); one that stops at the first
@@ -98,15 +117,9 @@ pub fn check(file: &[u8]) -> u8
     ensures { λ r. ⌜ r ≡ checkNumber (now (file .entry)) ⌝ }
 {
     let l = read_layout(file);
-    if ends_wrongly(file, l) {
-        return 1;
-    }
-    if count_off_limits(file, l) {
-        return 2;
-    }
     if l.nodes <= 64 {
-        number_of_short(file, l)
+        check_short(file, l)
     } else {
-        number_of_long(file, l)
+        check_long(file, l)
     }
 }

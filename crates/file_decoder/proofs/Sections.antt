@@ -8,7 +8,7 @@ use Rattle.definitions.specs.ContractFile.{fieldCount, functionCount, nodeCount
 use Rattle.definitions.specs.Reading.{nodesBegin}
 use Rattle.file_bytes.specs.declared.Layout.{Layout}
 use Rattle.file_bytes.proofs.Sections.{fields-are, functions-are, nodes-are}
-use Rattle.file_decoded.specs.Slices.{fieldsFrom, nodesFrom}
+use Rattle.file_decoded.specs.Slices.{fieldsFrom, nodesFrom, Narrow}
 use Rattle.file_node_decoder.specs.Steps.{Copied}
 use Rattle.file_decoder.specs.Decoding.{FunctionsRoom, DecodedFunctions, Decodable, Decoded}
 use Rattle.file_decoder.proofs.Steps.{fields-extend}
@@ -41,9 +41,9 @@ module _ (file : List ℕ) (l : Layout) (fields functions parameters nodes : Lis
 
   pub decoded : (fields′ functions′ parameters′ nodes′ : List ℕ) → Copied file 1 (length fields) fields fields′ 0
       → DecodedFunctions file (l .«functions_at» + 1) functions functions′ parameters parameters′
-      → nodesFrom (length nodes′ / 5) nodes′ 0 ≡ nodeRecords (length nodes / 5) file (l .«nodes_at» + 2)
+      → nodesFrom (length nodes′ / 5) nodes′ 0 ≡ nodeRecords (length nodes / 5) file (l .«nodes_at» + 2) → Narrow nodes′
       → Decoded file fields′ functions′ parameters′ nodes′
-  decoded fields′ functions′ parameters′ nodes′ copied fs ns =
+  decoded fields′ functions′ parameters′ nodes′ copied fs ns narrow =
       let long = copied .kept .long in
       let many : length fields′ / 3 ≡ fieldCount file = omega (arith, d .forFields, d .layout .fields) in
       let fields-same : fieldsFrom (length fields′ / 3) fields′ 0 ≡ fieldRecords (fieldCount file) file 1 =
@@ -57,4 +57,5 @@ module _ (file : List ℕ) (l : Layout) (fields functions parameters nodes : Lis
       record {
         are = λ i. record { fields = whole-fields i; functions = whole-functions i; nodes = whole-nodes i };
         inside = fs .inside;
+        narrow = narrow;
       }

@@ -7,7 +7,7 @@ use Rattle.definitions.specs.ContractFile.{byteAt, functionEnd, functionsEnd, f
 use Rattle.definitions.specs.ContractFile.{fileEnd, sectionsOf}
 use Rattle.file_bytes.specs.declared.Layout.{Layout}
 use Rattle.file_bytes.specs.Layout.{IsLayout}
-use Rattle.file_decoded.specs.Slices.{numberAt, functionFrom, functionsFrom, sectionsFrom, ParametersInside}
+use Rattle.file_decoded.specs.Slices.{numberAt, functionFrom, functionsFrom, sectionsFrom, ParametersInside, Narrow}
 use Rattle.file_node_decoder.specs.Steps.{SameBefore}
 
 -- The function's bytes are there, and so is room for its numbers and those of its parameters.
@@ -52,3 +52,4 @@ pub record Decodable (file : List ℕ) (l : Layout) (fields functions parameters
 pub record Decoded (file fields functions parameters nodes : List ℕ) : Type 0 where
   pub are : sectionsFrom fields functions parameters nodes ≡ sectionsOf file
   pub inside : ParametersInside functions parameters
+  pub narrow : Narrow nodes

@@ -7,7 +7,7 @@ use native.Mathlib.Omega.{arith}
 use borrow.Author.Tests.{ne-eqb, lt-ltb}
 use lib.ListN.{length, drop, take, getD, length-map}
 use lib.Seq.{take-at}
-use Rattle.definitions.specs.ContractFile.{boolean, meName, finalName, parameterName, Owner, everyone, ownedBy, nodesAt, ownerCode, typeOf}
+use Rattle.definitions.specs.ContractFile.{boolean, meName, finalName, parameterName, Owner, everyone, ownedBy, ownerCode, typeOf}
 use Rattle.definitions.specs.Rewriting.{Variable, always, privateParameters, openings, rewriteStatement, rewriteFunction}
 use Rattle.definitions.specs.Original.{anyone, readerOf}
 use Rattle.definitions.specs.Ledger.{Content, Form, allFit}

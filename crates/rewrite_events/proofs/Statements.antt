@@ -7,7 +7,7 @@ use lib.ListN.{length}
 use Rattle.definitions.specs.ContractFile.{Statement, Scope, fieldAt}
 use Rattle.definitions.specs.Owners.{nameOf, placeOwner, ownerOf}
 use Rattle.definitions.specs.Rewriting.{Variable, BodyExpression, Command, Guard, under, guard, Generator, kept, inBody, inPlace, StatementGenerator, single, inSequence, inBranch, inBranches, rewriteStatement}
-use Rattle.rewrite_events.specs.Events.{Event, variablesOf, constraintsOf, Events, inTurn, ended, branchEvents, statementEvents}
+use Rattle.rewrite_events.specs.Events.{variablesOf, constraintsOf, Events, inTurn, ended, branchEvents, statementEvents}
 use Rattle.rewrite_events.specs.Making.{MakesPiece, MakesPassage}
 use Rattle.rewrite_events.proofs.Appended.{variables-append, constraints-append}
 use Rattle.rewrite_events.proofs.Pieces.{kept-made, ended-made, one-made, two-made, body-made, place-made}

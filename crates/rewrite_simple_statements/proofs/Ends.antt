@@ -3,7 +3,6 @@ use mathlib.Core.Path.{_≡_, sym, subst}
 use mathlib.Core.Bool.{true}
 use mathlib.Core.List.{List}
 use Prim.Native.Nat.{ℕ}
-use native.Mathlib.Omega.{arith}
 use Rattle.theory_trees.specs.Trees.{statementIn}
 use Rattle.file_accepted.specs.Context.{nodesIn, scopeIn}
 use Rattle.rewrite_events.specs.Events.{Events, ended}
@@ -11,15 +10,10 @@ use Rattle.rewrite_events.specs.Ends.{isSimple}
 use Rattle.rewrite_events.proofs.Ends.{simple-ended}
 use Rattle.rewrite_log.specs.declared.Position.{Position}
 use Rattle.rewrite_log.specs.Entries.{guardOf, five}
-use Rattle.rewrite_log.specs.Logs.{SmallEntry, Slot, Wrote, Room, Logged}
+use Rattle.rewrite_log.specs.Logs.{Slot, Wrote, Logged}
 use Rattle.rewrite_log.proofs.Turns.{ended-parts, end-slot, ended-logged}
 use Rattle.rewrite_expressions.specs.Translations.{statementOf, Ready}
 use Rattle.rewrite_simple_statements.specs.Simple.{simpleOf}
-
-pub end-small : (log : List ℕ) (p : Position) → Slot log p 0
-    → (Slot log p 0) × (SmallEntry (record { tag = 4; variable = p .variable; owner = 0; node = 0; last = 0 }))
-end-small log p slot =
-    (slot, record { tag = omega arith; variable = omega (arith, slot .few); owner = omega arith; node = omega arith; last = omega arith })
 
 -- Node n's events, and then their end.
 module _ (file : List ℕ) (functionStart : ℕ) (source : List ℕ) (n : ℕ) (before : List ℕ) (p : Position) (events : Events)

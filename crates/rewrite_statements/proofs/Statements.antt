@@ -2,9 +2,9 @@
 use mathlib.Core.Path.{_≡_, ap, sym, subst}
 use mathlib.Core.Bool.{true}
 use mathlib.Core.List.{List}
-use Prim.Native.Nat.{ℕ, _+_, _*_, _<_}
+use Prim.Native.Nat.{ℕ, _+_, _<_}
 use native.Mathlib.Omega.{arith}
-use Rattle.definitions.specs.ContractFile.{Statement, NodeRecord, nodeCount, nodeRecord}
+use Rattle.definitions.specs.ContractFile.{Statement, NodeRecord}
 use Rattle.theory_trees.specs.Trees.{statementIn}
 use Rattle.file_accepted.specs.Context.{nodesIn, scopeIn}
 use Rattle.file_accepted.proofs.Statements.{sequence-is, conditional-is, steps-below, branches-below}

@@ -6,7 +6,7 @@ use Prim.Native.Nat.{ℕ, suc, _+_, _*_, _≤_}
 use native.Mathlib.Omega.{arith}
 use lib.ListN.{length}
 use Rattle.definitions.specs.Basics.{flatMap}
-use Rattle.definitions.specs.ContractFile.{Parameter, Scope, nodeCount}
+use Rattle.definitions.specs.ContractFile.{Parameter, nodeCount}
 use Rattle.definitions.specs.Rewriting.{always, Constraint, WrittenFunction, privateParameters, openings, heldUnder, Tree, size, sizes, numberedAll, nodeBytes, commandTree, claimTrees, functionTrees}
 use Rattle.theory_laws.proofs.Written.{opening-count, sizes-append}
 use Rattle.theory_trees.specs.Trees.{statementIn}

@@ -6,7 +6,7 @@ use lib.ListN.{length}
 use Rattle.definitions.specs.ContractFile.{boolean, Expression, Statement, Scope}
 use Rattle.definitions.specs.Owners.{ownerOf}
 use Rattle.definitions.specs.Rewriting.{BodyExpression, Command, Guard, always, under, stepsBefore, inBody, single, inSequence, inBranch, inBranches, rewriteStatement}
-use Rattle.rewrite_events.specs.Events.{variableCount, variablesOf, ended, bodyEvents, branchEvents, statementEvents}
+use Rattle.rewrite_events.specs.Events.{variableCount, variablesOf, bodyEvents, branchEvents}
 use Rattle.rewrite_events.proofs.Pieces.{ended-made, body-made}
 use Rattle.rewrite_events.proofs.Statements.{statement-made}
 use Rattle.write_bodies.specs.Parts.{commandOf, eventsOf, branchCommand, branchOf, conditionOf}

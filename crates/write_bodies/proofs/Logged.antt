@@ -10,7 +10,7 @@ use Rattle.definitions.specs.Rewriting.{Guard, always, single, rewriteStatement
 use Rattle.theory_trees.specs.Trees.{expressionIn, statementIn}
 use Rattle.file_accepted.specs.Context.{Context, nodesIn, scopeIn}
 use Rattle.file_accepted.proofs.Nodes.{nodes-counted}
-use Rattle.rewrite_events.specs.Events.{Event, variableCount, stepsOf, Events, ended, bodyEvents, statementEvents}
+use Rattle.rewrite_events.specs.Events.{variableCount, stepsOf, Events, ended, bodyEvents, statementEvents}
 use Rattle.rewrite_events.specs.Ends.{isSimple, simpleEvents, Unended}
 use Rattle.rewrite_events.proofs.Pieces.{ended-made, body-made}
 use Rattle.rewrite_events.proofs.Statements.{statement-made}
@@ -37,7 +37,7 @@ use Rattle.write_ends.specs.Ends.{EndFound}
 use Rattle.write_ends.proofs.Marked.{end-place, end-variable}
 use Rattle.write_stepped_statements.specs.Single.{singleTree}
 use Rattle.write_stepped_statements.proofs.Rewritten.{single-rewritten}
-use Rattle.write_bodies.specs.Parts.{statementTree, eventsAt, conditionAt, conditionSteps}
+use Rattle.write_bodies.specs.Parts.{statementTree, eventsAt, conditionSteps}
 use Rattle.write_bodies.specs.Bodies.{Behind, StatementReady, StatementWritten, ConditionReady, ConditionWritten}
 use Rattle.write_bodies.proofs.Guards.{steps-few, statement-alike, condition-alike}
 use Rattle.write_bodies.proofs.Commands.{command-same}
@@ -190,7 +190,7 @@ module _ (file : List ℕ) (functionStart : ℕ) (source : List ℕ) (n : ℕ) (
           ready .context,
           (
             read-back file functionStart log p own own-unended (ready .logged) e found (ended-within scope own (body-within scope (ready .guard) (expressionIn (nodesIn file) n)))
-            (omega (arith, ready .few)),
+                (omega (arith, ready .few)),
             room-same out roots at base 0 _ _ (sym same-steps) (nested-steps-room out roots at base _ _ (ready .room) (ready .enough)),
           ),
         )

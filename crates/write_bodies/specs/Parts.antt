@@ -3,7 +3,7 @@
 use mathlib.Core.Bool.{Bool, cond}
 use mathlib.Core.List.{List, map}
 use Prim.Native.Nat.{ℕ, _+_}
-use Rattle.definitions.specs.ContractFile.{boolean, Expression, Statement, Scope, NodeRecord, nodeRecord, parameterRecords, parameterOf}
+use Rattle.definitions.specs.ContractFile.{boolean, Expression, Statement, Scope, parameterRecords, parameterOf}
 use Rattle.definitions.specs.Owners.{ownerOf}
 use Rattle.definitions.specs.Rewriting.{BodyExpression, Command, always, Step, inBody, privateParameters, openings, rewriteStatement, Tree}
 use Rattle.definitions.specs.Rewriting.{leaf, twoChildren, commandTree}

@@ -295,42 +295,9 @@ pub fn write_statement(
     let node = node_at(source, n);
     let kind = node.kind;
     match kind {
-        SEQUENCE => write_sequence(
-            file,
-            function_at,
-            source,
-            n,
-            log,
-            p,
-            roots,
-            out,
-            at,
-            base,
-        ),
-        IF => write_conditional(
-            file,
-            function_at,
-            source,
-            n,
-            log,
-            p,
-            roots,
-            out,
-            at,
-            base,
-        ),
-        _ => write_simple(
-            file,
-            function_at,
-            source,
-            n,
-            log,
-            p,
-            roots,
-            out,
-            at,
-            base,
-        ),
+        SEQUENCE => write_sequence(file, function_at, source, n, log, p, roots, out, at, base),
+        IF => write_conditional(file, function_at, source, n, log, p, roots, out, at, base),
+        _ => write_simple(file, function_at, source, n, log, p, roots, out, at, base),
     }
 }
 

@@ -2,8 +2,8 @@
 use mathlib.Core.Path.{_≡_, ap, sym, _∙_}
 use mathlib.Core.Bool.{Bool, true, false, _&&_}
 use mathlib.Core.List.{List}
-use Prim.Native.Nat.{ℕ, _+_, _*_, _<_, _≤_}
-use Rattle.definitions.specs.ContractFile.{isDivision, NodeRecord, nodeCount, nodeRecord, operatorOf}
+use Prim.Native.Nat.{ℕ, _+_, _<_, _≤_}
+use Rattle.definitions.specs.ContractFile.{isDivision, NodeRecord, nodeCount, operatorOf}
 use Rattle.definitions.specs.Rewriting.{Tree, leaf, oneChild, twoChildren}
 use Rattle.theory_trees.specs.Trees.{expressionIn}
 use Rattle.file_accepted.specs.Context.{Context, nodesIn, scopeIn}

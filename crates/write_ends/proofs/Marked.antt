@@ -1,6 +1,6 @@
 -- Events and their end that a log holds: the end that is found is theirs.
 use mathlib.Core.Path.{_≡_, refl, ap, sym, _∙_}
-use mathlib.Core.List.{List, [], _∷_, _++_, append-assoc}
+use mathlib.Core.List.{List, [], _∷_, _++_}
 use Prim.Native.Nat.{ℕ, _+_, _*_}
 use native.Mathlib.Nat.{add-zero}
 use native.Mathlib.Omega.{arith}
@@ -11,7 +11,7 @@ use Rattle.rewrite_events.specs.Events.{Event, suppliedEvent, claimedEvent, rea
 use Rattle.rewrite_events.specs.Ends.{Unended}
 use Rattle.rewrite_events.proofs.Appended.{variable-count-append}
 use Rattle.rewrite_log.specs.declared.Position.{Position}
-use Rattle.rewrite_log.specs.Entries.{Entries, noEntry, entryThen, suppliedEntry, claimedEntry, readEntry, guardEntry, endEntry}
+use Rattle.rewrite_log.specs.Entries.{Entries, entryThen, suppliedEntry, claimedEntry, readEntry, guardEntry, endEntry}
 use Rattle.write_logged_steps.specs.Held.{Holds, HoldsEvents}
 use Rattle.write_ends.specs.Ends.{numbersToEnd, variableAtEnd, EndFound}
 

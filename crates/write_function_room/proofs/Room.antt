@@ -5,7 +5,7 @@ use Prim.Native.Nat.{ℕ, zero, suc, _+_, _*_, _-_, _<_, _≤_}
 use native.Mathlib.Omega.{arith}
 use lib.ListN.{length, take}
 use lib.Seq.{take-length}
-use Rattle.definitions.specs.ContractFile.{Statement, Function, functionAt, byteAt, functionCount, nodesAt, nodeCount, sectionsOf, contractOf}
+use Rattle.definitions.specs.ContractFile.{Statement, Function, functionAt, byteAt, functionCount, nodeCount, sectionsOf, contractOf}
 use Rattle.definitions.specs.Numbers.{checkNumber}
 use Rattle.definitions.specs.Rewriting.{always, WrittenFunction, rewrite, functionsBytes}
 use Rattle.file_accepted.proofs.Declarations.{parameters-count}

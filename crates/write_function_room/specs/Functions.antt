@@ -3,7 +3,7 @@ use mathlib.Core.List.{List}
 use Prim.Native.Nat.{ℕ, _+_, _*_, _<_, _≤_}
 use lib.ListN.{length, take}
 use Rattle.definitions.specs.Basics.{flatMap}
-use Rattle.definitions.specs.ContractFile.{Function, byteAt, fieldCount, nodesAt, nodeCount, sectionsOf, contractOf}
+use Rattle.definitions.specs.ContractFile.{Function, byteAt, fieldCount, nodeCount, sectionsOf, contractOf}
 use Rattle.definitions.specs.Rewriting.{always, WrittenFunction, rewriteFunction, rewrite, sizes, functionTrees, functionBytes}
 use Rattle.definitions.specs.Rewriting.{functionsBytes}
 use Rattle.theory_trees.specs.Trees.{statementIn}

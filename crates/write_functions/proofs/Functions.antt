@@ -16,7 +16,7 @@ use Rattle.theory_trees.specs.Trees.{statementIn}
 use Rattle.memory_buffer.specs.Buffer.{stored}
 use Rattle.memory_buffer.proofs.Storing.{stored-length}
 use Rattle.memory_append.specs.Append.{Appended}
-use Rattle.file_accepted.specs.Context.{nodesIn, fieldsIn, parametersIn, scopeIn}
+use Rattle.file_accepted.specs.Context.{nodesIn, fieldsIn, parametersIn}
 use Rattle.file_accepted.specs.Functions.{rootAt}
 use Rattle.rewrite_log.proofs.FiveNumbers.{entries-length}
 use Rattle.write_variables.specs.PerEntry.{countTag}
@@ -42,8 +42,8 @@ bytes-then ts t n =
 trees-length : (ts : List Tree) (n : ℕ) → length (flatMap nodeBytes (numberedAll n ts)) ≡ 8 * sizes ts
 trees-length ts n = nodes-length (numberedAll n ts) ∙ ap (λ (k : ℕ). 8 * k) (all-length ts n)
 
-module _ (file : List ℕ) (at : ℕ) (source : List ℕ) (log roots numbers claims headings : List ℕ) (from : ℕ) (nodes : List ℕ) (base : ℕ)
-    (ready : FunctionReady file at source log roots numbers claims headings from nodes base) where
+module _ (file : List ℕ) (at : ℕ) (source : List ℕ) (log roots numbers headings : List ℕ) (from : ℕ) (nodes : List ℕ) (base : ℕ)
+    (ready : FunctionReady file at source log roots numbers headings from nodes base) where
   pub circuits-ready : CircuitsReady file at source log numbers nodes base
   circuits-ready =
       record { from = from; room = ready .room; held = ready .held; logSpace = ready .logSpace; numberSpace = ready .numberSpace; nodeSpace = ready .nodeSpace }
@@ -110,8 +110,8 @@ module _ (file : List ℕ) (at : ℕ) (source : List ℕ) (log roots numbers cla
       pub total-few : parts .nodes + body ≤ 49152
       total-few = let total = total-is in omega (arith, ready .room .nodes)
 
-      pub heading-ready : HeadingReady file at logAfter numbersAfter claims headings from parts base (parts .nodes + body)
-      heading-ready = record { room = ready .room; told = written .told; whole = total-is; claimSpace = ready .claimSpace; headingSpace = ready .headingSpace }
+      pub heading-ready : HeadingReady file at logAfter numbersAfter headings from parts base (parts .nodes + body)
+      heading-ready = record { room = ready .room; told = written .told; whole = total-is; headingSpace = ready .headingSpace }
 
       nodes-stored : after ≡ stored nodes (8 * base) (flatMap nodeBytes (numberedAll base (functionTrees (writtenIn file at))))
       nodes-stored =

@@ -6,7 +6,6 @@ use native.Mathlib.Omega.{arith}
 use lib.ListN.{length, take, drop}
 use lib.Seq.{take-append-seam}
 use Rattle.definitions.specs.Basics.{flatMap}
-use Rattle.definitions.specs.ContractFile.{nodesAt}
 use Rattle.definitions.specs.Rewriting.{always, Tree, sizes, numberedAll, nodeBytes, constraintBytes}
 use Rattle.file_accepted.proofs.Nodes.{nodes-counted}
 use Rattle.theory_trees.specs.Trees.{statementIn}
@@ -35,7 +34,7 @@ use Rattle.write_function_room.specs.Functions.{privateIn, eventsIn, FunctionRo
 use Rattle.write_functions.specs.Writing.{constraintsIn, circuitsIn, CircuitsReady, CircuitsWritten}
 use Rattle.write_functions.proofs.Written.{trees-counted}
 
-pub take-stored : (held values : List ℕ) (n : ℕ) → n ≡ length values → take n (stored held 0 values) ≡ values
+take-stored : (held values : List ℕ) (n : ℕ) → n ≡ length values → take n (stored held 0 values) ≡ values
 unfolding stored
 take-stored held values n e = ap (λ (k : ℕ). take k (values ++ drop (0 + length values) held)) e ∙ take-append-seam values (drop (0 + length values) held)
 

@@ -47,22 +47,19 @@ pub record CircuitsWritten (file : List ℕ) (at : ℕ) (log numbers out after :
   pub contents : after ≡ stored out (8 * base) (flatMap nodeBytes (numberedAll base (circuitsIn file at)))
   pub nodes : r .nodes ≡ sizes (circuitsIn file at)
 
-pub record HeadingReady (file : List ℕ) (at : ℕ) (log numbers claims headings : List ℕ) (from : ℕ) (parts : Parts)
-    (base total : ℕ) : Type 0 where
+pub record HeadingReady (file : List ℕ) (at : ℕ) (log numbers headings : List ℕ) (from : ℕ) (parts : Parts) (base total : ℕ) : Type 0 where
   pub room : FunctionRoom file at from base
   pub told : Told file at base log numbers parts
   pub whole : total ≡ sizes (functionTrees (writtenIn file at))
-  pub claimSpace : 6 * nodeCount file ≤ length claims
   pub headingSpace : mostHeadings file ≤ length headings
 
-pub record FunctionReady (file : List ℕ) (at : ℕ) (source : List ℕ) (log roots numbers claims headings : List ℕ) (from : ℕ)
+pub record FunctionReady (file : List ℕ) (at : ℕ) (source : List ℕ) (log roots numbers headings : List ℕ) (from : ℕ)
     (nodes : List ℕ) (base : ℕ) : Type 0 where
   pub room : FunctionRoom file at from base
   pub held : Source file source
   pub logSpace : 15 * nodeCount file ≤ length log
   pub rootSpace : 3 * nodeCount file + 8 ≤ length roots
   pub numberSpace : 4 * nodeCount file ≤ length numbers
-  pub claimSpace : 6 * nodeCount file ≤ length claims
   pub headingSpace : mostHeadings file ≤ length headings
   pub nodeSpace : mostBytes file ≤ length nodes
 

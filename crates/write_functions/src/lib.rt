@@ -2,7 +2,6 @@
 use file_bytes::byte_at;
 use rewrite_statements::function_log;
 use write_circuits::put_circuits;
-use write_claims::append_claims;
 use write_crossings::count_crossings;
 use write_extents::Extent;
 use write_extents::is_verified;
@@ -75,25 +74,24 @@ fn write_heading(
     function_at: usize,
     log: &[u16],
     numbers: &[u16],
-    claims: &mut [u8],
     headings: &mut [u8],
     from: usize,
     parts: Parts,
     base: usize,
     total: usize,
 ) -> usize
-    requires { ⌜ HeadingReady (now file) «function_at» (now log) (now numbers) (now claims) (now headings) from parts base total ⌝ }
+    requires { ⌜ HeadingReady (now file) «function_at» (now log) (now numbers) (now headings) from parts base total ⌝ }
     ensures { λ r. ⌜ Appended (now (headings .entry)) (now (headings .exit)) from
         (functionBytes base (writtenIn (now (file .entry)) «function_at»)) r ⌝ }
 {
     let logged = parts.logged;
-    let claimed = append_claims(numbers, parts.claims, claims, 0);
+    let fours = 4 * parts.claims;
     append_heading(
         file,
         function_at,
         parts.made,
         &log[..logged],
-        &claims[..claimed],
+        &numbers[..fours],
         base + total - 1,
         headings,
         from,
@@ -101,7 +99,7 @@ fn write_heading(
 }
 
 // The nodes of the function that begins at a place go behind the `base` nodes that are there, and its heading stands from place
-// `from` on. The first four buffers are scratch space.
+// `from` on. The first three buffers are scratch space.
 pub fn write_function(
     file: &[u8],
     function_at: usize,
@@ -109,13 +107,12 @@ pub fn write_function(
     log: &mut [u16],
     roots: &mut [u16],
     numbers: &mut [u16],
-    claims: &mut [u8],
     headings: &mut [u8],
     from: usize,
     nodes: &mut [u8],
     base: usize,
 ) -> Finished
-    requires { ⌜ FunctionReady (now file) «function_at» (now source) (now log) (now roots) (now numbers) (now claims)
+    requires { ⌜ FunctionReady (now file) «function_at» (now source) (now log) (now roots) (now numbers)
         (now headings) from (now nodes) base ⌝ }
     ensures { λ r. ⌜ FunctionWritten (now (file .entry)) «function_at» (now (headings .entry)) (now (headings .exit)) from
         (now (nodes .entry)) (now (nodes .exit)) base r ⌝ }
@@ -141,7 +138,6 @@ pub fn write_function(
         function_at,
         log,
         numbers,
-        claims,
         headings,
         from,
         parts,

@@ -1,10 +1,11 @@
 -- 01, Rewriting: the parts of a function's heading, as code appends them.
 use mathlib.Core.List.{List, [], _∷_, _++_}
-use Prim.Native.Nat.{ℕ, _+_, _≤_}
+use Prim.Native.Nat.{ℕ, _+_, _/_, _≤_}
 use lib.ListN.{length}
 use Rattle.definitions.specs.Basics.{twoBytes}
 use Rattle.definitions.specs.ContractFile.{byteAt}
 use Rattle.definitions.specs.Rewriting.{eachOnce}
+use Rattle.write_circuits.specs.Circuits.{sixesFrom}
 use Rattle.write_variables.specs.PerEntry.{perEntry, countTag}
 use Rattle.write_variables.specs.Variables.{variableOf, keyCode}
 use Rattle.write_parameters.specs.Parameters.{parametersFrom, privateCount, openingVariables, openingClaims}
@@ -24,6 +25,10 @@ loggedKeys log = eachOnce [] (perEntry keyCode log)
 
 abbrev pub keyPart : List ℕ → List ℕ
 keyPart log = twoBytes (length (loggedKeys log)) ++ loggedKeys log
+
+-- The bytes of constraints, of which four numbers each are given.
+abbrev pub claimsOf : List ℕ → List ℕ
+claimsOf numbers = sixesFrom numbers 0 (length numbers / 4)
 
 abbrev pub claimPart : ℕ → List ℕ → List ℕ → List ℕ
 claimPart private log claims = twoBytes (private + countTag 1 log) ++ openingClaims 0 private ++ claims

@@ -1,9 +1,9 @@
 // 01, Rewriting: a function's heading, "parameters; .. variables ..; .. keys ..; .. constraints ..; body root".
 use file_bytes::byte_at;
-use memory_append::append;
 use memory_append::append_byte;
 use memory_append::append_two_bytes;
 use rewrite_log::CLAIM_LOGGED;
+use write_claims::append_claims;
 use write_parameters::append_opening_claims;
 use write_parameters::append_opening_variables;
 use write_parameters::append_parameters;
@@ -16,7 +16,8 @@ ghost use Prim.Native.Nat.{_+_, _≤_};
 ghost use lib.ListN.{length};
 ghost use Rattle.write_variables.specs.PerEntry.{countTag};
 ghost use Rattle.memory_append.specs.Append.{Appended};
-ghost use Rattle.write_headings.specs.Parts.{parameterPart, privateOf, variablePart, keyPart, claimPart, headingParts, HeadingFits};
+ghost use Rattle.write_headings.specs.Parts.{parameterPart, privateOf, variablePart, keyPart};
+ghost use Rattle.write_headings.specs.Parts.{claimsOf, claimPart, headingParts, HeadingFits};
 
 fn append_parameter_part(file: &[u8], function_at: usize, out: &mut [u8], at: usize) -> usize
     requires { ⌜ («function_at» ≤ 200000) × (at + length (parameterPart (now file) «function_at») ≤ length (now out)) ⌝ }
@@ -52,13 +53,21 @@ fn append_key_part(log: &[u16], out: &mut [u8], at: usize) -> usize
     end
 }
 
-fn append_claim_part(private: usize, log: &[u16], claims: &[u8], out: &mut [u8], at: usize) -> usize
-    requires { ⌜ (private + countTag 1 (now log) ≤ 65535) × (at + length (claimPart private (now log) (now claims)) ≤ length (now out)) ⌝ }
-    ensures { λ r. ⌜ Appended (now (out .entry)) (now (out .exit)) at (claimPart private (now (log .entry)) (now (claims .entry))) r ⌝ }
+fn append_claim_part(
+    private: usize,
+    log: &[u16],
+    numbers: &[u16],
+    out: &mut [u8],
+    at: usize,
+) -> usize
+    requires { ⌜ (private + countTag 1 (now log) ≤ 65535)
+        × (at + length (claimPart private (now log) (claimsOf (now numbers))) ≤ length (now out)) ⌝ }
+    ensures { λ r. ⌜ Appended (now (out .entry)) (now (out .exit)) at
+        (claimPart private (now (log .entry)) (claimsOf (now (numbers .entry)))) r ⌝ }
 {
     let count = append_two_bytes(private + count_tag(log, CLAIM_LOGGED), out, at);
     let opened = append_opening_claims(private, out, count);
-    append(claims, out, opened)
+    append_claims(numbers, numbers.len() / 4, out, opened)
 }
 
 fn private_of(file: &[u8], function_at: usize) -> usize
@@ -69,25 +78,25 @@ fn private_of(file: &[u8], function_at: usize) -> usize
     count_private(file, function_at + 1, count)
 }
 
-// `made` is how many variables the log makes, `claims` the bytes of its constraints, and `root` the body's root.
+// `made` is how many variables the log makes, `numbers` its constraints, four numbers each, and `root` the body's root.
 pub fn append_heading(
     file: &[u8],
     function_at: usize,
     made: usize,
     log: &[u16],
-    claims: &[u8],
+    numbers: &[u16],
     root: usize,
     out: &mut [u8],
     from: usize,
 ) -> usize
-    requires { ⌜ HeadingFits (now file) «function_at» made (now log) (now claims) root from (length (now out)) ⌝ }
+    requires { ⌜ HeadingFits (now file) «function_at» made (now log) (claimsOf (now numbers)) root from (length (now out)) ⌝ }
     ensures { λ r. ⌜ Appended (now (out .entry)) (now (out .exit)) from
-        (headingParts (now (file .entry)) «function_at» made (now (log .entry)) (now (claims .entry)) root) r ⌝ }
+        (headingParts (now (file .entry)) «function_at» made (now (log .entry)) (claimsOf (now (numbers .entry))) root) r ⌝ }
 {
     let private = private_of(file, function_at);
     let parameters = append_parameter_part(file, function_at, out, from);
     let variables = append_variable_part(private, made, log, out, parameters);
     let keys = append_key_part(log, out, variables);
-    let constraints = append_claim_part(private, log, claims, out, keys);
+    let constraints = append_claim_part(private, log, numbers, out, keys);
     append_two_bytes(root, out, constraints)
 }

@@ -8,7 +8,7 @@ use Rattle.definitions.specs.ContractFile.{Node}
 use Rattle.rewrite_events.specs.Events.{Event}
 use Rattle.rewrite_log.specs.Entries.{Entries, noEntry, entryThen}
 use Rattle.rewrite_log.proofs.FiveNumbers.{entries-length}
-use Rattle.write_logged_steps.specs.Held.{Holds, HoldsEvents}
+use Rattle.write_logged_steps.specs.Held.{HoldsEvents}
 
 -- The numbers of events in two parts.
 record Parts (nodes : List Node) (first second : List Event) (numbers : List ℕ) : Type 0 where

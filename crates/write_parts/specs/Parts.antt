@@ -63,8 +63,7 @@ pub record FunctionsReady (file : List ℕ) (first count : ℕ) (source : List �
   pub behindFields : from ≡ 1 + 3 * fieldCount file + 1
 
 -- Space that the writing of a function uses, by the file's nodes.
-pub record Scratch (file log roots numbers claims : List ℕ) : Type 0 where
+pub record Scratch (file log roots numbers : List ℕ) : Type 0 where
   pub logSpace : 15 * nodeCount file ≤ length log
   pub rootSpace : 3 * nodeCount file + 8 ≤ length roots
   pub numberSpace : 4 * nodeCount file ≤ length numbers
-  pub claimSpace : 6 * nodeCount file ≤ length claims

@@ -1,8 +1,6 @@
 // 01, Rewriting: the written file in two buffers, one of fields and functions' headings, one of nodes.
 use file_bytes::function_end;
 use file_bytes::read_layout;
-use file_decoded::node_room;
-use file_source::decode_source;
 use memory_append::append_byte;
 use write_crossings::Counts;
 use write_crossings::no_counts;
@@ -12,6 +10,7 @@ use write_extents::behind;
 use write_fields::append_field_section;
 use write_functions::write_function;
 ghost use Rattle.definitions.specs.ContractFile.{functionCount};
+ghost use Rattle.file_accepted.specs.Context.{Source};
 ghost use Rattle.write_parts.specs.Parts.{Ready, Scratch, FunctionsReady, FunctionsPut, PartsPut};
 
 // All functions once they are written: how far they reach, and what is counted of each.
@@ -29,13 +28,12 @@ fn write_functions(
     log: &mut [u16],
     roots: &mut [u16],
     numbers: &mut [u16],
-    claims: &mut [u8],
     headings: &mut [u8],
     from: usize,
     nodes: &mut [u8],
 ) -> Functions
     requires { ⌜ (FunctionsReady (now file) first count (now source) from (now headings) (now nodes))
-        × (Scratch (now file) (now log) (now roots) (now numbers) (now claims)) ⌝ }
+        × (Scratch (now file) (now log) (now roots) (now numbers)) ⌝ }
     ensures { λ r. ⌜ FunctionsPut (now (file .entry)) (functionCount (now (file .entry))) from
         (now (headings .entry)) (now (headings .exit)) (now (nodes .entry)) (now (nodes .exit))
         (r .extent .end) (r .extent .nodes) (r .counts .crossings) ⌝ }
@@ -55,7 +53,6 @@ fn write_functions(
             log,
             roots,
             numbers,
-            claims,
             headings,
             all.end,
             nodes,
@@ -72,35 +69,33 @@ fn write_functions(
     }
 }
 
-// The whole file: fields, count of functions, functions. The first four buffers are scratch space.
+// The whole file: fields, count of functions, functions. The nodes are decoded, and the first three buffers are scratch space.
 pub fn write_parts(
     file: &[u8],
+    source: &[u16],
     log: &mut [u16],
     roots: &mut [u16],
     numbers: &mut [u16],
-    claims: &mut [u8],
     headings: &mut [u8],
     nodes: &mut [u8],
 ) -> Functions
-    requires { ⌜ (Ready (now file) (now headings) (now nodes))
-        × (Scratch (now file) (now log) (now roots) (now numbers) (now claims)) ⌝ }
+    requires { ⌜ (Source (now file) (now source))
+        × (Ready (now file) (now headings) (now nodes))
+        × (Scratch (now file) (now log) (now roots) (now numbers)) ⌝ }
     ensures { λ r. ⌜ PartsPut (now (file .entry)) (now (headings .entry)) (now (headings .exit))
         (now (nodes .entry)) (now (nodes .exit)) (r .extent .end) (r .extent .nodes) (r .counts .crossings) ⌝ }
 {
     let layout = read_layout(file);
     let fields = append_field_section(file, headings, 0);
     let from = append_byte(layout.functions as u8, headings, fields);
-    let mut room = node_room();
-    let count = decode_source(file, &mut room[..]);
     write_functions(
         file,
         layout.functions_at + 1,
         layout.functions,
-        &room[..count],
+        source,
         log,
         roots,
         numbers,
-        claims,
         headings,
         from,
         nodes,

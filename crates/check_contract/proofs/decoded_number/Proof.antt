@@ -7,6 +7,7 @@ use Rattle.definitions.specs.Basics.{any}
 use Rattle.definitions.specs.ContractFile.{Sections}
 use Rattle.check_contract.specs.Decoding.{contractNumber}
 use Rattle.check_contract.proofs.Order.{few-parameters}
+use Rattle.check_contract.proofs.Sources.{source-decoded}
 use borrow.Author.Needs.{needs}
 use Rattle.check_contract.proofs.decoded_number.Statement.{statement}
 use Rattle.check_contract.proofs.decoded_number.Tie as tie
@@ -21,4 +22,7 @@ decoded-number-spec =
     (λ c. search needs)
     (λ c. search needs)
     (λ c. search needs)
-    (λ c. c .before .before .slices-number .ensures ∙ ap contractNumber (c .before .before .before .before .before .before .before .before .before .before .before .before .before .before .before .before .decode .ensures .are)))
+    (λ c. let start = c .before .before .before .before .before .before .before .before .before .before .before .before .before .before .before .before .before .before .before .before .before .before .before .before .before .before .before in let decode = c .before .before .before .before .before .before .before .before .before .before .before .before .before .before .before .before .decode in (
+      c .before .before .slices-number .ensures ∙ ap contractNumber (decode .ensures .are),
+      source-decoded _ _ _ _ _ _ _ _ _ _ (start .pre .decodable) (decode .ensures) (decode .kept .1 .1 .1 .1 .1 .0),
+    )))

@@ -15,4 +15,4 @@ decode-spec =
     (λ c κs. let start = c .before .before .before .before .before .before .before .before .before .before .before .before .before .before .before .before .before .before .before in nodes-there _ _ _ _ _ _ (start .pre))
     (λ c. search needs) (λ c. search needs) (λ c. search needs) (λ c. search needs)
     (λ c. let nodes = c .before .before in let functions = nodes .before .before .before .before .before .before .before in let fields = functions .before .before .before .before .before .before in let start = fields .before .before .before .before .before .before .before in
-    decoded _ _ _ _ _ _ (start .pre) _ _ _ _ (fields .copy-bytes .ensures) (functions .decode-functions .ensures) (nodes .decode-nodes .ensures .0 .0)))
+    decoded _ _ _ _ _ _ (start .pre) _ _ _ _ (fields .copy-bytes .ensures) (functions .decode-functions .ensures) (nodes .decode-nodes .ensures .0 .0) (nodes .decode-nodes .ensures .1)))

@@ -13,29 +13,29 @@ pub write-in-spec : {M : Type 1} → statement M
 write-in-spec =
     tie.close (tie.spec
     (λ c κs. search needs)
-    (λ c. let start = c .before .before .before .before .before .before .before .before .before .before .before .before .before .before .before .before .before .before .before .before .before .before .before .before .before .before .before in let args-file = start .args .file .now in
-    let pre = start .pre .0 .accepted in omega (arith, parts-fit args-file _ _ _ _ _ _ _ (c .before .before .before .before .before .before .before .before .before .before .before .before .write-parts .ensures) pre))
-    (λ c. let start = c .before .before .before .before .before .before .before .before .before .before .before .before .before .before .before .before .before .before .before .before .before .before .before .before .before .before .before in let args-file = start .args .file .now in
-    let pre = start .pre .0 .accepted in omega (arith, headings-fit-by-nodes args-file _ _ _ _ _ _ _ (c .before .before .before .before .before .before .before .before .before .before .before .before .write-parts .ensures) pre, start .pre .0 .headingSpace, c .before .before .before .before .before .before .before .before .before .before .before .before .write-parts .kept))
-    (λ c. let put = c .before .before .before .before .before .before .before .before .before .before .before .before .before .write-parts .ensures in let front = front-stored _ _ _ _ (put .headings) (put .end) in put .end ∙ sym (ap length front))
-    (λ c. let start = c .before .before .before .before .before .before .before .before .before .before .before .before .before .before .before .before .before .before .before .before .before .before .before .before .before .before .before .before in let args-file = start .args .file .now in
-    let pre = start .pre .0 .accepted in omega (arith, parts-fit-by-nodes args-file _ _ _ _ _ _ _ (c .before .before .before .before .before .before .before .before .before .before .before .before .before .write-parts .ensures) pre, start .pre .0 .nodeSpace, c .before .before .before .before .before .before .before .before .before .before .before .before .before .write-parts .kept))
-    (λ c. let start = c .before .before .before .before .before .before .before .before .before .before .before .before .before .before .before .before .before .before .before .before .before .before .before .before .before .before .before .before .before in let args-file = start .args .file .now in
-    let pre = start .pre .0 .accepted in let write-parts = c .before .before .before .before .before .before .before .before .before .before .before .before .before .before .write-parts .ensures in
+    (λ c. let start = c .before .before .before .before .before .before .before .before .before .before .before .before .before .before .before .before .before .before .before .before .before .before .before .before in let args-file = start .args .file .now in
+    let pre = start .pre .1 .accepted in omega (arith, parts-fit args-file _ _ _ _ _ _ _ (c .before .before .before .before .before .before .before .before .before .before .write-parts .ensures) pre))
+    (λ c. let start = c .before .before .before .before .before .before .before .before .before .before .before .before .before .before .before .before .before .before .before .before .before .before .before .before in let args-file = start .args .file .now in
+    let pre = start .pre .1 .accepted in omega (arith, headings-fit-by-nodes args-file _ _ _ _ _ _ _ (c .before .before .before .before .before .before .before .before .before .before .write-parts .ensures) pre, start .pre .1 .headingSpace, c .before .before .before .before .before .before .before .before .before .before .write-parts .kept))
+    (λ c. let put = c .before .before .before .before .before .before .before .before .before .before .before .write-parts .ensures in let front = front-stored _ _ _ _ (put .headings) (put .end) in put .end ∙ sym (ap length front))
+    (λ c. let start = c .before .before .before .before .before .before .before .before .before .before .before .before .before .before .before .before .before .before .before .before .before .before .before .before .before in let args-file = start .args .file .now in
+    let pre = start .pre .1 .accepted in omega (arith, parts-fit-by-nodes args-file _ _ _ _ _ _ _ (c .before .before .before .before .before .before .before .before .before .before .before .write-parts .ensures) pre, start .pre .1 .nodeSpace, c .before .before .before .before .before .before .before .before .before .before .before .write-parts .kept))
+    (λ c. let start = c .before .before .before .before .before .before .before .before .before .before .before .before .before .before .before .before .before .before .before .before .before .before .before .before .before .before in let args-file = start .args .file .now in
+    let pre = start .pre .1 .accepted in let write-parts = c .before .before .before .before .before .before .before .before .before .before .before .before .write-parts .ensures in
     let put = write-parts in let back = front-stored _ _ _ _ (put .nodes) (nodes-long args-file _ _ _ _ _ _ _ put pre) in nodes-long args-file _ _ _ _ _ _ _ put pre ∙ sym (ap length back))
-    (λ c κs. let start = c .before .before .before .before .before .before .before .before .before .before .before .before .before .before .before .before .before .before .before .before .before .before .before .before .before .before .before .before .before .before in
-    let args-file = start .args .file .now in let pre = start .pre .0 .accepted in
-    let write-parts = c .before .before .before .before .before .before .before .before .before .before .before .before .before .before .before .write-parts .ensures in
+    (λ c κs. let start = c .before .before .before .before .before .before .before .before .before .before .before .before .before .before .before .before .before .before .before .before .before .before .before .before .before .before .before in
+    let args-file = start .args .file .now in let pre = start .pre .1 .accepted in
+    let write-parts = c .before .before .before .before .before .before .before .before .before .before .before .before .before .write-parts .ensures in
     let put = write-parts in
     let fit = parts-fit args-file _ _ _ _ _ _ _ write-parts pre in
     let front = ap length (front-stored _ _ _ _ (put .headings) (put .end)) in
     let back = ap length (front-stored _ _ _ _ (put .nodes) (nodes-long args-file _ _ _ _ _ _ _ put pre)) in
     let long = nodes-long args-file _ _ _ _ _ _ _ put pre in
     (omega (arith, put .end), omega arith))
-    (λ c. search needs) (λ c. search needs) (λ c. search needs) (λ c. search needs) (λ c. search needs) (λ c. search needs) (λ c. search needs)
-    (λ c. let start = c .before .before .before .before .before .before .before .before .before .before .before .before .before .before .before .before .before .before .before .before .before .before .before .before .before .before .before .before .before .before .before .before .before in
-    let args-file = start .args .file .now in let pre = start .pre .0 .accepted in
-    let write-parts = c .before .before .before .before .before .before .before .before .before .before .before .before .before .before .before .before .before .before .write-parts .ensures in
+    (λ c. search needs) (λ c. search needs) (λ c. search needs) (λ c. search needs) (λ c. search needs) (λ c. search needs)
+    (λ c. let start = c .before .before .before .before .before .before .before .before .before .before .before .before .before .before .before .before .before .before .before .before .before .before .before .before .before .before .before .before .before .before in
+    let args-file = start .args .file .now in let pre = start .pre .1 .accepted in
+    let write-parts = c .before .before .before .before .before .before .before .before .before .before .before .before .before .before .before .before .write-parts .ensures in
     let put = write-parts in
     let front = front-stored _ _ _ _ (put .headings) (put .end) in
     let back = front-stored _ _ _ _ (put .nodes) (nodes-long args-file _ _ _ _ _ _ _ put pre) in

@@ -1,0 +1,19 @@
+-- Number 2 lets 512 nodes pass.
+use native.Mathlib.Omega.{arith}
+use Rattle.theory_accepted.proofs.Sentences.{accepted-settled}
+use Rattle.file_accepted.proofs.Accepted.{few-nodes}
+use borrow.Author.Needs.{needs}
+use Rattle.write_contract.proofs.write_accepted_long.Statement.{statement}
+use Rattle.write_contract.proofs.write_accepted_long.Tie as tie
+
+pub write-accepted-long-spec : {M : Type 1} → statement M
+write-accepted-long-spec =
+    tie.close (tie.spec
+    (λ c. search needs) (λ c. search needs) (λ c. search needs) (λ c. search needs) (λ c. search needs)
+    (λ c κs. let start = c .before .before .before .before .before .before .before .before .before in let accepted = start .pre .0 in
+    let few = few-nodes (start .args .file .now) (accepted-settled (start .args .file .now) accepted .counts) in (
+      start .pre .1,
+      record { accepted = accepted; headingSpace = omega arith; nodeSpace = omega arith },
+      record { logSpace = omega arith; rootSpace = omega arith; numberSpace = omega arith },
+    ))
+    (λ c. search needs) (λ c. search needs))
