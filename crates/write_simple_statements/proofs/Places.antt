@@ -61,9 +61,6 @@ module _ (scope : Scope) (e : Expression) (i : ℕ) (private public : Bool) (fou
       go true = refl
       go false = refl
 
-  pub counted-supplied : private ≡ true → public ≡ true → circuitCount scope e + 1 ≡ placedCount scope private e
-  counted-supplied h k = rw (h, ← found, k)
-
   pub counted-private : public ≡ false → bodyCount scope e ≡ placedCount scope private e
   counted-private k = rw (← found, k) (go private)
     where

@@ -30,10 +30,6 @@ module _ (scope : Scope) (s : Statement) where
   unfolding simple kept commandTree
   form-of-skip i h = rw h
 
-  pub count-of-skip : s ≡ Statement.skip → 0 ≡ simpleCount scope s
-  unfolding simpleCount
-  count-of-skip h = rw h
-
   pub form-of-require : (i : ℕ) (condition : Expression) → s ≡ Statement.require condition → simpleForm scope s i ≡ oneChild 20 0 (bodyForm scope condition i)
   unfolding simple onePart commandTree
   form-of-require i condition h = rw h
@@ -70,14 +66,6 @@ module _ (scope : Scope) (s : Statement) where
   unfolding simple kept commandTree
   form-of-sequence i first second h = rw h
 
-  pub count-of-sequence : (first second : Statement) → s ≡ Statement.sequence first second → 0 ≡ simpleCount scope s
-  unfolding simpleCount
-  count-of-sequence first second h = rw h
-
   pub form-of-conditional : (i : ℕ) (condition : Expression) (then else : Statement) → s ≡ Statement.conditional condition then else → simpleForm scope s i ≡ leaf 16 0 0 0
   unfolding simple kept commandTree
   form-of-conditional i condition then else h = rw h
-
-  pub count-of-conditional : (condition : Expression) (then else : Statement) → s ≡ Statement.conditional condition then else → 0 ≡ simpleCount scope s
-  unfolding simpleCount
-  count-of-conditional condition then else h = rw h

@@ -17,7 +17,6 @@ use write_nodes::put_above_one;
 use write_nodes::put_above_two;
 use write_nodes::put_leaf;
 use write_variable_counts::body_count;
-use write_variable_counts::circuit_count;
 ghost use mathlib.Core.Path.{_≡_};
 ghost use Prim.Native.Nat.{_+_, _<_, _≤_};
 ghost use Rattle.definitions.specs.ContractFile.{nodeCount};
@@ -35,30 +34,6 @@ pub fn is_private_place(file: &[u8], f: usize) -> bool
     ensures { λ r. ⌜ PrivatePlace (now (file .entry)) f r ⌝ }
 {
     field_owner(file, f) != 0
-}
-
-// How many variables node n makes when it is put into a place.
-pub fn placed_count(
-    file: &[u8],
-    function_at: usize,
-    source: &[u16],
-    private: bool,
-    n: usize,
-) -> usize
-    requires { ⌜ (n < nodeCount (now file))
-        × ((Context (now file) «function_at» (now source))
-        × (placedCount (scopeIn (now file) «function_at») private (expressionIn (nodesIn (now file)) n) ≤ 65535)) ⌝ }
-    ensures { λ r. ⌜ r ≡ placedCount (scopeIn (now (file .entry)) «function_at») private (expressionIn (nodesIn (now (file .entry))) n) ⌝ }
-{
-    if private {
-        if is_public(file, function_at, source, n) {
-            circuit_count(file, function_at, source, n) + 1
-        } else {
-            body_count(file, function_at, source, n)
-        }
-    } else {
-        body_count(file, function_at, source, n)
-    }
 }
 
 // The form of node n when it is put into a place.
@@ -88,32 +63,6 @@ pub fn write_placed_form(
         }
     } else {
         write_body_form(file, function_at, source, n, i, out, at, base)
-    }
-}
-
-// How many variables node n makes, a statement that holds no other.
-pub fn statement_count(file: &[u8], function_at: usize, source: &[u16], n: usize) -> usize
-    requires { ⌜ (n < nodeCount (now file))
-        × ((Context (now file) «function_at» (now source))
-        × (simpleCount (scopeIn (now file) «function_at») (statementIn (nodesIn (now file)) n) ≤ 65535)) ⌝ }
-    ensures { λ r. ⌜ r ≡ simpleCount (scopeIn (now (file .entry)) «function_at») (statementIn (nodesIn (now (file .entry))) n) ⌝ }
-{
-    let node = node_at(source, n);
-    let kind = node.kind;
-    match kind {
-        SEQUENCE => 0,
-        FIELD_TAKES => {
-            let private = is_private_place(file, node.arg);
-            placed_count(file, function_at, source, private, node.first)
-        }
-        ENTRY_TAKES => {
-            let private = is_private_place(file, node.arg);
-            let key = body_count(file, function_at, source, node.first);
-            key + placed_count(file, function_at, source, private, node.second)
-        }
-        REQUIRE => body_count(file, function_at, source, node.first),
-        IF => 0,
-        _ => 0,
     }
 }
 
