@@ -109,7 +109,7 @@ module _ (l : Ledger) (function caller : ℕ) (arguments file : List ℕ) (at : 
       record { place = record { near = context .nearFunction; few = context .fewParameters }; count = arguments-counted; room = long }
 
   module _ (source : List ℕ) (held : Source file source) where
-    pub log-room : (private : ℕ) (log : List ℕ) → private ≡ privateIn file at → 7680 ≤ length log → LogRoom file at source private log
+    pub log-room : (private : ℕ) (log : List ℕ) → private ≡ privateIn file at → 5120 ≤ length log → LogRoom file at source private log
     log-room private log counted space = record { held = held; room = room-here; privateIs = counted; space = space }
 
     pub slots-room : (slots : List ℕ) → 1024 ≤ length slots → SlotsRoom file at source slots

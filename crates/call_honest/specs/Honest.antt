@@ -31,12 +31,12 @@ pub record LogRoom (file : List ℕ) (at : ℕ) (source : List ℕ) (private : �
   pub held : Source file source
   pub room : FunctionRoom file at 0 0
   pub privateIs : private ≡ privateIn file at
-  pub space : 7680 ≤ length log
+  pub space : 5120 ≤ length log
 
 -- The first numbers of the log are those of the body's events.
 pub record LogPut (file : List ℕ) (at : ℕ) (log : List ℕ) (r : ℕ) : Type 0 where
   pub entries : Entries (nodesIn file) (eventsIn file at) (take r log)
-  pub fits : r ≤ 7680
+  pub fits : r ≤ 5120
 
 -- On opened places: the entries of the body's events, and the address of each name.
 pub record Told (l : Ledger) (function caller : ℕ) (arguments file : List ℕ) (at : ℕ) (source : List ℕ) (numbers log : List ℕ)

@@ -187,7 +187,7 @@ fn call_opened(
     );
     let count = byte_at(file, function_at);
     let private = count_private(file, function_at + 1, count);
-    let mut log = [0u16; 7680];
+    let mut log = [0u16; 5120];
     let logged = log_body(file, function_at, source, private, &mut log[..]);
     call_worked_out(
         l,

@@ -72,9 +72,9 @@ fn walk_short(
     ensures { λ r. ⌜ Walked (now (file .entry)) «function_at» (now (addresses .entry)) (now (parameters .entry))
         (stateOf (now (places .entry)) (now (variables .entry))) (stateOf (now (places .exit)) (now (variables .exit))) r ⌝ }
 {
-    let mut log = [0u16; 960];
+    let mut log = [0u16; 640];
     let mut numbers = [0u16; 288];
-    let mut roots = [0u16; 200];
+    let mut roots = [0u16; 104];
     let mut nodes = [0u8; 9172];
     walk_function(
         file,
@@ -104,9 +104,9 @@ fn walk_long(
     ensures { λ r. ⌜ Walked (now (file .entry)) «function_at» (now (addresses .entry)) (now (parameters .entry))
         (stateOf (now (places .entry)) (now (variables .entry))) (stateOf (now (places .exit)) (now (variables .exit))) r ⌝ }
 {
-    let mut log = [0u16; 7680];
+    let mut log = [0u16; 5120];
     let mut numbers = [0u16; 2080];
-    let mut roots = [0u16; 1544];
+    let mut roots = [0u16; 776];
     let mut nodes = [0u8; 37844];
     walk_function(
         file,

@@ -31,7 +31,7 @@ module _ (file : List ℕ) (at : ℕ) (room : FunctionRoom file at 0 0) (private
   pub context-at : (source : List ℕ) → Source file source → Context file at source
   context-at source held = context-with file at source (room .context) held
 
-  pub log-ready : (source log : List ℕ) → Source file source → length log ≡ 7680 → Ready file at source (rootAt file at) log (startingAt private) (statementOf file at 0 (rootAt file at))
+  pub log-ready : (source log : List ℕ) → Source file source → length log ≡ 5120 → Ready file at source (rootAt file at) log (startingAt private) (statementOf file at 0 (rootAt file at))
   log-ready source log held l =
       record {
         inside = room .root;
@@ -43,15 +43,15 @@ module _ (file : List ℕ) (at : ℕ) (room : FunctionRoom file at 0 0) (private
     known : Logged (nodesIn file) before after (startingAt (privateIn file at)) end (eventsIn file at)
     known = rw same at logged
 
-    pub log-short : end .at ≤ 7680
+    pub log-short : end .at ≤ 5120
     log-short = omega (arith, known .next, room .events)
 
-    pub log-long : length before ≡ 7680 → length after ≡ 7680
+    pub log-long : length before ≡ 5120 → length after ≡ 5120
     log-long l =
         let size = entries-length (nodesIn file) (known .entries) in
         ap length (known .held) ∙ stored-length before 0 (known .numbers) (omega (arith, room .events)) ∙ l
 
-    pub log-cut : length before ≡ 7680 → length (take (end .at) after) ≡ end .at
+    pub log-cut : length before ≡ 5120 → length (take (end .at) after) ≡ end .at
     log-cut l = length-take-le (end .at) after (omega (arith, log-short, log-long l))
 
     pub variables-told : (addresses flat : List ℕ) (a r : Bool)

@@ -58,7 +58,7 @@ fn log_fits(
     flat: &[u32],
 ) -> bool
     requires { ⌜ Context (now file) «function_at» (now source) ⌝ }
-    requires { ⌜ (from ≤ 1024) × (length (now log) ≤ 7680) ⌝ }
+    requires { ⌜ (from ≤ 1024) × (length (now log) ≤ 5120) ⌝ }
     ensures { λ r. ⌜ r ≡ allFit fitsOrZero (loggedForms (now (file .entry)) «function_at» (now (addresses .entry)) (now (log .entry)))
         (drop from (contentsOf (now (flat .entry)))) ⌝ }
 {
@@ -83,10 +83,10 @@ fn log_fits(
 }
 
 // A log with room for the events of any function.
-fn empty_log() -> [u16; 7680]
-    ensures { λ r. ⌜ length r ≡ 7680 ⌝ }
+fn empty_log() -> [u16; 5120]
+    ensures { λ r. ⌜ length r ≡ 5120 ⌝ }
 {
-    [0u16; 7680]
+    [0u16; 5120]
 }
 
 // The variables of the function that begins at a place, in a call where its names have these addresses.

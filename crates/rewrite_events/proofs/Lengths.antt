@@ -1,4 +1,4 @@
--- A tree has at most three events for each of its nodes.
+-- A tree has at most two events for each of its nodes.
 use mathlib.Core.Bool.{Bool, true, false, _&&_, cond}
 use mathlib.Core.List.{List, [], _∷_}
 use mathlib.Core.Option.{none}
@@ -8,7 +8,7 @@ use lib.ListN.{length, length-append}
 use Rattle.definitions.specs.ContractFile.{meName, Owner, everyone, ownedBy, Expression, Statement, Scope, fieldAt, isDivision}
 use Rattle.definitions.specs.Owners.{nameOf, placeOwner, isPublic}
 use Rattle.definitions.specs.Rewriting.{Guard, under}
-use Rattle.rewrite_events.specs.Events.{Event, suppliedEvent, claimedEvent, readEvent, guardEvent, endEvent, variablesOf, variableCount, Events, noEvents, inTurn, supplyEvents, readEvents, bodyEvents, circuitEvents, placeEvents, ended, branchEvents, statementEvents}
+use Rattle.rewrite_events.specs.Events.{Event, suppliedEvent, claimedEvent, readEvent, guardEvent, endEvent, variablesOf, stepsOf, variableCount, Events, noEvents, inTurn, supplyEvents, readEvents, bodyEvents, circuitEvents, placeEvents, ended, branchEvents, statementEvents}
 use Rattle.theory_trees.specs.Sizes.{expressionSize, statementSize}
 
 -- Each variable has an event of its own.
@@ -20,6 +20,16 @@ variables-few (claimedEvent g i o e ∷ events) = omega (arith, variables-few ev
 variables-few (readEvent s j o e ∷ events) = omega (arith, variables-few events)
 variables-few (guardEvent i ∷ events) = omega (arith, variables-few events)
 variables-few (endEvent i ∷ events) = omega (arith, variables-few events)
+
+-- Each step sets a variable.
+pub steps-few : (scope : Scope) (events : List Event) → length (stepsOf scope events) ≤ variableCount events
+unfolding stepsOf variablesOf
+steps-few scope [] = omega arith
+steps-few scope (suppliedEvent i o e ∷ events) = omega (arith, steps-few scope events)
+steps-few scope (claimedEvent g i o e ∷ events) = omega (arith, steps-few scope events)
+steps-few scope (readEvent s j o e ∷ events) = omega (arith, steps-few scope events)
+steps-few scope (guardEvent i ∷ events) = omega (arith, steps-few scope events)
+steps-few scope (endEvent i ∷ events) = omega (arith, steps-few scope events)
 
 -- At most n events, and as many places left, whatever the first variable is.
 record Within (left n : ℕ) (events : Events) : Type 0 where
@@ -62,64 +72,68 @@ module _ (left n : ℕ) where
   branch-within m inside le h = record { holds = λ i. omega (arith, h (under i) .holds (suc i)) }
 
 module _ (scope : Scope) (g : Guard) where
-  -- A circuit leaves room for the variable and the claim of what is supplied.
+  -- An expression leaves room for one event more: that of a condition's end, or of the claim on what is supplied for a place.
   mutual
     unfolding bodyEvents circuitEvents expressionSize
 
-    body-within : (e : Expression) → Within 0 (3 * expressionSize e) (bodyEvents scope g e)
+    body-within : (e : Expression) → Within 1 (2 * expressionSize e) (bodyEvents scope g e)
     body-within (Expression.constant t v) = nothing-within _ _ (omega arith)
     body-within Expression.me = nothing-within _ _ (omega arith)
     body-within (Expression.field f) = nothing-within _ _ (omega arith)
-    body-within (Expression.entry f key) = larger-within _ _ 0 (3 * expressionSize key) _ (omega arith) (body-within key)
+    body-within (Expression.entry f key) = larger-within _ _ 1 (2 * expressionSize key) _ (omega arith) (body-within key)
     body-within (Expression.parameter k) = nothing-within _ _ (omega arith)
     body-within (Expression.operator o left right) =
-        let parts = 3 * (expressionSize left + expressionSize right) in
-        let bodies = turn-within 0 parts 0 (3 * expressionSize left) 0 (3 * expressionSize right) _ _ (omega arith) (body-within left) (body-within right) in
-        let circuits = turn-within 2 (3 + parts) 2 (3 * expressionSize left) 2 (3 * expressionSize right) _ _ (omega arith) (circuit-within left) (circuit-within right) in
-        either-within _ _ (isPublic scope (Expression.operator o left right)) _ _ (larger-within _ _ 0 parts _ (omega arith) bodies)
-        (supply-within _ _ 2 (3 + parts) g (ownedBy meName) _ _ (omega arith)
-        (either-within _ _ (isPublic scope (Expression.operator o left right) && isDivision o) _ _ (read-within 2 (3 + parts) 0 parts everyone _ _ (omega arith) bodies) circuits))
+        let parts = 2 * (expressionSize left + expressionSize right) in
+        let bodies = turn-within 2 parts 1 (2 * expressionSize left) 1 (2 * expressionSize right) _ _ (omega arith) (body-within left) (body-within right) in
+        let circuits = turn-within 2 parts 1 (2 * expressionSize left) 1 (2 * expressionSize right) _ _ (omega arith) (circuit-within left) (circuit-within right) in
+        either-within _ _ (isPublic scope (Expression.operator o left right)) _ _ (larger-within _ _ 2 parts _ (omega arith) bodies)
+        (supply-within _ _ 1 parts g (ownedBy meName) _ _ (omega arith)
+        (either-within _ _ (isPublic scope (Expression.operator o left right) && isDivision o) _ _ (read-within 1 parts 2 parts everyone _ _ (omega arith) bodies)
+        (larger-within _ _ 2 parts _ (omega arith) circuits)))
     body-within (Expression.negation part) =
-        either-within _ _ (isPublic scope (Expression.negation part)) _ _ (larger-within _ _ 0 (3 * expressionSize part) _ (omega arith) (body-within part))
-        (supply-within _ _ 2 (3 * expressionSize part) g (ownedBy meName) _ _ (omega arith) (circuit-within part))
-    body-within (Expression.reveal part o) = supply-within _ _ 2 (3 * expressionSize part) g o _ _ (omega arith) (circuit-within part)
+        either-within _ _ (isPublic scope (Expression.negation part)) _ _ (larger-within _ _ 1 (2 * expressionSize part) _ (omega arith) (body-within part))
+        (supply-within _ _ 1 (2 * expressionSize part) g (ownedBy meName) _ _ (omega arith) (circuit-within part))
+    body-within (Expression.reveal part o) = supply-within _ _ 1 (2 * expressionSize part) g o _ _ (omega arith) (circuit-within part)
 
-    circuit-within : (e : Expression) → Within 2 (3 * expressionSize e) (circuitEvents scope g e)
+    circuit-within : (e : Expression) → Within 1 (2 * expressionSize e) (circuitEvents scope g e)
     circuit-within (Expression.constant t v) = nothing-within _ _ (omega arith)
     circuit-within Expression.me = nothing-within _ _ (omega arith)
     circuit-within (Expression.field f) = read-within _ _ 0 0 _ (Expression.field f) _ (omega arith) (nothing-within _ _ (omega arith))
-    circuit-within (Expression.entry f key) = read-within _ _ 0 (3 * expressionSize key) _ (Expression.entry f key) _ (omega arith) (body-within key)
+    circuit-within (Expression.entry f key) = read-within _ _ 1 (2 * expressionSize key) _ (Expression.entry f key) _ (omega arith) (body-within key)
     circuit-within (Expression.parameter k) = read-within _ _ 0 0 _ (Expression.parameter k) _ (omega arith) (nothing-within _ _ (omega arith))
     circuit-within (Expression.operator o left right) =
-        let parts = 3 * (expressionSize left + expressionSize right) in
+        let parts = 2 * (expressionSize left + expressionSize right) in
         either-within _ _ (isPublic scope (Expression.operator o left right) && isDivision o) _ _
-        (read-within _ _ 0 parts everyone _ _ (omega arith)
-        (turn-within 0 parts 0 (3 * expressionSize left) 0 (3 * expressionSize right) _ _ (omega arith) (body-within left) (body-within right)))
-        (turn-within _ _ 2 (3 * expressionSize left) 2 (3 * expressionSize right) _ _ (omega arith) (circuit-within left) (circuit-within right))
-    circuit-within (Expression.negation part) = larger-within _ _ 2 (3 * expressionSize part) _ (omega arith) (circuit-within part)
-    circuit-within (Expression.reveal part o) = larger-within _ _ 2 (3 * expressionSize part) _ (omega arith) (circuit-within part)
+        (read-within _ _ 2 parts everyone _ _ (omega arith)
+        (turn-within 2 parts 1 (2 * expressionSize left) 1 (2 * expressionSize right) _ _ (omega arith) (body-within left) (body-within right)))
+        (turn-within _ _ 1 (2 * expressionSize left) 1 (2 * expressionSize right) _ _ (omega arith) (circuit-within left) (circuit-within right))
+    circuit-within (Expression.negation part) = larger-within _ _ 1 (2 * expressionSize part) _ (omega arith) (circuit-within part)
+    circuit-within (Expression.reveal part o) = larger-within _ _ 1 (2 * expressionSize part) _ (omega arith) (circuit-within part)
 
-  place-within : (o : Owner) (e : Expression) → Within 0 (3 * expressionSize e) (placeEvents scope g o e)
-  place-within everyone e = body-within e
+  place-within : (o : Owner) (e : Expression) → Within 0 (2 * expressionSize e + 1) (placeEvents scope g o e)
+  place-within everyone e = larger-within _ _ 1 (2 * expressionSize e) _ (omega arith) (body-within e)
   place-within (ownedBy n) e =
-      either-within _ _ (isPublic scope e) _ _ (supply-within _ _ 2 (3 * expressionSize e) g (ownedBy n) e _ (omega arith) (circuit-within e)) (body-within e)
+      either-within _ _ (isPublic scope e) _ _ (supply-within _ _ 1 (2 * expressionSize e) g (ownedBy n) e _ (omega arith) (circuit-within e))
+      (larger-within _ _ 1 (2 * expressionSize e) _ (omega arith) (body-within e))
 
 module _ (scope : Scope) where
-  statement-within : (s : Statement) (g : Guard) → Within 0 (3 * statementSize s) (statementEvents scope s g)
+  statement-within : (s : Statement) (g : Guard) → Within 0 (2 * statementSize s) (statementEvents scope s g)
   unfolding statementEvents statementSize
   statement-within Statement.skip g = ended-within _ _ 0 0 _ (omega arith) (nothing-within _ _ (omega arith))
   statement-within (Statement.sequence first second) g =
-      turn-within _ _ 0 (3 * statementSize first) 0 (3 * statementSize second) _ _ (omega arith) (statement-within first g) (statement-within second g)
-  statement-within (Statement.assignField f value) g = ended-within _ _ 0 (3 * expressionSize value) _ (omega arith) (place-within scope g (placeOwner ((fieldAt (scope .fields) f) .owner) none) value)
+      turn-within _ _ 0 (2 * statementSize first) 0 (2 * statementSize second) _ _ (omega arith) (statement-within first g) (statement-within second g)
+  statement-within (Statement.assignField f value) g =
+      ended-within _ _ 0 (2 * expressionSize value + 1) _ (omega arith) (place-within scope g (placeOwner ((fieldAt (scope .fields) f) .owner) none) value)
   statement-within (Statement.assignEntry f key value) g =
-      ended-within _ _ 0 (3 * (expressionSize key + expressionSize value)) _ (omega arith)
-      (turn-within _ _ 0 (3 * expressionSize key) 0 (3 * expressionSize value) _ _ (omega arith) (body-within scope g key) (place-within scope g (placeOwner ((fieldAt (scope .fields) f) .owner) (nameOf scope key)) value))
-  statement-within (Statement.require condition) g = ended-within _ _ 0 (3 * expressionSize condition) _ (omega arith) (body-within scope g condition)
+      ended-within _ _ 0 (2 * (expressionSize key + expressionSize value) + 1) _ (omega arith)
+      (turn-within _ _ 1 (2 * expressionSize key) 0 (2 * expressionSize value + 1) _ _ (omega arith) (body-within scope g key)
+      (place-within scope g (placeOwner ((fieldAt (scope .fields) f) .owner) (nameOf scope key)) value))
+  statement-within (Statement.require condition) g = ended-within _ _ 1 (2 * expressionSize condition) _ (omega arith) (body-within scope g condition)
   statement-within (Statement.conditional condition then else) g =
-      turn-within _ _ 0 (3 * expressionSize condition + 1) 0 (3 * (statementSize then + statementSize else) + 2) _ _ (omega arith)
-      (ended-within _ _ 0 (3 * expressionSize condition) _ (omega arith) (body-within scope g condition))
-      (turn-within _ _ 0 (3 * statementSize then + 1) 0 (3 * statementSize else + 1) _ _ (omega arith)
-      (branch-within _ _ (3 * statementSize then) _ (omega arith) (λ k. statement-within then k)) (branch-within _ _ (3 * statementSize else) _ (omega arith) (λ k. statement-within else k)))
+      turn-within _ _ 0 (2 * expressionSize condition) 0 (2 * (statementSize then + statementSize else) + 2) _ _ (omega arith)
+      (ended-within _ _ 1 (2 * expressionSize condition) _ (omega arith) (body-within scope g condition))
+      (turn-within _ _ 0 (2 * statementSize then + 1) 0 (2 * statementSize else + 1) _ _ (omega arith)
+      (branch-within _ _ (2 * statementSize then) _ (omega arith) (λ k. statement-within then k)) (branch-within _ _ (2 * statementSize else) _ (omega arith) (λ k. statement-within else k)))
 
-  pub statement-length : (s : Statement) (g : Guard) (i : ℕ) → length (statementEvents scope s g i) ≤ 3 * statementSize s
+  pub statement-length : (s : Statement) (g : Guard) (i : ℕ) → length (statementEvents scope s g i) ≤ 2 * statementSize s
   statement-length s g i = omega (arith, statement-within s g .holds i)

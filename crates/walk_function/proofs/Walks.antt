@@ -77,7 +77,7 @@ module _ (file : List ℕ) (at : ℕ) (source : List ℕ) (log numbers roots nod
                   space = ready .numbersSpace;
                   bytes = omega (arith, ready .room .nodesByNodes, ready .nodesSpace);
                 };
-            rootsSpace = omega (arith, entries-are, ready .room .eventsByNodes, ready .rootsSpace);
+            rootsSpace = ready .rootsSpace;
           }
 
   module _ (bytes : Bytes file) (numbersAfter nodesAfter : List ℕ) (r : Extent) (put : FunctionPut (writtenIn file at) numbers numbersAfter nodes nodesAfter r) where

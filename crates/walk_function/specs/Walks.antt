@@ -19,7 +19,7 @@ pub record LastReady (nodes : List ℕ) (count : ℕ) (numbers : List ℕ) (cons
 pub record WalkReady (file : List ℕ) (functionStart : ℕ) (source : List ℕ) (log numbers roots nodes : List ℕ) : Type 0 where
   pub held : Source file source
   pub room : FunctionRoom file functionStart 0 0
-  pub logSpace : 15 * nodeCount file ≤ length log
+  pub logSpace : 10 * nodeCount file ≤ length log
   pub numbersSpace : 4 * nodeCount file + 32 ≤ length numbers
-  pub rootsSpace : 3 * nodeCount file + 8 ≤ length roots
+  pub rootsSpace : 3 * nodeCount file + 16 ≤ 2 * length roots
   pub nodesSpace : mostBytes file ≤ length nodes

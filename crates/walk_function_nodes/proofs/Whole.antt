@@ -62,7 +62,7 @@ module _ (file : List ℕ) (at : ℕ) (source : List ℕ) (log : List ℕ) (entr
           privateIs = ready .constraints .logged .privateIs;
           verifies = h ∙ ap (ltb 0) (put .count);
           logged = ready .constraints .logged .held;
-          steps = omega (arith, ready .rootsSpace, ready .constraints .logged .count);
+          steps = omega (arith, ready .rootsSpace, room .steps);
           few = omega (arith, room .variables);
           room =
               record {

@@ -48,7 +48,7 @@ pub record ConstraintsPut (w : WrittenFunction) (private : ℕ) (numbers numbers
 pub record FunctionReady (file : List ℕ) (functionStart : ℕ) (source : List ℕ) (log : List ℕ) (entries private : ℕ)
     (numbers roots out : List ℕ) : Type 0 where
   pub constraints : ConstraintsReady file functionStart source log entries private numbers out
-  pub rootsSpace : entries + 8 ≤ length roots
+  pub rootsSpace : 3 * nodeCount file + 16 ≤ 2 * length roots
 
 -- A function's nodes, numbered from 0, and its constraints' numbers, and how many they are.
 pub record FunctionPut (w : WrittenFunction) (numbers numbersAfter out after : List ℕ) (r : Extent) : Type 0 where

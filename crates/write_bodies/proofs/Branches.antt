@@ -4,14 +4,14 @@ use mathlib.Core.List.{List, [], _∷_, _++_}
 use Prim.Native.Nat.{ℕ, suc, _+_, _*_, _-_, _<_, _≤_}
 use native.Mathlib.Numerals.{add-one}
 use native.Mathlib.Omega.{arith}
-use lib.ListN.{length, length-append}
+use lib.ListN.{length}
 use Rattle.definitions.specs.ContractFile.{boolean, NodeRecord, node}
 use Rattle.definitions.specs.Rewriting.{BodyExpression, Command, always, under, Tree, twoChildren, size, nodeBytes, bodyTree, commandTree}
 use Rattle.theory_trees.specs.Trees.{statementIn}
 use Rattle.memory_buffer.specs.Buffer.{stored}
 use Rattle.file_accepted.specs.Context.{nodesIn, scopeIn}
 use Rattle.file_accepted.proofs.Statements.{branches-below}
-use Rattle.rewrite_events.specs.Events.{Event, guardEvent, variablesOf, variableCount, Events, branchEvents, statementEvents}
+use Rattle.rewrite_events.specs.Events.{Event, guardEvent, variablesOf, variableCount, stepsOf, Events, branchEvents, statementEvents}
 use Rattle.rewrite_events.proofs.Appended.{variable-count-append}
 use Rattle.rewrite_log.specs.declared.Position.{Position}
 use Rattle.write_nodes.specs.Numbering.{Room, Numbered}
@@ -24,7 +24,7 @@ use Rattle.write_bodies.specs.Parts.{statementTree, eventsAt, branchTree
 use Rattle.file_decoded.specs.Slices.{recordAt}
 use Rattle.write_bodies.specs.Bodies.{Behind, StatementReady, StatementWritten, BranchReady, BranchWritten, elseGuard, BranchesReady, BranchesWritten}
 use Rattle.write_bodies.proofs.Guards.{statement-alike}
-use Rattle.write_bodies.proofs.Positions.{behind-both}
+use Rattle.write_bodies.proofs.Positions.{steps-both, behind-both}
 
 module _ (file : List ℕ) (functionStart : ℕ) (source : List ℕ) (n : ℕ) (log : List ℕ) (p : Position) (roots out : List ℕ) (at base : ℕ) (ready : BranchReady file functionStart source n log p roots out at base) where
   abbrev j : ℕ
@@ -69,6 +69,10 @@ module _ (file : List ℕ) (functionStart : ℕ) (source : List ℕ) (n : ℕ) (
       ap variableCount events-are ∙ ap suc (statement-alike (scopeIn file functionStart) (statementIn (nodesIn file) n) (under j) always .variables (j + 1) (j + 1))
       ∙ sym (add-one (variableCount (eventsAt file functionStart n (j + 1))))
 
+  branch-steps : length (stepsOf (scopeIn file functionStart) (branchAt file functionStart n j)) ≡ length (stepsOf (scopeIn file functionStart) (own (j + 1)))
+  unfolding stepsOf
+  branch-steps = ap (λ (l : List Event). length (stepsOf (scopeIn file functionStart) l)) events-are
+
   pub inside-place : p .at + 5 ≤ length log
   inside-place = let lengths = branch-length in let space = holds-space (nodesIn file) log (p .at) (branchAt file functionStart n j) (ready .logged) in omega arith
 
@@ -91,7 +95,7 @@ module _ (file : List ℕ) (functionStart : ℕ) (source : List ℕ) (n : ℕ) (
           context = ready .context;
           guard = under j;
           logged = inside-logged;
-          steps = omega (arith, ready .steps);
+          steps = omega (arith, ready .steps, branch-steps);
           few = omega (arith, ready .few);
           room = room-right out at base 17 0 _ _ room-own second 2 two;
         }
@@ -135,13 +139,12 @@ module _ (file : List ℕ) (functionStart : ℕ) (source : List ℕ) (n form : �
   pub then-ready : BranchReady file functionStart source (r .second) log p roots out (at + 8 * form) (base + form)
   then-ready =
       let less = branches-less .0 in
-      let lengths = length-append then else in
       let variables = variable-count-append then else in
       record {
         inside = omega (arith, ready .inside);
         context = ready .context;
         logged = holds-first (nodesIn file) log (p .at) then else (ready .logged);
-        steps = omega (arith, ready .steps);
+        steps = omega (arith, ready .steps, steps-both (scopeIn file functionStart) then else);
         few = omega (arith, ready .few);
         room = room-second (ready .held) at base 21 _ _ _ (ready .room) out form (ready .written);
       }
@@ -154,13 +157,12 @@ module _ (file : List ℕ) (functionStart : ℕ) (source : List ℕ) (n form : �
         → BranchReady file functionStart source (r .third) log (first .next) rootsNow between (at + 8 * form + 8 * first .nodes) (base + form + first .nodes)
     else-ready rootsNow b =
         let less = branches-less .1 in
-        let lengths = length-append then else in
         let variables = variable-count-append then else in
         record {
           inside = omega (arith, ready .inside);
           context = ready .context;
           logged = rw (w .next .place, w .next .variable) (holds-second (nodesIn file) log (p .at) then else (ready .logged));
-          steps = rw (w .next .variable) (omega (arith, ready .steps));
+          steps = rw (w .next .variable) (omega (arith, ready .steps, steps-both (scopeIn file functionStart) then else));
           few = rw (w .next .variable) (omega (arith, ready .few));
           room = rw (w .next .variable) else-room;
         }

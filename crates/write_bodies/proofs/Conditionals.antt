@@ -3,7 +3,7 @@ use mathlib.Core.Path.{_≡_, refl, ap, sym, subst, _∙_}
 use mathlib.Core.List.{List, _++_}
 use Prim.Native.Nat.{ℕ, _+_, _*_, _-_, _≤_}
 use native.Mathlib.Omega.{arith}
-use lib.ListN.{length, take, length-append}
+use lib.ListN.{length, take}
 use Rattle.definitions.specs.Basics.{flatMap}
 use Rattle.definitions.specs.ContractFile.{Statement, NodeRecord}
 use Rattle.definitions.specs.Owners.{ownerOf}
@@ -29,9 +29,9 @@ use Rattle.write_bodies.specs.Parts.{commandOf, eventsOf, branchCommand,
 use Rattle.file_decoded.specs.Slices.{recordAt}
 use Rattle.write_logged_steps.specs.Held.{HoldsEvents}
 use Rattle.write_bodies.specs.Bodies.{Behind, StatementReady, StatementWritten, ConditionReady, ConditionWritten, elseGuard, branchesAt, BranchesReady, BranchesWritten}
-use Rattle.write_bodies.proofs.Guards.{steps-few, condition-alike}
+use Rattle.write_bodies.proofs.Guards.{condition-alike}
 use Rattle.write_bodies.proofs.Commands.{branching-command}
-use Rattle.write_bodies.proofs.Positions.{turn-first, turn-second, behind-both}
+use Rattle.write_bodies.proofs.Positions.{turn-first, turn-second, steps-both, turn-steps, behind-both}
 
 module _ (file : List ℕ) (functionStart : ℕ) (source : List ℕ) (n : ℕ) (log : List ℕ) (p : Position) (roots out : List ℕ) (at base : ℕ) (ready : StatementReady file functionStart source n log p roots out at base)
     (r : NodeRecord) (same : r ≡ recordAt source n) (kind : (recordAt source n) .kind ≡ 21) where
@@ -66,9 +66,6 @@ module _ (file : List ℕ) (functionStart : ℕ) (source : List ℕ) (n : ℕ) (
   unfolding statementEvents inTurn
   events-are = ap (λ (x : Statement). eventsOf (scopeIn file functionStart) x i) is
 
-  lengths-are : length (eventsAt file functionStart n i) ≡ length (conditionAt file functionStart (r .first) i) + length (branchesAt file functionStart r guard)
-  lengths-are = ap length events-are ∙ length-append (conditionAt file functionStart (r .first) i) _
-
   variables-are : variableCount (eventsAt file functionStart n i)
       ≡ variableCount (conditionAt file functionStart (r .first) i) + variableCount (branchesAt file functionStart r guard)
   variables-are = ap variableCount events-are ∙ variable-count-append (conditionAt file functionStart (r .first) i) _
@@ -88,22 +85,26 @@ module _ (file : List ℕ) (functionStart : ℕ) (source : List ℕ) (n : ℕ) (
   room-own : Room out at base (commandTree (stepsBefore steps rest))
   room-own = room-as out at base _ _ tree-is (ready .room)
 
-  steps-made : length (stepsOf (scopeIn file functionStart) (conditionAt file functionStart (r .first) i)) ≡ length steps
+  own-steps : length (stepsOf (scopeIn file functionStart) (inTurn (condition (ready .guard)) branches i)) ≤ length roots
+  unfolding statementEvents
+  own-steps =
+      subst (λ (x : Statement). length (stepsOf (scopeIn file functionStart) (statementEvents (scopeIn file functionStart) x (ready .guard) i)) ≤ length roots) is (ready .steps)
+
+  steps-made : length (stepsOf (scopeIn file functionStart) (condition (ready .guard) i)) ≡ length steps
   steps-made =
-      ap length (ended-made (scopeIn file functionStart) always _ (bodyEvents (scopeIn file functionStart) always (expressionIn (nodesIn file) (r .first))) i
-      (body-made (scopeIn file functionStart) always (expressionIn (nodesIn file) (r .first)) i) .steps)
+      ap length (ended-made (scopeIn file functionStart) (ready .guard) _ (bodyEvents (scopeIn file functionStart) (ready .guard) (expressionIn (nodesIn file) (r .first))) i
+      (body-made (scopeIn file functionStart) (ready .guard) (expressionIn (nodesIn file) (r .first)) i) .steps)
 
   enough : length steps ≤ length roots
+  unfolding inTurn
   enough =
-      let fewer = steps-few (scopeIn file functionStart) (conditionAt file functionStart (r .first) i) in
+      let all = own-steps in
       let same = steps-made in
-      let events = lengths-are in
-      omega (arith, ready .steps)
+      omega (arith, steps-both (scopeIn file functionStart) (condition (ready .guard) i) (branches (i + variableCount (condition (ready .guard) i))))
 
   pub condition-ready : ConditionReady file functionStart source (r .first) log p roots out at base
   condition-ready =
       let less = branches-below file functionStart source (ready .context) n (ready .inside) r same own-kind .0 in
-      let events = lengths-are in
       let variables = variables-are in
       record {
         inside = omega (arith, ready .inside);
@@ -136,11 +137,10 @@ module _ (file : List ℕ) (functionStart : ℕ) (source : List ℕ) (n : ℕ) (
         → BranchesReady file functionStart source n (recordAt source n) (c .form) log (c .next) rootsNow after place number
     unfolding commandTree inTurn
     branches-ready rootsNow b d =
-        let fewer = steps-few (scopeIn file functionStart) (conditionAt file functionStart (r .first) i) in
+        let all = own-steps in
         let made = steps-made in
         let count = w .put .count in
         let fits = condition-fits .0 in
-        let events = lengths-are in
         let variables = variables-are in
         let alike = condition-alike (scopeIn file functionStart) (expressionIn (nodesIn file) (r .first)) (ready .guard) always in
         let next = w .next .variable in
@@ -150,7 +150,7 @@ module _ (file : List ℕ) (functionStart : ℕ) (source : List ℕ) (n : ℕ) (
           context = ready .context;
           kind = own-kind;
           logged = turn-second (nodesIn file) log p (c .next) (condition (ready .guard)) branches (condition always) alike (w .next) logged;
-          steps = rw next (omega (arith, ready .steps));
+          steps = omega (arith, turn-steps (scopeIn file functionStart) p (c .next) (condition (ready .guard)) branches (condition always) alike (w .next));
           few = rw next (omega (arith, ready .few));
           held = w .between;
           condition = bodyForm (scopeIn file functionStart) (expressionIn (nodesIn file) (r .first)) i;

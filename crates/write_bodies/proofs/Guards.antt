@@ -10,17 +10,7 @@ use Rattle.definitions.specs.ContractFile.{meName, Owner, everyone, ownedBy, Ex
 use Rattle.definitions.specs.Owners.{isPublic, nameOf, placeOwner}
 use Rattle.definitions.specs.Rewriting.{Guard, under}
 use Rattle.rewrite_events.proofs.Appended.{variable-count-append}
-use Rattle.rewrite_events.specs.Events.{Event, suppliedEvent, claimedEvent, readEvent, guardEvent, endEvent, variablesOf, variableCount, stepsOf, Events, noEvents, inTurn, supplyEvents, readEvents, bodyEvents, circuitEvents, placeEvents, ended, branchEvents, statementEvents}
-
--- There are no more steps than events.
-pub steps-few : (scope : Scope) (events : List Event) → length (stepsOf scope events) ≤ length events
-unfolding stepsOf
-steps-few scope [] = omega arith
-steps-few scope (suppliedEvent i o e ∷ events) = let h = steps-few scope events in omega arith
-steps-few scope (claimedEvent g i o e ∷ events) = let h = steps-few scope events in omega arith
-steps-few scope (readEvent s j o e ∷ events) = let h = steps-few scope events in omega arith
-steps-few scope (guardEvent i ∷ events) = let h = steps-few scope events in omega arith
-steps-few scope (endEvent i ∷ events) = let h = steps-few scope events in omega arith
+use Rattle.rewrite_events.specs.Events.{variablesOf, variableCount, Events, noEvents, inTurn, supplyEvents, readEvents, bodyEvents, circuitEvents, placeEvents, ended, branchEvents, statementEvents}
 
 pub record Alike (first second : Events) : Type 0 where
   pub lengths : (i j : ℕ) → length (first i) ≡ length (second j)

@@ -39,7 +39,7 @@ use Rattle.write_stepped_statements.specs.Single.{singleTree}
 use Rattle.write_stepped_statements.proofs.Rewritten.{single-rewritten}
 use Rattle.write_bodies.specs.Parts.{statementTree, eventsAt, conditionSteps}
 use Rattle.write_bodies.specs.Bodies.{Behind, StatementReady, StatementWritten, ConditionReady, ConditionWritten}
-use Rattle.write_bodies.proofs.Guards.{steps-few, statement-alike, condition-alike}
+use Rattle.write_bodies.proofs.Guards.{statement-alike, condition-alike}
 use Rattle.write_bodies.proofs.Commands.{command-same}
 
 simple-variables : (scope : Scope) (s : Statement) (g : Guard) (i : ℕ) → isSimple s ≡ true → (rewriteStatement scope s g i) .variables ≡ (simple scope s i) .variables
@@ -125,13 +125,11 @@ module _ (file : List ℕ) (functionStart : ℕ) (source : List ℕ) (n : ℕ) (
         × (Room out at base (singleTree file functionStart log (p .at) left n (p .variable)))))))
     single-ready =
         let made = ap length (statement-made scope s always (p .variable) .variables ∙ simple-variables scope s always (p .variable) plain) ∙ simple-makes scope s (p .variable) in
-        let same = ap length (steps-are file functionStart log p parts (simple-unended scope (ready .guard) s (p .variable)) held e found) in
-        let fewer = steps-few scope (ended parts (p .variable)) in
+        let same = ap length (steps-are file functionStart log p parts (simple-unended scope (ready .guard) s (p .variable)) held e found
+        ∙ ap (λ (x : Events). stepsOf scope (x (p .variable))) (sym whole-is)) in
         let alike = statement-alike scope s (ready .guard) always in
         let counts : variableCount (ended parts (p .variable)) ≡ variableCount (eventsAt file functionStart n (p .variable)) =
         ap (λ (x : Events). variableCount (x (p .variable))) (sym whole-is) ∙ alike .variables _ _ in
-        let lengths : length (ended parts (p .variable)) ≡ length (eventsAt file functionStart n (p .variable)) =
-        ap (λ (x : Events). length (x (p .variable))) (sym whole-is) ∙ alike .lengths _ _ in
         let within = subst (λ (x : Events). Within scope x) whole-is (statement-within scope s (ready .guard)) in (
           ready .inside,
           (

@@ -4,9 +4,9 @@ use mathlib.Core.List.{List, _++_}
 use Prim.Native.Nat.{ℕ, _+_, _*_}
 use native.Mathlib.Omega.{arith}
 use lib.ListN.{length, length-append}
-use Rattle.definitions.specs.ContractFile.{Node}
-use Rattle.rewrite_events.specs.Events.{Event, variableCount, Events, inTurn}
-use Rattle.rewrite_events.proofs.Appended.{variable-count-append}
+use Rattle.definitions.specs.ContractFile.{Scope, Node}
+use Rattle.rewrite_events.specs.Events.{Event, variableCount, stepsOf, Events, inTurn}
+use Rattle.rewrite_events.proofs.Appended.{variable-count-append, steps-append}
 use Rattle.rewrite_log.specs.declared.Position.{Position}
 use Rattle.write_logged_steps.specs.Held.{HoldsEvents}
 use Rattle.write_logged_steps.proofs.Apart.{holds-first, holds-second}
@@ -27,6 +27,18 @@ turn-second nodes log p q a b c alike behind h =
     subst (λ (m : ℕ). HoldsEvents nodes log m (b (q .variable))) place
     (subst (λ (m : ℕ). HoldsEvents nodes log (p .at + 5 * length (a (p .variable))) (b m)) variable
     (holds-second nodes log (p .at) (a (p .variable)) _ h))
+
+-- There are as many steps of both as of each.
+pub steps-both : (scope : Scope) (first second : List Event) → length (stepsOf scope (first ++ second)) ≡ length (stepsOf scope first) + length (stepsOf scope second)
+steps-both scope first second = ap length (steps-append scope first second) ∙ length-append (stepsOf scope first) (stepsOf scope second)
+
+pub turn-steps : (scope : Scope) (p q : Position) (a b c : Events) → Alike a c → Behind p (c (p .variable)) q
+    → length (stepsOf scope (inTurn a b (p .variable))) ≡ length (stepsOf scope (a (p .variable))) + length (stepsOf scope (b (q .variable)))
+unfolding inTurn
+turn-steps scope p q a b c alike behind =
+    steps-both scope (a (p .variable)) _
+    ∙ ap (λ (m : ℕ). length (stepsOf scope (a (p .variable))) + length (stepsOf scope (b m)))
+    (ap (λ (n : ℕ). p .variable + n) (alike .variables _ _) ∙ sym (behind .variable))
 
 -- One behind another.
 pub behind-both : (p q r : Position) (first second : List Event) → Behind p first q → Behind q second r → Behind p (first ++ second) r

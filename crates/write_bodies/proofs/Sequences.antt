@@ -3,7 +3,7 @@ use mathlib.Core.Path.{_≡_, ap, sym, subst, _∙_}
 use mathlib.Core.List.{List, _++_}
 use Prim.Native.Nat.{ℕ, _+_, _*_, _-_, _<_, _≤_}
 use native.Mathlib.Omega.{arith}
-use lib.ListN.{length, length-append}
+use lib.ListN.{length}
 use Rattle.definitions.specs.ContractFile.{Statement, NodeRecord, node}
 use Rattle.definitions.specs.Rewriting.{always, twoChildren, nodeBytes, commandTree}
 use Rattle.theory_laws.proofs.Records.{kind-as}
@@ -11,7 +11,7 @@ use Rattle.theory_trees.specs.Trees.{statementIn}
 use Rattle.memory_buffer.specs.Buffer.{stored}
 use Rattle.file_accepted.specs.Context.{nodesIn, scopeIn}
 use Rattle.file_accepted.proofs.Statements.{sequence-is, steps-below}
-use Rattle.rewrite_events.specs.Events.{Event, variableCount, Events, inTurn, statementEvents}
+use Rattle.rewrite_events.specs.Events.{Event, variableCount, stepsOf, Events, inTurn, statementEvents}
 use Rattle.rewrite_events.proofs.Appended.{variable-count-append}
 use Rattle.rewrite_log.specs.declared.Position.{Position}
 use Rattle.write_nodes.specs.Numbering.{Room, Numbered}
@@ -23,7 +23,7 @@ use Rattle.write_logged_steps.specs.Held.{HoldsEvents}
 use Rattle.write_bodies.specs.Bodies.{Behind, StatementReady, StatementWritten}
 use Rattle.write_bodies.proofs.Guards.{statement-alike}
 use Rattle.write_bodies.proofs.Commands.{sequence-command}
-use Rattle.write_bodies.proofs.Positions.{turn-first, turn-second, behind-both}
+use Rattle.write_bodies.proofs.Positions.{turn-first, turn-second, steps-both, turn-steps, behind-both}
 
 module _ (file : List ℕ) (functionStart : ℕ) (source : List ℕ) (n : ℕ) (log : List ℕ) (p : Position) (roots out : List ℕ) (at base : ℕ) (ready : StatementReady file functionStart source n log p roots out at base)
     (r : NodeRecord) (same : r ≡ recordAt source n) (kind : (recordAt source n) .kind ≡ 17) where
@@ -52,9 +52,6 @@ module _ (file : List ℕ) (functionStart : ℕ) (source : List ℕ) (n : ℕ) (
   unfolding statementEvents inTurn
   events-are = ap (λ (x : Statement). eventsOf (scopeIn file functionStart) x i) is
 
-  lengths-are : length (eventsAt file functionStart n i) ≡ length (eventsAt file functionStart (r .first) i) + length (eventsAt file functionStart (r .second) middle)
-  lengths-are = ap length events-are ∙ length-append (eventsAt file functionStart (r .first) i) _
-
   variables-are : variableCount (eventsAt file functionStart n i) ≡ variableCount (eventsAt file functionStart (r .first) i) + variableCount (eventsAt file functionStart (r .second) middle)
   variables-are = ap variableCount events-are ∙ variable-count-append (eventsAt file functionStart (r .first) i) _
 
@@ -71,17 +68,23 @@ module _ (file : List ℕ) (functionStart : ℕ) (source : List ℕ) (n : ℕ) (
   room-own : Room out at base (twoChildren 17 0 (statementTree file functionStart (r .first) i) (statementTree file functionStart (r .second) middle))
   room-own = room-as out at base _ _ tree-is (ready .room)
 
+  own-steps : length (stepsOf (scopeIn file functionStart) (inTurn firstEvents secondEvents i)) ≤ length roots
+  unfolding statementEvents
+  own-steps =
+      subst (λ (x : Statement). length (stepsOf (scopeIn file functionStart) (statementEvents (scopeIn file functionStart) x (ready .guard) i)) ≤ length roots) is (ready .steps)
+
   pub first-ready : StatementReady file functionStart source (r .first) log p roots out at base
+  unfolding inTurn
   first-ready =
       let less = parts-less .0 in
-      let events = lengths-are in
+      let all = own-steps in
       let variables = variables-are in
       record {
         inside = omega (arith, ready .inside);
         context = ready .context;
         guard = ready .guard;
         logged = turn-first (nodesIn file) log (p .at) firstEvents secondEvents i logged;
-        steps = omega (arith, ready .steps);
+        steps = omega (arith, steps-both (scopeIn file functionStart) (firstEvents i) (secondEvents (i + variableCount (firstEvents i))));
         few = omega (arith, ready .few);
         room = room-left out at base 17 0 _ _ room-own;
       }
@@ -94,7 +97,7 @@ module _ (file : List ℕ) (functionStart : ℕ) (source : List ℕ) (n : ℕ) (
         → StatementReady file functionStart source (r .second) log (first .next) rootsNow between (at + 8 * first .nodes) (base + first .nodes)
     second-ready rootsNow b =
         let less = parts-less .1 in
-        let events = lengths-are in
+        let all = own-steps in
         let variables = variables-are in
         let alike = statement-alike (scopeIn file functionStart) (statementIn (nodesIn file) (r .first)) (ready .guard) always in
         record {
@@ -102,7 +105,7 @@ module _ (file : List ℕ) (functionStart : ℕ) (source : List ℕ) (n : ℕ) (
           context = ready .context;
           guard = ready .guard;
           logged = turn-second (nodesIn file) log p (first .next) firstEvents secondEvents (statementEvents (scopeIn file functionStart) (statementIn (nodesIn file) (r .first)) always) alike (w .next) logged;
-          steps = rw (w .next .variable) (omega (arith, ready .steps));
+          steps = omega (arith, turn-steps (scopeIn file functionStart) p (first .next) firstEvents secondEvents (statementEvents (scopeIn file functionStart) (statementIn (nodesIn file) (r .first)) always) alike (w .next));
           few = rw (w .next .variable) (omega (arith, ready .few));
           room = rw (w .next .variable) second-room;
         }

@@ -12,7 +12,7 @@ use Rattle.definitions.specs.Rewriting.{Command, Guard, inBody, stepsBefore, Tr
 use Rattle.theory_trees.specs.Trees.{expressionIn, statementIn}
 use Rattle.file_accepted.specs.Context.{Context, nodesIn, scopeIn}
 use Rattle.file_accepted.specs.Functions.{rootAt}
-use Rattle.rewrite_events.specs.Events.{Event, variableCount, ended, bodyEvents, statementEvents}
+use Rattle.rewrite_events.specs.Events.{Event, variableCount, stepsOf, ended, bodyEvents, statementEvents}
 use Rattle.rewrite_log.specs.declared.Position.{Position}
 use Rattle.write_nodes.specs.Numbering.{Room, Numbered}
 use Rattle.write_reads.specs.Forms.{bodyForm}
@@ -36,7 +36,8 @@ pub record StatementReady (file : List ℕ) (functionStart : ℕ) (source : List
   pub guard : Guard
   pub logged : HoldsEvents (nodesIn file) log (p .at)
       (statementEvents (scopeIn file functionStart) (statementIn (nodesIn file) n) guard (p .variable))
-  pub steps : length (eventsAt file functionStart n (p .variable)) ≤ length roots
+  pub steps : length (stepsOf (scopeIn file functionStart)
+      (statementEvents (scopeIn file functionStart) (statementIn (nodesIn file) n) guard (p .variable))) ≤ length roots
   pub few : p .variable + variableCount (eventsAt file functionStart n (p .variable)) < 65535
   pub room : Room out at base (statementTree file functionStart n (p .variable))
 
@@ -50,7 +51,7 @@ pub record BranchReady (file : List ℕ) (functionStart : ℕ) (source : List �
   pub inside : n < nodeCount file
   pub context : Context file functionStart source
   pub logged : HoldsEvents (nodesIn file) log (p .at) (branchAt file functionStart n (p .variable))
-  pub steps : length (branchAt file functionStart n (p .variable)) ≤ length roots
+  pub steps : length (stepsOf (scopeIn file functionStart) (branchAt file functionStart n (p .variable))) ≤ length roots
   pub few : p .variable + variableCount (branchAt file functionStart n (p .variable)) < 65535
   pub room : Room out at base (branchTree file functionStart n (p .variable))
 
@@ -101,7 +102,7 @@ pub record BranchesReady (file : List ℕ) (functionStart : ℕ) (source : List 
   pub context : Context file functionStart source
   pub kind : own .kind ≡ 21
   pub logged : HoldsEvents (nodesIn file) log (p .at) (branchesAt file functionStart own (p .variable))
-  pub steps : length (branchesAt file functionStart own (p .variable)) ≤ length roots
+  pub steps : length (stepsOf (scopeIn file functionStart) (branchesAt file functionStart own (p .variable))) ≤ length roots
   pub few : p .variable + variableCount (branchesAt file functionStart own (p .variable)) < 65535
   pub held : List ℕ
   pub condition : Tree
@@ -121,7 +122,7 @@ pub record PassageReady (file : List ℕ) (functionStart : ℕ) (source : List �
   pub context : Context file functionStart source
   pub root : rootAt file functionStart < nodeCount file
   pub logged : HoldsEvents (nodesIn file) log 0 (eventsAt file functionStart (rootAt file functionStart) private)
-  pub steps : length (eventsAt file functionStart (rootAt file functionStart) private) ≤ length roots
+  pub steps : length (stepsOf (scopeIn file functionStart) (eventsAt file functionStart (rootAt file functionStart) private)) ≤ length roots
   pub few : private + variableCount (eventsAt file functionStart (rootAt file functionStart) private) < 65535
   pub room : Room out at base (passageTree file functionStart private verified)
 
@@ -133,6 +134,6 @@ pub record BodyReady (file : List ℕ) (functionStart : ℕ) (source : List ℕ)
   pub privateIs : private ≡ privateIn file functionStart
   pub verifies : verified ≡ ltb 0 (length ((writtenIn file functionStart) .constraints))
   pub logged : HoldsEvents (nodesIn file) log 0 (eventsIn file functionStart)
-  pub steps : length (eventsIn file functionStart) + 8 ≤ length roots
+  pub steps : length (stepsOf (scopeIn file functionStart) (eventsIn file functionStart)) + 8 ≤ length roots
   pub few : privateIn file functionStart + variableCount (eventsIn file functionStart) < 65535
   pub room : Room out at base (commandTree ((writtenIn file functionStart) .body))

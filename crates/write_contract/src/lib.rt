@@ -50,10 +50,10 @@ fn write_accepted_short(file: &[u8], source: &[u16], out: &mut [u8]) -> Answer
     ensures { λ r. ⌜ Promised (now (file .entry)) (now (out .entry)) (now (out .exit)) (r .number) (r .length)
         (r .counts .crossings) ⌝ }
 {
-    let mut log = [0u16; 960];
-    let mut roots = [0u16; 200];
+    let mut log = [0u16; 640];
+    let mut roots = [0u16; 104];
     let mut numbers = [0u16; 256];
-    let mut headings = [0u8; 2450];
+    let mut headings = [0u8; 2130];
     let mut nodes = [0u8; 9172];
     write_in(
         file,
@@ -72,10 +72,10 @@ fn write_accepted_long(file: &[u8], source: &[u16], out: &mut [u8]) -> Answer
     ensures { λ r. ⌜ Promised (now (file .entry)) (now (out .entry)) (now (out .exit)) (r .number) (r .length)
         (r .counts .crossings) ⌝ }
 {
-    let mut log = [0u16; 7680];
-    let mut roots = [0u16; 1544];
+    let mut log = [0u16; 5120];
+    let mut roots = [0u16; 776];
     let mut numbers = [0u16; 2048];
-    let mut headings = [0u8; 7378];
+    let mut headings = [0u8; 4818];
     let mut nodes = [0u8; 37844];
     write_in(
         file,

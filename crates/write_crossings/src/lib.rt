@@ -23,7 +23,7 @@ pub fn no_counts() -> Counts
 
 // The reads of the private parameters, and the log's entries that make a variable of an origin below 4: supplied and read ones.
 pub fn count_crossings(private: usize, log: &[u16]) -> u16
-    requires { ⌜ (private ≤ 1024) × (length (now log) ≤ 7680) ⌝ }
+    requires { ⌜ (private ≤ 1024) × (length (now log) ≤ 5120) ⌝ }
     ensures { λ r. ⌜ r ≡ private + (countTag 0 (now (log .entry)) + countTag 2 (now (log .entry))) ⌝ }
 {
     let made = count_tag(log, SUPPLIED_LOGGED) + count_tag(log, READ_LOGGED);

@@ -1,4 +1,4 @@
--- The headings alone: 97 bytes for a function, and 11 for each node of its body.
+-- The headings alone: 97 bytes for a function, and 6 for each node of its body.
 use mathlib.Core.Path.{ap}
 use mathlib.Core.List.{List, [], _∷_, map}
 use Prim.Native.Nat.{ℕ, _+_, _*_, _≤_}
@@ -11,12 +11,11 @@ use Rattle.rewrite_events.specs.Events.{variablesOf, constraintsOf}
 use Rattle.rewrite_events.proofs.Functions.{opening, functionScope, functionEvents, function-variables, function-constraints}
 use Rattle.write_room.specs.Sizes.{bodiesSize, fewParameters}
 use Rattle.write_room.proofs.Functions.{heading-length, openings-variables, openings-constraints, private-length}
-use Rattle.write_function_room.proofs.Sparse.{variables-sparse}
-use Rattle.write_function_room.proofs.Claims.{claims-few}
+use Rattle.write_function_room.proofs.Weights.{statement-weight}
 
 module _ (fields : List Field) where
   pub function-heading : (n : ℕ) (g : Function) → length (g .parameters) ≤ 8
-      → length (functionBytes n (rewriteFunction fields g)) ≤ 97 + 11 * statementSize (g .body)
+      → length (functionBytes n (rewriteFunction fields g)) ≤ 97 + 6 * statementSize (g .body)
   unfolding rewriteFunction
   function-heading n g few =
       let w = rewriteFunction fields g in
@@ -32,12 +31,11 @@ module _ (fields : List Field) where
         openings-variables ks 0,
         openings-constraints ks 0,
         private-length 0 (g .parameters),
-        variables-sparse (functionScope fields g) (g .body) always (length (opening fields g .variables)),
-        claims-few (functionScope fields g) (g .body) always (length (opening fields g .variables)),
+        statement-weight (functionScope fields g) (g .body) always (length (opening fields g .variables)),
       )
 
   pub functions-headings : (n : ℕ) (gs : List Function) → fewParameters gs
-      → length (functionsBytes n (map (rewriteFunction fields) gs)) ≤ 97 * length gs + 11 * bodiesSize gs
+      → length (functionsBytes n (map (rewriteFunction fields) gs)) ≤ 97 * length gs + 6 * bodiesSize gs
   unfolding functionsWritten bodiesSize fewParameters
   functions-headings n [] few = omega arith
   functions-headings n (g ∷ gs) few =

@@ -1,5 +1,5 @@
 pub mod Sparse
-pub mod Claims
+pub mod Weights
 pub mod Owners
 pub mod Written
 pub mod Headings

@@ -17,9 +17,9 @@ use Rattle.file_accepted.specs.Context.{nodesIn, fieldsIn, parametersIn, scopeI
 use Rattle.file_accepted.specs.Functions.{functionStart, rootAt}
 use Rattle.file_accepted.proofs.Accepted.{few-functions, few-fields, known-of}
 use Rattle.file_accepted.proofs.Functions.{functions-count, function-in, root-below}
-use Rattle.rewrite_events.specs.Events.{variableCount, constraintsOf}
+use Rattle.rewrite_events.specs.Events.{variableCount, stepsOf, constraintsOf}
 use Rattle.theory_trees.specs.Sizes.{statementSize}
-use Rattle.rewrite_events.proofs.Lengths.{statement-length}
+use Rattle.rewrite_events.proofs.Lengths.{statement-length, steps-few}
 use Rattle.write_variables.specs.Variables.{ownersFit}
 use Rattle.write_parameters.specs.Parameters.{privateCount}
 use Rattle.write_room.specs.Sizes.{bodiesSize}
@@ -28,7 +28,7 @@ use Rattle.write_room.proofs.Acceptance.{counts, few-parameters}
 use Rattle.write_room.proofs.Room.{nodes-suffice, room-suffices, room-by-nodes}
 use Rattle.write_function_room.specs.Functions.{functionIn, privateIn, eventsIn, headingsBefore, nodesBefore, mostBytes, mostHeadings, writtenFunctions, FunctionRoom}
 use Rattle.write_function_room.proofs.Sparse.{variables-sparse}
-use Rattle.write_function_room.proofs.Claims.{claims-few}
+use Rattle.write_function_room.proofs.Weights.{statement-weight}
 use Rattle.rewrite_event_owners.proofs.Files.{owners-listed}
 use Rattle.write_function_room.proofs.Owners.{owners-fit}
 use Rattle.write_function_room.proofs.Written.{before-step, headings-before-step, written-length, functions-counted}
@@ -79,7 +79,7 @@ module _ (file : List ℕ) (accepted : checkNumber file ≡ 0) where
       let few = counts file accepted in
       let all : take (functionCount file) (writtenFunctions file) ≡ writtenFunctions file = ap (λ (n : ℕ). take n (writtenFunctions file)) (sym (functions-counted file)) ∙ take-length (writtenFunctions file) in
       let long = ap (λ (ws : List WrittenFunction). length (functionsBytes 0 ws)) all in
-      let own : length (functionsBytes 0 (writtenFunctions file)) ≤ 97 * length (c .functions) + 11 * bodiesSize (c .functions) =
+      let own : length (functionsBytes 0 (writtenFunctions file)) ≤ 97 * length (c .functions) + 6 * bodiesSize (c .functions) =
       functions-headings (c .fields) 0 (c .functions) (few-parameters (nodesIn file) ((sectionsOf file) .functions) (few .parameters)) in
       omega (arith, functions-count file, functions-few, few-fields file (settled .counts), nodes-suffice file accepted, count-of-nodes file)
 
@@ -107,14 +107,18 @@ module _ (file : List ℕ) (accepted : checkNumber file ≡ 0) where
     body-small : statementSize body ≤ 512
     body-small = omega (arith, body-within-nodes, function-context .fewNodes)
 
-    events-by-nodes : length (eventsIn file start) ≤ 3 * nodeCount file
+    events-by-nodes : length (eventsIn file start) ≤ 2 * nodeCount file
     events-by-nodes = omega (arith, statement-length (scopeIn file start) body always (privateIn file start), body-within-nodes)
 
-    events-few : length (eventsIn file start) ≤ 1536
+    events-few : length (eventsIn file start) ≤ 1024
     events-few = omega (arith, events-by-nodes, function-context .fewNodes)
 
     claims-by-nodes : length (constraintsOf (scopeIn file start) (eventsIn file start)) ≤ nodeCount file
-    claims-by-nodes = omega (arith, claims-few (scopeIn file start) body always (privateIn file start), body-within-nodes)
+    claims-by-nodes = omega (arith, statement-weight (scopeIn file start) body always (privateIn file start), body-within-nodes)
+
+    steps-by-nodes : 2 * length (stepsOf (scopeIn file start) (eventsIn file start)) ≤ 3 * nodeCount file
+    steps-by-nodes =
+        omega (arith, steps-few (scopeIn file start) (eventsIn file start), variables-sparse (scopeIn file start) body always (privateIn file start), body-within-nodes)
 
     variables-few : privateIn file start + variableCount (eventsIn file start) ≤ 1024
     variables-few =
@@ -134,6 +138,7 @@ module _ (file : List ℕ) (accepted : checkNumber file ≡ 0) where
           root = function-root;
           events = events-few;
           eventsByNodes = events-by-nodes;
+          steps = steps-by-nodes;
           claims = claims-by-nodes;
           variables = variables-few;
           owners = owners-small;
@@ -153,6 +158,7 @@ module _ (file : List ℕ) (accepted : checkNumber file ≡ 0) where
           root = function-root;
           events = events-few;
           eventsByNodes = events-by-nodes;
+          steps = steps-by-nodes;
           claims = claims-by-nodes;
           variables = variables-few;
           owners = owners-small;

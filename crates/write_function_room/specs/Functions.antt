@@ -9,7 +9,7 @@ use Rattle.definitions.specs.Rewriting.{functionsBytes}
 use Rattle.theory_trees.specs.Trees.{statementIn}
 use Rattle.file_accepted.specs.Context.{Known, nodesIn, fieldsIn, parametersIn, scopeIn}
 use Rattle.file_accepted.specs.Functions.{rootAt}
-use Rattle.rewrite_events.specs.Events.{Event, variableCount, constraintsOf, statementEvents}
+use Rattle.rewrite_events.specs.Events.{Event, variableCount, stepsOf, constraintsOf, statementEvents}
 use Rattle.write_variables.specs.Variables.{ownersFit}
 use Rattle.write_parameters.specs.Parameters.{privateCount}
 
@@ -43,15 +43,16 @@ mostBytes file = 5076 + 64 * nodeCount file
 
 -- The headings alone are never longer.
 abbrev pub mostHeadings : List ℕ → ℕ
-mostHeadings file = 1746 + 11 * nodeCount file
+mostHeadings file = 1746 + 6 * nodeCount file
 
 -- The function that begins at a place can be written: its heading from a place of so many bytes on, its nodes from a number of as many
 -- bytes on.
 pub record FunctionRoom (file : List ℕ) (at from base : ℕ) : Type 0 where
   pub context : Known file at
   pub root : rootAt file at < nodeCount file
-  pub events : length (eventsIn file at) ≤ 1536
-  pub eventsByNodes : length (eventsIn file at) ≤ 3 * nodeCount file
+  pub events : length (eventsIn file at) ≤ 1024
+  pub eventsByNodes : length (eventsIn file at) ≤ 2 * nodeCount file
+  pub steps : 2 * length (stepsOf (scopeIn file at) (eventsIn file at)) ≤ 3 * nodeCount file
   pub claims : length (constraintsOf (scopeIn file at) (eventsIn file at)) ≤ nodeCount file
   pub variables : privateIn file at + variableCount (eventsIn file at) ≤ 1024
   pub owners : ownersFit (eventsIn file at)

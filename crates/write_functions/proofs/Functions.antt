@@ -60,7 +60,7 @@ module _ (file : List ℕ) (at : ℕ) (source : List ℕ) (log roots numbers hea
         omega (arith, written .told .private, written .told .claims, ready .room .claims, ready .room .context .fewNodes, ready .room .variables)
 
     -- What is counted is the log that the heading's variables are written from.
-    pub log-few : (parts .private ≤ 1024) × (length (take (parts .logged) logAfter) ≤ 7680)
+    pub log-few : (parts .private ≤ 1024) × (length (take (parts .logged) logAfter) ≤ 5120)
     log-few =
         (omega (arith, written .told .private, ready .room .variables), omega (arith, entries-length (nodesIn file) (written .told .entries), ready .room .events))
 
@@ -98,7 +98,7 @@ module _ (file : List ℕ) (at : ℕ) (source : List ℕ) (log roots numbers hea
           privateIs = written .told .private;
           verifies = test ∙ ap (ltb 0) counted;
           logged = events-held;
-          steps = omega (arith, ready .room .eventsByNodes, ready .rootSpace);
+          steps = omega (arith, ready .room .steps, ready .rootSpace);
           few = omega (arith, ready .room .variables);
           room = record { bytes = omega (arith, ready .nodeSpace); numbers = omega arith };
         }

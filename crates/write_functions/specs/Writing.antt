@@ -38,7 +38,7 @@ pub record CircuitsReady (file : List ℕ) (at : ℕ) (source : List ℕ) (log n
   pub from : ℕ
   pub room : FunctionRoom file at from base
   pub held : Source file source
-  pub logSpace : 15 * nodeCount file ≤ length log
+  pub logSpace : 10 * nodeCount file ≤ length log
   pub numberSpace : 4 * nodeCount file ≤ length numbers
   pub nodeSpace : mostBytes file ≤ length out
 
@@ -57,8 +57,8 @@ pub record FunctionReady (file : List ℕ) (at : ℕ) (source : List ℕ) (log r
     (nodes : List ℕ) (base : ℕ) : Type 0 where
   pub room : FunctionRoom file at from base
   pub held : Source file source
-  pub logSpace : 15 * nodeCount file ≤ length log
-  pub rootSpace : 3 * nodeCount file + 8 ≤ length roots
+  pub logSpace : 10 * nodeCount file ≤ length log
+  pub rootSpace : 3 * nodeCount file + 16 ≤ 2 * length roots
   pub numberSpace : 4 * nodeCount file ≤ length numbers
   pub headingSpace : mostHeadings file ≤ length headings
   pub nodeSpace : mostBytes file ≤ length nodes

@@ -64,6 +64,6 @@ pub record FunctionsReady (file : List ℕ) (first count : ℕ) (source : List �
 
 -- Space that the writing of a function uses, by the file's nodes.
 pub record Scratch (file log roots numbers : List ℕ) : Type 0 where
-  pub logSpace : 15 * nodeCount file ≤ length log
-  pub rootSpace : 3 * nodeCount file + 8 ≤ length roots
+  pub logSpace : 10 * nodeCount file ≤ length log
+  pub rootSpace : 3 * nodeCount file + 16 ≤ 2 * length roots
   pub numberSpace : 4 * nodeCount file ≤ length numbers
