@@ -1,32 +1,53 @@
 -- The ledger of a refused and of an accepted call.
-use mathlib.Core.Path.{_≡_, refl, ap, sym, _∙_}
-use mathlib.Core.Bool.{Bool, cond}
+use mathlib.Core.Path.{_≡_, ap, sym, _∙_}
+use mathlib.Core.Bool.{Bool, false, cond}
 use mathlib.Core.List.{List}
 use Prim.Native.Nat.{ℕ}
 use borrow.Author.Tests.{eq-eqb, ne-eqb}
+use Rattle.definitions.specs.Basics.{isZero}
+use Rattle.definitions.specs.Ledger as ledger
 use Rattle.definitions.specs.Ledger.{callNumber, callWith, honestParametersOf, honestVariablesOf, ledgerAfterCall}
 use Rattle.ledger_struct.specs.declared.Ledger as code
 use Rattle.ledger_struct.specs.Ledgers.{ledgerOf}
-use Rattle.call.specs.Calls.{CalledOn}
+use Rattle.ledger_struct.specs.Whole.{laidOver, Laid}
+use Rattle.call.specs.declared.Called.{Called}
+use Rattle.call.specs.Calls.{structAfterCall, CalledOn}
 
-module _ (m : code.Ledger) (function caller : ℕ) (arguments : List ℕ) (number : ℕ) (same : number ≡ callNumber (ledgerOf m) function caller arguments) where
-  -- A refused call hands back the ledger that it was given.
-  pub refused : (number ≡ 0 → ⊥) → CalledOn m function caller arguments (record { number = number; ledger = m })
-  unfolding ledgerAfterCall
-  refused other =
-      record {
-        number = same;
-        ledger = sym (ap (λ (b : Bool). cond b (callWith (ledgerOf m) function caller (honestParametersOf (ledgerOf m) function caller arguments) (honestVariablesOf (ledgerOf m) function caller arguments)) (ledgerOf m)) (ne-eqb _ 0 (λ e. other (same ∙ e))));
-        kept = λ _. refl;
-      }
+module _ (m : code.Ledger) (function caller : ℕ) (arguments : List ℕ) where
+  abbrev made : ledger.Ledger
+  made =
+      callWith (ledgerOf m) function caller (honestParametersOf (ledgerOf m) function caller arguments) (honestVariablesOf (ledgerOf m) function caller arguments)
 
-  pub taken : number ≡ 0 → (after : code.Ledger)
-      → ledgerOf after ≡ callWith (ledgerOf m) function caller (honestParametersOf (ledgerOf m) function caller arguments) (honestVariablesOf (ledgerOf m) function caller arguments)
-      → CalledOn m function caller arguments (record { number = 0; ledger = after })
+  -- Where the number is known, so are both ledgers.
+  by-number : (b : Bool) → isZero (callNumber (ledgerOf m) function caller arguments) ≡ b
+      → ledgerAfterCall (ledgerOf m) function caller arguments ≡ cond b made (ledgerOf m)
   unfolding ledgerAfterCall
-  taken none after made =
-      record {
-        number = sym none ∙ same;
-        ledger = made ∙ sym (ap (λ (b : Bool). cond b (callWith (ledgerOf m) function caller (honestParametersOf (ledgerOf m) function caller arguments) (honestVariablesOf (ledgerOf m) function caller arguments)) (ledgerOf m)) (eq-eqb _ 0 (sym same ∙ none)));
-        kept = λ other. absurd (other (sym same ∙ none));
-      }
+  by-number b e = ap (λ (x : Bool). cond x made (ledgerOf m)) e
+
+  pub struct-by-number : (b : Bool) → isZero (callNumber (ledgerOf m) function caller arguments) ≡ b
+      → structAfterCall m function caller arguments ≡ cond b (laidOver m (ledgerAfterCall (ledgerOf m) function caller arguments)) m
+  unfolding structAfterCall
+  struct-by-number b e = ap (λ (x : Bool). cond x (laidOver m (ledgerAfterCall (ledgerOf m) function caller arguments)) m) e
+
+  pub refused-ledger : isZero (callNumber (ledgerOf m) function caller arguments) ≡ false → ledgerAfterCall (ledgerOf m) function caller arguments ≡ ledgerOf m
+  refused-ledger e = by-number false e
+
+  -- A refused call hands back the ledger that it was given, every part of it.
+  pub kept : (r : Called) → CalledOn m function caller arguments r → (callNumber (ledgerOf m) function caller arguments ≡ 0 → ⊥) → r .ledger ≡ m
+  kept r on other = on .whole ∙ struct-by-number _ (ne-eqb _ 0 other)
+
+  module _ (number : ℕ) (same : number ≡ callNumber (ledgerOf m) function caller arguments) where
+    pub refused : (number ≡ 0 → ⊥) → CalledOn m function caller arguments (record { number = number; ledger = m })
+    refused other =
+        let clear = ne-eqb _ 0 (λ e. other (same ∙ e)) in
+        record { number = same; ledger = sym (by-number _ clear); whole = sym (struct-by-number _ clear) }
+
+    pub taken : number ≡ 0 → (after : code.Ledger) → Laid m made after → CalledOn m function caller arguments (record { number = 0; ledger = after })
+    taken none after laid =
+        let clear = eq-eqb _ 0 (sym same ∙ none) in
+        let is = by-number _ clear in
+        record {
+          number = sym none ∙ same;
+          ledger = laid .means ∙ sym is;
+          whole = laid .whole ∙ ap (laidOver m) (sym is) ∙ sym (struct-by-number _ clear);
+        }

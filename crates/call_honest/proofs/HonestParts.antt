@@ -195,13 +195,12 @@ module _ (l : Ledger) (function caller : ℕ) (arguments file : List ℕ) (at : 
       rw (private-in-file, slots-in-file)
       (variables-honest l function caller arguments (known .clear) (in-file .context .fewFields) log addresses entries-in-file addresses-in-file)
 
-  pub call-honest : (next : ℕ) (parameters variables : List Content) (after : Ledger) → next ≡ suc (l .call)
+  pub call-honest : (next : ℕ) (parameters variables : List Content) → next ≡ suc (l .call)
       → parameters ≡ honestParameters caller next 0 (parametersIn file at) arguments
       → variables ≡ contentsOfCodes (addressFrom addresses) next 0 (codesOf private log) slots
-      → after ≡ callWith l function caller parameters variables
-      → after ≡ callWith l function caller (honestParametersOf l function caller arguments) (honestVariablesOf l function caller arguments)
-  call-honest next parameters variables after follows shown supplied made =
-      made
-      ∙ ap₂ (callWith l function caller)
+      → callWith l function caller parameters variables
+      ≡ callWith l function caller (honestParametersOf l function caller arguments) (honestVariablesOf l function caller arguments)
+  call-honest next parameters variables follows shown supplied =
+      ap₂ (callWith l function caller)
       (shown ∙ ap (λ (n : ℕ). honestParameters caller n 0 (parametersIn file at) arguments) follows ∙ parameters-are)
       (supplied ∙ ap (λ (n : ℕ). contentsOfCodes (addressFrom addresses) n 0 (codesOf private log) slots) follows ∙ variables-are)

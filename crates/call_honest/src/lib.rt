@@ -23,6 +23,7 @@ ghost use Prim.Native.Nat.{_*_, min};
 ghost use lib.ListN.{length};
 ghost use Rattle.definitions.specs.Ledger.{openedNumber, callNumber, callWith, honestParametersOf, honestVariablesOf};
 ghost use Rattle.ledger_struct.specs.Ledgers.{ledgerOf};
+ghost use Rattle.ledger_struct.specs.Whole.{Laid};
 ghost use Rattle.call_honest.specs.Honest.{Opened, LogRoom, LogPut, Told, WorkedOut, ContentsRoom};
 
 // The original works on the places opened.
@@ -67,9 +68,9 @@ fn call_supplied(
     requires { ⌜ (WorkedOut (ledgerOf l) function caller (now arguments)
         (now file) «function_at» (now log) private (now slots) (now addresses))
         × (ContentsRoom (now arguments) (now slots) (now parameters) (now variables)) ⌝ }
-    ensures { λ r. ⌜ ledgerOf r ≡ callWith (ledgerOf l) function caller
+    ensures { λ r. ⌜ Laid l (callWith (ledgerOf l) function caller
         (honestParametersOf (ledgerOf l) function caller (now (arguments .entry)))
-        (honestVariablesOf (ledgerOf l) function caller (now (arguments .entry))) ⌝ }
+        (honestVariablesOf (ledgerOf l) function caller (now (arguments .entry)))) r ⌝ }
 {
     let call = serial_call(l.call);
     put_parameters(file, function_at, caller, call, arguments, parameters);
@@ -92,9 +93,9 @@ fn call_in_room(
 ) -> Ledger
     requires { ⌜ WorkedOut (ledgerOf l) function caller (now arguments)
         (now file) «function_at» (now log) private (now slots) (now addresses) ⌝ }
-    ensures { λ r. ⌜ ledgerOf r ≡ callWith (ledgerOf l) function caller
+    ensures { λ r. ⌜ Laid l (callWith (ledgerOf l) function caller
         (honestParametersOf (ledgerOf l) function caller (now (arguments .entry)))
-        (honestVariablesOf (ledgerOf l) function caller (now (arguments .entry))) ⌝ }
+        (honestVariablesOf (ledgerOf l) function caller (now (arguments .entry)))) r ⌝ }
 {
     let mut parameters = [0u32; 40];
     let mut variables = [0u32; 5120];
@@ -132,9 +133,9 @@ fn call_worked_out(
 ) -> Ledger
     requires { ⌜ Told (ledgerOf l) function caller (now arguments)
         (now file) «function_at» (now source) (now numbers) (now log) private (now addresses) ⌝ }
-    ensures { λ r. ⌜ ledgerOf r ≡ callWith (ledgerOf l) function caller
+    ensures { λ r. ⌜ Laid l (callWith (ledgerOf l) function caller
         (honestParametersOf (ledgerOf l) function caller (now (arguments .entry)))
-        (honestVariablesOf (ledgerOf l) function caller (now (arguments .entry))) ⌝ }
+        (honestVariablesOf (ledgerOf l) function caller (now (arguments .entry)))) r ⌝ }
 {
     let mut slots = [0u64; 1024];
     let made = honest_slots(
@@ -172,9 +173,9 @@ fn call_opened(
     numbers: &mut [u32],
 ) -> Ledger
     requires { ⌜ Opened (ledgerOf l) function caller (now arguments) (now file) «function_at» (now source) (now numbers) ⌝ }
-    ensures { λ r. ⌜ ledgerOf r ≡ callWith (ledgerOf l) function caller
+    ensures { λ r. ⌜ Laid l (callWith (ledgerOf l) function caller
         (honestParametersOf (ledgerOf l) function caller (now (arguments .entry)))
-        (honestVariablesOf (ledgerOf l) function caller (now (arguments .entry))) ⌝ }
+        (honestVariablesOf (ledgerOf l) function caller (now (arguments .entry)))) r ⌝ }
 {
     let mut addresses = [0u32; PARAMETER_CODES_END];
     put_addresses(
@@ -216,9 +217,9 @@ fn call_on(
 ) -> Ledger
     requires { ⌜ ((now file ≡ (ledgerOf l) .file) × (callNumber (ledgerOf l) function caller (now arguments) ≡ 0))
         × ((length (now flat) ≡ 5 * min (l .«place_count») 1024) × (length (now numbers) ≡ min (l .«place_count») 1024)) ⌝ }
-    ensures { λ r. ⌜ ledgerOf r ≡ callWith (ledgerOf l) function caller
+    ensures { λ r. ⌜ Laid l (callWith (ledgerOf l) function caller
         (honestParametersOf (ledgerOf l) function caller (now (arguments .entry)))
-        (honestVariablesOf (ledgerOf l) function caller (now (arguments .entry))) ⌝ }
+        (honestVariablesOf (ledgerOf l) function caller (now (arguments .entry)))) r ⌝ }
 {
     opened_places(l, flat, numbers);
     let function_at = function_start(file, function);
@@ -239,9 +240,9 @@ fn call_on(
 // "The honest call": the call with what the original works out.
 pub fn honest_call(l: Ledger, function: u8, caller: u8, arguments: &[u32]) -> Ledger
     requires { ⌜ callNumber (ledgerOf l) function caller (now arguments) ≡ 0 ⌝ }
-    ensures { λ r. ⌜ ledgerOf r ≡ callWith (ledgerOf l) function caller
+    ensures { λ r. ⌜ Laid l (callWith (ledgerOf l) function caller
         (honestParametersOf (ledgerOf l) function caller (now (arguments .entry)))
-        (honestVariablesOf (ledgerOf l) function caller (now (arguments .entry))) ⌝ }
+        (honestVariablesOf (ledgerOf l) function caller (now (arguments .entry)))) r ⌝ }
 {
     let bytes = l.file;
     let length = at_most(l.file_length, 4596);

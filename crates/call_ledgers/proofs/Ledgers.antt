@@ -1,13 +1,18 @@
 -- The ledgers after a call, put together part by part.
-use mathlib.Core.Path.{_≡_, refl, ap, ap₂, _∙_}
+use mathlib.Core.Path.{_≡_, refl, ap, sym}
+use mathlib.Core.Bool.{Bool, true, false}
 use mathlib.Core.List.{List, [], _∷_}
-use Prim.Native.Nat.{ℕ, zero, suc, _+_, _*_, _<_, _≤_}
+use Prim.Native.Nat.{ℕ, zero, suc, _+_, _*_, _/_, _<_, _≤_}
 use native.Mathlib.Omega.{arith}
 use lib.ListN.{length, take}
-use Rattle.definitions.specs.Ledger.{Content, Ledger}
+use Rattle.definitions.specs.Ledger.{Ledger}
 use Rattle.ledger_struct.specs.declared.Ledger as code
-use Rattle.ledger_struct.specs.Ledgers.{ledgerOf, withCall, withParameters, withVariables, withPlaces}
+use Rattle.ledger_struct.specs.Ledgers.{ledgerOf}
+use Rattle.ledger_struct.specs.Whole.{placesFor, laidOver, Laid}
+use Rattle.ledger_struct.proofs.Meaning.{laid}
+use Rattle.ledger_contents.specs.declared.Place.{Place}
 use Rattle.ledger_contents.specs.Contents.{contentsOf}
+use Rattle.ledger_contents.proofs.FlatContents.{length-contentsOf}
 use Rattle.call_ledgers.specs.Ledgers.{doneLedger, failedLedger, Held}
 
 pub call-of : (l : code.Ledger) → (ledgerOf l) .call ≡ l .call
@@ -17,24 +22,55 @@ call-of l = refl
 pub call-left : (l : code.Ledger) → (ledgerOf l) .call < 65535 → l .call + 1 ≤ 65535
 call-left l h = omega (arith, call-of l)
 
-module _ (m : code.Ledger) (function caller : ℕ) (parameters : List Content) (a b r : Ledger) (shown : a ≡ withParameters (ledgerOf m) parameters) where
+-- The struct of a done call, from its parts.
+module _ (m : code.Ledger) (function caller : ℕ) (parameters : List ℕ) where
   next-call : m .call + 1 ≡ suc ((ledgerOf m) .call)
   next-call = omega (arith, call-of m)
 
-  pub done-after : (variables places : List Content) (c : Ledger) → b ≡ withVariables a variables → c ≡ withPlaces b places → r ≡ withCall c (m .call + 1) function caller 0
-      → r ≡ doneLedger (ledgerOf m) function caller parameters (record { places = places; variables = variables })
-  done-after variables places c set moved called =
-      called
-      ∙ ap₂ (λ (x : Ledger) (n : ℕ). withCall x n function caller 0)
-      (moved ∙ ap (λ (x : Ledger). withPlaces x places) (set ∙ ap (λ (x : Ledger). withVariables x variables) shown)) next-call
+  pub done-after : (variables places : List ℕ) (shown set moved : List Place)
+      → shown ≡ placesFor 8 (contentsOf parameters) → set ≡ placesFor 1024 (contentsOf variables) → moved ≡ placesFor 1024 (contentsOf places)
+      → Laid m (doneLedger (ledgerOf m) function caller (contentsOf parameters) (record { places = contentsOf places; variables = contentsOf variables }))
+      (record {
+        file = m .file;
+        «file_length» = m .«file_length»;
+        call = m .call + 1;
+        function = function;
+        caller = caller;
+        outcome = 0;
+        parameters = shown;
+        «parameter_count» = length parameters / 5;
+        variables = set;
+        «variable_count» = length variables / 5;
+        places = moved;
+        «place_count» = length places / 5;
+      })
+  unfolding laidOver
+  done-after variables places shown set moved a b c =
+      let after = doneLedger (ledgerOf m) function caller (contentsOf parameters) (record { places = contentsOf places; variables = contentsOf variables }) in
+      let over = laid m after refl (λ e. let z : _≡_ {A = Bool} true false = e in cc) in
+      rw (a, b, c, next-call, ← length-contentsOf parameters, ← length-contentsOf variables, ← length-contentsOf places) over
 
-  pub failed-after : (none : List ℕ) → none ≡ [] → b ≡ withVariables a (contentsOf none) → r ≡ withCall b (m .call + 1) function caller 1
-      → r ≡ failedLedger (ledgerOf m) function caller parameters
-  unfolding contentsOf
-  failed-after none empty set called =
-      called
-      ∙ ap₂ (λ (x : Ledger) (n : ℕ). withCall x n function caller 1)
-      (set ∙ ap₂ (λ (x : Ledger) (flat : List ℕ). withVariables x (contentsOf flat)) shown empty) next-call
+  pub failed-after : (none : List ℕ) (shown cleared : List Place) → none ≡ []
+      → shown ≡ placesFor 8 (contentsOf parameters) → cleared ≡ placesFor 1024 (contentsOf none)
+      → Laid m (failedLedger (ledgerOf m) function caller (contentsOf parameters))
+      (record {
+        file = m .file;
+        «file_length» = m .«file_length»;
+        call = m .call + 1;
+        function = function;
+        caller = caller;
+        outcome = 1;
+        parameters = shown;
+        «parameter_count» = length parameters / 5;
+        variables = cleared;
+        «variable_count» = 0;
+        places = m .places;
+        «place_count» = m .«place_count»;
+      })
+  unfolding laidOver contentsOf
+  failed-after none shown cleared empty a b =
+      let over = laid m (failedLedger (ledgerOf m) function caller (contentsOf parameters)) refl (λ e. refl) in
+      rw (a, b, empty, next-call, ← length-contentsOf parameters) over
 
 pub taken-length : (n : ℕ) (xs : List ℕ) → n ≤ length xs → n ≡ length (take n xs)
 taken-length zero xs h = refl

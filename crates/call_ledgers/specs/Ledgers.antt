@@ -3,16 +3,34 @@ use mathlib.Core.List.{List, []}
 use Prim.Native.Nat.{ℕ, suc, _<_, _≤_, _/_}
 use lib.ListN.{length}
 use Rattle.definitions.specs.Ledger.{Content, Ledger, State}
-use Rattle.ledger_struct.specs.Ledgers.{withCall, withParameters, withVariables, withPlaces}
 
 -- The walk completed, and this is its end.
 abbrev pub doneLedger : Ledger → ℕ → ℕ → List Content → State → Ledger
 doneLedger l function caller parameters end =
-    withCall (withPlaces (withVariables (withParameters l parameters) (end .variables)) (end .places)) (suc (l .call)) function caller 0
+    record {
+      file = l .file;
+      call = suc (l .call);
+      function = function;
+      caller = caller;
+      outcome = 0;
+      parameters = parameters;
+      variables = end .variables;
+      places = end .places;
+    }
 
 -- "A failed call restores every place", and shows its public parameters alone.
 abbrev pub failedLedger : Ledger → ℕ → ℕ → List Content → Ledger
-failedLedger l function caller shown = withCall (withVariables (withParameters l shown) []) (suc (l .call)) function caller 1
+failedLedger l function caller shown =
+    record {
+      file = l .file;
+      call = suc (l .call);
+      function = function;
+      caller = caller;
+      outcome = 1;
+      parameters = shown;
+      variables = [];
+      places = l .places;
+    }
 
 -- Contents that the ledger's arrays hold.
 pub record Held (l : Ledger) (parameters variables : List ℕ) : Type 0 where

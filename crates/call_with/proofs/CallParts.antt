@@ -54,12 +54,11 @@ module _ (l : Ledger) (function caller : ℕ) (parameters variables : List Conte
     module _ (r : Bool) (end : State)
         (ran : Ran (walkCompletes address (fieldsIn file) parameters ((writtenIn file at) .constraints) (record { places = places; variables = variables }) ((writtenIn file at) .body))
         (stateAfter address (fieldsIn file) parameters (record { places = places; variables = variables }) ((writtenIn file at) .body)) end r) where
-      pub call-done : r ≡ true → (after : Ledger) → after ≡ doneLedger l function caller parameters end → after ≡ callWith l function caller parameters variables
+      pub call-done : r ≡ true → doneLedger l function caller parameters end ≡ callWith l function caller parameters variables
       unfolding calledAs
-      call-done yes-it-is after made =
-          made ∙ ap (doneLedger l function caller parameters) (ran .state yes-it-is) ∙ sym (call-found ∙ rw (sym (ran .done) ∙ yes-it-is))
+      call-done yes-it-is =
+          ap (doneLedger l function caller parameters) (ran .state yes-it-is) ∙ sym (call-found ∙ rw (sym (ran .done) ∙ yes-it-is))
 
-      pub call-failed : r ≡ false → (after : Ledger) → after ≡ failedLedger l function caller (publicOf (parametersIn file at) parameters)
-          → after ≡ callWith l function caller parameters variables
+      pub call-failed : r ≡ false → failedLedger l function caller (publicOf (parametersIn file at) parameters) ≡ callWith l function caller parameters variables
       unfolding calledAs
-      call-failed not-done after made = made ∙ sym (call-found ∙ rw (sym (ran .done) ∙ not-done))
+      call-failed not-done = sym (call-found ∙ rw (sym (ran .done) ∙ not-done))

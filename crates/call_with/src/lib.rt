@@ -21,6 +21,7 @@ ghost use Rattle.definitions.specs.Ledger.{plainNumber, publicOf, callWith};
 ghost use Rattle.ledger_contents.specs.Contents.{contentsOf};
 ghost use Rattle.ledger_addresses.specs.Addresses.{AddressRoom, Addressed};
 ghost use Rattle.ledger_struct.specs.Ledgers.{ledgerOf};
+ghost use Rattle.ledger_struct.specs.Whole.{Laid};
 ghost use Rattle.file_accepted.specs.Context.{parametersIn, Source};
 ghost use Rattle.walk_expressions.specs.Evaluation.{stateOf};
 ghost use Rattle.write_function_room.specs.Functions.{FunctionRoom};
@@ -169,8 +170,8 @@ fn failed_call(
     parameters: &[u32],
 ) -> Ledger
     requires { ⌜ (PublicRoom (now file) «function_at» (now parameters) (now parameters)) × ((ledgerOf l) .call < 65535) ⌝ }
-    ensures { λ r. ⌜ ledgerOf r ≡ failedLedger (ledgerOf l) function caller
-        (publicOf (parametersIn (now (file .entry)) «function_at») (contentsOf (now (parameters .entry)))) ⌝ }
+    ensures { λ r. ⌜ Laid l (failedLedger (ledgerOf l) function caller
+        (publicOf (parametersIn (now (file .entry)) «function_at») (contentsOf (now (parameters .entry))))) r ⌝ }
 {
     let mut shown = [0u32; 40];
     let count = put_public(file, function_at, parameters, &mut shown[..]);
@@ -190,8 +191,8 @@ fn call_on(
 ) -> Ledger
     requires { ⌜ ((now file ≡ (ledgerOf l) .file) × (Callable (ledgerOf l) function (now parameters) (now variables)))
         × (length (now places) ≡ 5 * min (l .«place_count») 1024) ⌝ }
-    ensures { λ r. ⌜ ledgerOf r ≡ callWith (ledgerOf l) function caller (contentsOf (now (parameters .entry)))
-        (contentsOf (now (variables .entry))) ⌝ }
+    ensures { λ r. ⌜ Laid l (callWith (ledgerOf l) function caller (contentsOf (now (parameters .entry)))
+        (contentsOf (now (variables .entry)))) r ⌝ }
 {
     let function_at = function_start(file, function);
     let mut room = node_room();
@@ -230,8 +231,8 @@ pub fn call_with(
     variables: &mut [u32],
 ) -> Ledger
     requires { ⌜ Callable (ledgerOf l) function (now parameters) (now variables) ⌝ }
-    ensures { λ r. ⌜ ledgerOf r ≡ callWith (ledgerOf l) function caller (contentsOf (now (parameters .entry)))
-        (contentsOf (now (variables .entry))) ⌝ }
+    ensures { λ r. ⌜ Laid l (callWith (ledgerOf l) function caller (contentsOf (now (parameters .entry)))
+        (contentsOf (now (variables .entry)))) r ⌝ }
 {
     let bytes = l.file;
     let length = at_most(l.file_length, 4596);

@@ -1,18 +1,22 @@
 -- The numbers at deployment are one a place and bytes, and the parts of the deployed ledger.
 use mathlib.Core.Path.{_≡_, refl, ap, sym, _∙_}
 use mathlib.Core.Bool.{Bool, true, false, cond}
-use mathlib.Core.List.{List, [], _∷_, _++_, map}
+use mathlib.Core.List.{List, [], _∷_, _++_, map, zipWith}
 use Prim.Native.Nat.{ℕ, zero, suc, _+_, _<_, _≤_}
-use native.Mathlib.Numerals.{add-one}
 use native.Mathlib.Omega.{arith}
-use lib.ListN.{length, getD, set, take, drop, replicate, length-append, length-map, length-replicate}
-use lib.Seq.{getD-drop, take-suc, take-suc-set, take-all}
+use lib.ListN.{length, getD, drop, replicate, length-append, length-map, length-replicate}
+use lib.Seq.{getD-drop}
 use Rattle.theory_laws.proofs.Lists.{numbers-length}
 use Rattle.definitions.specs.ContractFile.{Field, Shape, plainField, finalField, mapping, isFinal, isMapping, contractOf, fieldCount, contractIn}
-use Rattle.definitions.specs.Original.{numbersFrom, placeCount, perPlace, deployedNumbers}
+use Rattle.definitions.specs.Original.{numbersFrom, placeCount, perPlace, placeReaders, deployedNumbers}
+use Rattle.definitions.specs.Ledger.{deployed}
 use Rattle.file_accepted.specs.Context.{fieldsIn}
-use Rattle.deploy_ledger.specs.Deployments.{Deployable}
-use Rattle.deploy_ledger.proofs.Places.{asked}
+use Rattle.ledger_contents.specs.declared.Place.{Place}
+use Rattle.ledger_struct.specs.declared.Ledger.{Ledger}
+use Rattle.ledger_struct.specs.Whole.{padded, zeroPlace, placesFor, structOf}
+use Rattle.ledger_struct.proofs.Padding.{padded-none}
+use Rattle.deploy_ledger.specs.Deployments.{contentsFor, Deployable}
+use Rattle.deploy_ledger.proofs.Places.{asked, contents-length}
 
 pub fields-in : (file : List ℕ) → (contractIn file) .fields ≡ fieldsIn file
 unfolding contractOf fieldsIn
@@ -76,15 +80,6 @@ bytes-deployed (d ∷ ds) addresses h =
     go less more true = bytes-first (getD addresses 0 0) (deployedNumbers ds (drop 1 addresses)) (h 0) less
     go less more false = bytes-append (replicate (placeCount d) 0) (deployedNumbers ds addresses) (bytes-zeros (placeCount d)) more
 
--- One byte more is copied.
-pub copy-next : (file bytes : List ℕ) (i : ℕ) → i < length file → i < length bytes → take i bytes ≡ take i file → take (i + 1) (set bytes i (getD file i 0)) ≡ take (i + 1) file
-copy-next file bytes i h k inv = rw (add-one, take-suc-set bytes i (getD file i 0) k, inv, take-suc file i 0 h)
-
-pub copy-done : (file bytes : List ℕ) (i : ℕ) → i ≤ length file → length file ≤ i → take i bytes ≡ take i file → take (length file) bytes ≡ file
-copy-done file bytes i a b inv =
-    let same : i ≡ length file = omega arith in
-    rw (same, take-all (length file) file (omega arith)) at inv
-
 pub deployable : (file addresses numbers : List ℕ) → fieldCount file ≤ 64 → numbers ≡ deployedNumbers (fieldsIn file) addresses → length numbers ≤ 1024
     → Bytes addresses → Deployable file numbers
 deployable file addresses numbers few e small bytes =
@@ -94,3 +89,31 @@ deployable file addresses numbers few e small bytes =
       fewPlaces = small;
       bytes = λ i. rw e (bytes-deployed (fieldsIn file) addresses bytes i);
     }
+
+-- The deployed struct, from its parts.
+pub deployed-whole : (file addresses numbers bytes : List ℕ) (places : List Place) (count : ℕ) → bytes ≡ padded 4596 0 file
+    → numbers ≡ deployedNumbers (fieldsIn file) addresses → places ≡ placesFor 1024 (contentsFor (placeReaders (fieldsIn file) numbers) numbers)
+    → count ≡ length numbers
+    → _≡_ {A = Ledger}
+    (record {
+      file = bytes;
+      «file_length» = length file;
+      call = 0;
+      function = 0;
+      caller = 0;
+      outcome = 0;
+      parameters = replicate 8 zeroPlace;
+      «parameter_count» = 0;
+      variables = replicate 1024 zeroPlace;
+      «variable_count» = 0;
+      places = places;
+      «place_count» = count;
+    })
+    (structOf (deployed file addresses))
+unfolding structOf deployed contractOf fieldsIn contentsFor placesFor padded zipWith
+deployed-whole file addresses numbers bytes places count a n b c =
+    let each = ap length n ∙ one-number (asked (fieldsIn file) numbers) (fieldsIn file) addresses in
+    let none = padded-none 8 zeroPlace in
+    let none′ = padded-none 1024 zeroPlace in
+    let many = contents-length (placeReaders (fieldsIn file) numbers) numbers (sym each) in
+    rw (a, b, c, none, none′, ← many, n)

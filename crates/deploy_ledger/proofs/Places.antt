@@ -4,8 +4,8 @@ use mathlib.Core.List.{List, [], _∷_, _++_, map, zipWith, append-nil, append-a
 use Prim.Native.Nat.{ℕ, suc, _+_, _-_, _<_, _≤_}
 use native.Mathlib.Numerals.{add-one}
 use native.Mathlib.Omega.{arith}
-use lib.ListN.{length, getD, set, take, drop, length-append, length-map, length-drop, drop-of-length-le}
-use lib.Seq.{drop-cons, drop-drop, take-suc-set, append-snoc}
+use lib.ListN.{length, getD, set, take, drop, replicate, length-append, length-map, length-drop, drop-of-length-le}
+use lib.Seq.{drop-cons, drop-drop, take-suc-set, append-snoc, length-take-le}
 use Rattle.definitions.specs.ContractFile.{Field, FieldOwner, toEveryone, toKey, toFinal, fieldAt}
 use Rattle.definitions.specs.Original as original
 use Rattle.definitions.specs.Original.{numbersFrom, placeCount, perPlace, placeReader, finalAddress}
@@ -15,10 +15,12 @@ use Rattle.ledger_contents.specs.declared.Content.{Content}
 use Rattle.ledger_contents.specs.declared.Place.{Place}
 use Rattle.ledger_contents.specs.Contents.{contentOfCode, contentOfPlace}
 use Rattle.ledger_struct.specs.Ledgers.{contentsIn}
+use Rattle.ledger_struct.specs.Whole.{zeroPlace, placesFor}
+use Rattle.ledger_struct.proofs.Flat.{places-none, place-next}
 use Rattle.ledger_readers.specs.declared.Reader.{Reader}
 use Rattle.ledger_readers.specs.declared.Reader.the-variants.{Anyone, Only}
 use Rattle.ledger_readers.specs.Readers.{readerOfCode, Short}
-use Rattle.deploy_ledger.specs.Deployments.{contentsFor, readersOf, fieldContents}
+use Rattle.deploy_ledger.specs.Deployments.{contentsFor, readersOf, fieldContents, Tidy}
 use Rattle.deploy_ledger.proofs.Numbers.{opened}
 
 -- An address of a place's reader is a byte.
@@ -47,6 +49,12 @@ contents-none : (ns : List ℕ) → contentsFor [] ns ≡ []
 unfolding contentsFor zipWith
 contents-none ns = refl
 
+pub contents-length : (rs : List original.Reader) (ns : List ℕ) → length rs ≡ length ns → length (contentsFor rs ns) ≡ length ns
+contents-length [] [] h = ap length (contents-none [])
+contents-length [] (n ∷ ns) h = absurd (omega arith)
+contents-length (r ∷ rs) [] h = absurd (omega arith)
+contents-length (r ∷ rs) (n ∷ ns) h = ap length (contents-first r rs n ns) ∙ ap suc (contents-length rs ns (omega arith))
+
 contents-append : (rs ss : List original.Reader) (ns : List ℕ) → length rs ≤ length ns → contentsFor (rs ++ ss) ns ≡ contentsFor rs ns ++ contentsFor ss (drop (length rs) ns)
 contents-append [] ss ns h = rw (contents-none ns)
 contents-append (r ∷ rs) ss [] h = absurd (omega arith)
@@ -59,6 +67,30 @@ place-more : (places : List Place) (n m : ℕ) (content : Content) → n < lengt
     → contentsIn m (set places n (record { content = content })) ≡ contentsIn n places ++ (contentOfCode content ∷ [])
 place-more places n m content h e =
     rw (e, take-suc-set places n (record { content = content }) h) (map-append contentOfPlace (take n places) (record { content = content } ∷ []))
+
+-- Places that nothing stands behind, before the first is given its content and after one more is.
+pub tidy-none : (places : List Place) → places ≡ replicate 1024 zeroPlace → Tidy 0 places
+tidy-none places e = e ∙ places-none 1024
+
+pub tidy-next : (places : List Place) (n m : ℕ) (content : Content) → length places ≡ 1024 → n < 1024 → m ≡ suc n → Tidy n places
+    → Tidy m (set places n (record { content = content }))
+tidy-next places n m content long inside e tidy =
+    let contents = contentsIn n places in
+    let count : length contents ≡ n = length-map (take n places) contentOfPlace ∙ length-take-le n places (omega arith) in
+    let put : set (placesFor 1024 contents) n (record { content = content }) ≡ placesFor 1024 (contents ++ (contentOfCode content ∷ [])) =
+    rw count at (place-next 1024 contents content (omega arith)) in
+    ap (λ (l : List Place). set l n (record { content = content })) tidy ∙ put
+    ∙ ap (placesFor 1024) (sym (place-more places n m content (omega arith) e))
+
+pub tidy-first : (p : ℕ) (places : List Place) → Tidy p places → Tidy (p + 0) places
+tidy-first p places h =
+    let same : p + 0 ≡ p = omega arith in
+    rw same h
+
+pub tidy-last : (p count key : ℕ) (places : List Place) → key ≤ count → count ≤ key → Tidy (p + key) places → Tidy (p + count) places
+tidy-last p count key places a b h =
+    let same : key ≡ count = omega arith in
+    rw same at h
 
 module _ (fields : List Field) (numbers : List ℕ) (f p count key : ℕ) where
   abbrev readerAt : ℕ → original.Reader
@@ -142,10 +174,8 @@ module _ (fields : List Field) (numbers : List ℕ) where
         ∙ append-assoc (contentsIn p before) (contentsFor own (drop p numbers)) (contentsFor rest (drop (p + many) numbers))
         ∙ ap (λ (l : List ledger.Content). contentsIn p before ++ l) (sym split ∙ ap (λ (rs : List original.Reader). contentsFor rs (drop p numbers)) (sym step)) ∙ inv
 
-  pub fields-done : (f p : ℕ) (made : List Place) (goal : List ledger.Content) → length fields ≤ f → p + length (perPlace asked (drop f fields)) ≡ length numbers
-      → contentsIn p made ++ contentsFor (perPlace asked (drop f fields)) (drop p numbers) ≡ goal → contentsIn (length numbers) made ≡ goal
+  pub fields-whole : (f p : ℕ) (made : List Place) (goal : List ledger.Content) → length fields ≤ f → p + length (perPlace asked (drop f fields)) ≡ length numbers
+      → contentsIn p made ++ contentsFor (perPlace asked (drop f fields)) (drop p numbers) ≡ goal → Tidy p made → made ≡ placesFor 1024 goal
   unfolding perPlace
-  fields-done f p made goal out counted inv =
-      let none = rw (drop-of-length-le fields out) at counted in
-      let same : p ≡ length numbers = omega arith in
-      sym (append-nil (contentsIn (length numbers) made)) ∙ (rw (drop-of-length-le fields out, contents-none (drop p numbers), same) at inv)
+  fields-whole f p made goal out counted inv tidy =
+      tidy ∙ ap (placesFor 1024) (sym (append-nil (contentsIn p made)) ∙ (rw (drop-of-length-le fields out, contents-none (drop p numbers)) at inv))

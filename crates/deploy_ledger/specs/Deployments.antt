@@ -10,6 +10,7 @@ use Rattle.definitions.specs.Ledger as ledger
 use Rattle.file_accepted.specs.Context.{fieldsIn}
 use Rattle.ledger_contents.specs.declared.Place.{Place}
 use Rattle.ledger_struct.specs.Ledgers.{contentsIn}
+use Rattle.ledger_struct.specs.Whole.{placesFor}
 
 -- Numbers written at the front, and how many they are.
 pub record Numbers (written before after : List ℕ) (count : ℕ) : Type 0 where
@@ -36,8 +37,13 @@ pub record Deployable (file numbers : List ℕ) : Type 0 where
   pub fewPlaces : length numbers ≤ 1024
   pub bytes : (i : ℕ) → getD numbers i 0 < 256
 
+-- Nothing stands behind as many places as counted.
+abbrev pub Tidy : ℕ → List Place → Type 0
+Tidy count places = places ≡ placesFor 1024 (contentsIn count places)
+
 pub record FieldStands (file numbers : List ℕ) (f p count : ℕ) (before after : List Place) : Type 0 where
   pub stands : contentsIn (p + count) after ≡ contentsIn p before ++ fieldContents (fieldsIn file) numbers f p count
+  pub tidy : Tidy p before → Tidy (p + count) after
 
 pub record PlacesStand (file numbers : List ℕ) (after : List Place) : Type 0 where
-  pub stands : contentsIn (length numbers) after ≡ contentsFor (placeReaders (fieldsIn file) numbers) numbers
+  pub whole : after ≡ placesFor 1024 (contentsFor (placeReaders (fieldsIn file) numbers) numbers)

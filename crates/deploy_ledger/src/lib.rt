@@ -4,14 +4,14 @@ use ledger_contents::Content;
 use ledger_contents::Place;
 use ledger_struct::Ledger;
 ghost use mathlib.Core.Path.{_≡_};
-ghost use lib.ListN.{length, getD, replicate, take};
+ghost use lib.ListN.{length, getD, replicate};
 ghost use Prim.Native.Nat.{_+_, _*_, _<_, _≤_};
 ghost use Rattle.memory_buffer.specs.Buffer.{stored};
 ghost use Rattle.definitions.specs.ContractFile.{fieldCount};
 ghost use Rattle.definitions.specs.Original.{deployedNumbers};
 ghost use Rattle.definitions.specs.Ledger.{deployed};
 ghost use Rattle.file_accepted.specs.Context.{fieldsIn};
-ghost use Rattle.ledger_struct.specs.Ledgers.{ledgerOf};
+ghost use Rattle.ledger_struct.specs.Whole.{padded, structOf};
 ghost use Rattle.deploy_ledger.specs.Deployments.{Numbers, Deployable, FieldStands, PlacesStand};
 
 // Zeros from a place on.
@@ -115,7 +115,7 @@ fn put_places(file: &[u8], numbers: &[u32]) -> [Place; 1024]
 // The file at the front of an array of zeros.
 fn copied(file: &[u8]) -> [u8; 4596]
     requires { ⌜ length (now file) ≤ 4596 ⌝ }
-    ensures { λ r. ⌜ take (length (now (file .entry))) r ≡ now (file .entry) ⌝ }
+    ensures { λ r. ⌜ r ≡ padded 4596 0 (now (file .entry)) ⌝ }
 {
     let mut bytes = [0u8; 4596];
     let mut i: usize = 0;
@@ -129,7 +129,7 @@ fn copied(file: &[u8]) -> [u8; 4596]
 // The ledger that a deployment of a checked file gives.
 pub fn deployed(file: &[u8], addresses: &[u8]) -> Ledger
     requires { ⌜ (fieldCount (now file) ≤ 64) × (length (now file) ≤ 4596) ⌝ }
-    ensures { λ r. ⌜ ledgerOf r ≡ deployed (now (file .entry)) (now (addresses .entry)) ⌝ }
+    ensures { λ r. ⌜ r ≡ structOf (deployed (now (file .entry)) (now (addresses .entry))) ⌝ }
 {
     let bytes = copied(file);
     let mut numbers = [0u32; 1024];

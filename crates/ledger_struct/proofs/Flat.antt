@@ -7,14 +7,17 @@ use native.Mathlib.Numerals.{add-one}
 use native.Mathlib.Omega.{arith}
 use borrow.Author.Tests.{leb-true, leb-false}
 use lib.Dec.{leb}
-use lib.ListN.{length, getD, set, take, drop, length-map, take-append-drop}
+use lib.ListN.{length, getD, set, take, drop, replicate, length-map, take-append-drop, List·getD-map}
 use lib.Seq.{take-suc, take-suc-set, take-all, take-append-le, length-take-le}
 use Rattle.definitions.specs.Ledger as ledger
 use Rattle.theory_laws.proofs.Lists.{map-append}
 use Rattle.ledger_contents.specs.declared.Content.{Content}
+use Rattle.ledger_contents.specs.declared.Content.the-variants.{Plain, Cell}
 use Rattle.ledger_contents.specs.declared.Place.{Place}
 use Rattle.ledger_contents.specs.Contents.{contentOfCode, contentOfPlace, contentsOf}
 use Rattle.ledger_contents.proofs.FlatContents.{length-contentsOf}
+use Rattle.ledger_struct.specs.Whole.{padded, codeOf, placeOf, zeroPlace, placesFor}
+use Rattle.ledger_struct.proofs.Padding.{padded-none, padded-next, padded-more}
 
 -- As many as there are, or all.
 pub take-many : {A : Type 0} (count many : ℕ) (l : List A) → many ≡ min count (length l) → take many l ≡ take count l
@@ -46,24 +49,46 @@ flatten-done places count i flat e n inv =
     let all : length (contentsOf flat) ≤ i = omega arith in
     rw (take-all i (contentsOf flat) all, take-many count i places e) at inv
 
--- One place more is filled.
-pub fill-next : (flat : List ℕ) (i : ℕ) (content : Content) (places : List Place) → i < length flat / 5 → i < length places
-    → contentOfCode content ≡ ledger.contentAt (contentsOf flat) i
-    → map contentOfPlace (take i places) ≡ take i (contentsOf flat)
-    → map contentOfPlace (take (i + 1) (set places i (record { content = content }))) ≡ take (i + 1) (contentsOf flat)
-fill-next flat i content places h k same inv =
-    let l = length-contentsOf flat in
-    let inside : i < length (contentsOf flat) = omega arith in
-    let place : Place = record { content = content } in
-    rw (add-one, take-suc-set places i place k, map-append contentOfPlace (take i places) (place ∷ []), inv, same, take-suc (contentsOf flat) i (ledger.Content.plain 0) inside)
+-- A place is told by its content.
+pub code-back : (content : Content) → codeOf (contentOfCode content) ≡ content
+code-back (Plain v) = refl
+code-back (Cell k) = refl
 
-pub fill-done : (flat : List ℕ) (i : ℕ) (places : List Place) → i ≤ length flat / 5 → length flat / 5 ≤ i
-    → map contentOfPlace (take i places) ≡ take i (contentsOf flat) → map contentOfPlace (take (length flat / 5) places) ≡ contentsOf flat
-fill-done flat i places a b inv =
-    let l = length-contentsOf flat in
-    let e : i ≡ length flat / 5 = omega arith in
-    let all : length (contentsOf flat) ≤ length flat / 5 = omega arith in
-    rw (e, take-all (length flat / 5) (contentsOf flat) all) at inv
+-- Places that are all plain 0 hold nothing yet.
+pub places-none : (n : ℕ) → replicate n zeroPlace ≡ placesFor n []
+unfolding placesFor
+places-none n = padded-none n zeroPlace
+
+-- One place more is filled.
+pub fill-next : (flat : List ℕ) (i n : ℕ) (content : Content) → i < length flat / 5 → length flat / 5 ≤ n
+    → contentOfCode content ≡ ledger.contentAt (contentsOf flat) i
+    → set (padded n zeroPlace (take i (map placeOf (contentsOf flat)))) i (record { content = content })
+    ≡ padded n zeroPlace (take (i + 1) (map placeOf (contentsOf flat)))
+fill-next flat i n content h k same =
+    let few : length (map placeOf (contentsOf flat)) ≡ length flat / 5 = length-map (contentsOf flat) placeOf ∙ length-contentsOf flat in
+    let there : getD (map placeOf (contentsOf flat)) i zeroPlace ≡ placeOf (ledger.contentAt (contentsOf flat) i) =
+    List·getD-map placeOf (contentsOf flat) i (ledger.Content.plain 0) in
+    let put : record { content = content } ≡ getD (map placeOf (contentsOf flat)) i zeroPlace =
+    sym (there ∙ ap placeOf (sym same) ∙ ap (λ (x : Content). record { content = x }) (code-back content)) in
+    rw put (padded-next n zeroPlace zeroPlace (map placeOf (contentsOf flat)) i (omega arith) (omega arith))
+
+pub fill-done : (flat : List ℕ) (i n : ℕ) → i ≤ length flat / 5 → length flat / 5 ≤ i
+    → padded n zeroPlace (take i (map placeOf (contentsOf flat))) ≡ placesFor n (contentsOf flat)
+unfolding placesFor
+fill-done flat i n a b =
+    let few : length (map placeOf (contentsOf flat)) ≡ length flat / 5 = length-map (contentsOf flat) placeOf ∙ length-contentsOf flat in
+    rw (take-all i (map placeOf (contentsOf flat)) (omega arith))
+
+-- One place more stands behind those that are filled.
+pub place-next : (n : ℕ) (contents : List ledger.Content) (content : Content) → length contents < n
+    → set (placesFor n contents) (length contents) (record { content = content }) ≡ placesFor n (contents ++ (contentOfCode content ∷ []))
+unfolding placesFor
+place-next n contents content h =
+    let count : length (map placeOf contents) ≡ length contents = length-map contents placeOf in
+    let more : map placeOf (contents ++ (contentOfCode content ∷ [])) ≡ map placeOf contents ++ (record { content = content } ∷ []) =
+    map-append placeOf contents (contentOfCode content ∷ [])
+    ∙ ap (λ (x : Content). map placeOf contents ++ (record { content = x } ∷ [])) (code-back content) in
+    rw (← count, more) (padded-more n zeroPlace (record { content = content }) (map placeOf contents) (omega arith))
 
 pub unmapped : {X Y : Type 0} (f : X → Y) (l : List X) (n : ℕ) → length (map f l) ≡ n → length l ≡ n
 unmapped f l n e = sym (length-map l f) ∙ e

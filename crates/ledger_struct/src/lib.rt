@@ -5,14 +5,16 @@ ghost use mathlib.Core.Path.{_≡_};
 ghost use lib.ListN.{length};
 ghost use Prim.Native.Nat.{ℕ, _*_, _/_, _<_, _≤_, min};
 ghost use Rattle.ledger_contents.specs.Contents.{contentsOf};
-ghost use Rattle.ledger_struct.specs.Ledgers.{ledgerOf, contentsIn, withCall, withParameters, withVariables, withPlaces};
+ghost use Rattle.ledger_struct.specs.Ledgers.{ledgerOf, contentsIn};
+ghost use Rattle.ledger_struct.specs.Whole.{placesFor};
 
 // The outcome of a call: "(0 done, 1 failed)".
 pub const DONE: u8 = 0;
 
 pub const FAILED: u8 = 1;
 
-// "The ledger struct holds an array of place structs, by value." What stands behind a count means nothing (`ledgerOf`).
+// "The ledger struct holds an array of place structs, by value." What stands behind a count means nothing (`ledgerOf`), and is fixed
+// all the same (`structOf`, `laidOver`).
 pub struct Ledger {
     pub file: [u8; 4596],
     pub file_length: usize,
@@ -53,7 +55,7 @@ pub fn flatten(places: [Place; 1024], count: usize, flat: &mut [u32])
 // Places that hold the contents of flat numbers; those behind hold plain 0.
 pub fn filled(flat: &[u32]) -> [Place; 1024]
     requires { ⌜ length (now flat) / 5 ≤ 1024 ⌝ }
-    ensures { λ r. ⌜ contentsIn (length (now (flat .entry)) / 5) r ≡ contentsOf (now (flat .entry)) ⌝ }
+    ensures { λ r. ⌜ r ≡ placesFor 1024 (contentsOf (now (flat .entry))) ⌝ }
 {
     let zero = Place {
         content: Content::Plain(0),
@@ -87,25 +89,6 @@ pub fn among_many(places: [Place; 8]) -> [Place; 1024]
     many
 }
 
-// The first eight of many places, back in the room of parameters.
-fn first_eight(many: [Place; 1024]) -> [Place; 8]
-    ensures { λ r. ⌜ ((n : ℕ) → n ≤ 8 → contentsIn n r ≡ contentsIn n many) ⌝ }
-{
-    let zero = Place {
-        content: Content::Plain(0),
-    };
-    let mut places = [zero; 8];
-    places[0] = many[0];
-    places[1] = many[1];
-    places[2] = many[2];
-    places[3] = many[3];
-    places[4] = many[4];
-    places[5] = many[5];
-    places[6] = many[6];
-    places[7] = many[7];
-    places
-}
-
 // The same for the eight places of parameters.
 pub fn flatten_eight(places: [Place; 8], count: usize, flat: &mut [u32])
     requires { ⌜ length (now flat) ≡ 5 * min count 8 ⌝ }
@@ -117,10 +100,19 @@ pub fn flatten_eight(places: [Place; 8], count: usize, flat: &mut [u32])
 
 pub fn filled_eight(flat: &[u32]) -> [Place; 8]
     requires { ⌜ length (now flat) / 5 ≤ 8 ⌝ }
-    ensures { λ r. ⌜ contentsIn (length (now (flat .entry)) / 5) r ≡ contentsOf (now (flat .entry)) ⌝ }
+    ensures { λ r. ⌜ r ≡ placesFor 8 (contentsOf (now (flat .entry))) ⌝ }
 {
-    let many = filled(flat);
-    first_eight(many)
+    let zero = Place {
+        content: Content::Plain(0),
+    };
+    let mut places = [zero; 8];
+    let mut i: usize = 0;
+    while i < flat.len() / 5 {
+        let content = ledger_contents::content_at(flat, i);
+        places[i] = Place { content: content };
+        i += 1;
+    }
+    places
 }
 
 // The ledger's own contents as flat numbers.
@@ -146,50 +138,4 @@ pub fn flat_places(l: Ledger, flat: &mut [u32])
 {
     let places = l.places;
     flatten(places, l.place_count, flat);
-}
-
-// The ledger with another last call.
-pub fn with_call(l: Ledger, call: u16, function: u8, caller: u8, outcome: u8) -> Ledger
-    ensures { λ r. ⌜ ledgerOf r ≡ withCall (ledgerOf l) call function caller outcome ⌝ }
-{
-    let mut made = l;
-    made.call = call;
-    made.function = function;
-    made.caller = caller;
-    made.outcome = outcome;
-    made
-}
-
-// The ledger with other parameters, variables or places.
-pub fn with_parameters(l: Ledger, flat: &[u32]) -> Ledger
-    requires { ⌜ length (now flat) / 5 ≤ 8 ⌝ }
-    ensures { λ r. ⌜ ledgerOf r ≡ withParameters (ledgerOf l) (contentsOf (now (flat .entry))) ⌝ }
-{
-    let mut made = l;
-    let parameters = filled_eight(flat);
-    made.parameters = parameters;
-    made.parameter_count = flat.len() / 5;
-    made
-}
-
-pub fn with_variables(l: Ledger, flat: &[u32]) -> Ledger
-    requires { ⌜ length (now flat) / 5 ≤ 1024 ⌝ }
-    ensures { λ r. ⌜ ledgerOf r ≡ withVariables (ledgerOf l) (contentsOf (now (flat .entry))) ⌝ }
-{
-    let mut made = l;
-    let variables = filled(flat);
-    made.variables = variables;
-    made.variable_count = flat.len() / 5;
-    made
-}
-
-pub fn with_places(l: Ledger, flat: &[u32]) -> Ledger
-    requires { ⌜ length (now flat) / 5 ≤ 1024 ⌝ }
-    ensures { λ r. ⌜ ledgerOf r ≡ withPlaces (ledgerOf l) (contentsOf (now (flat .entry))) ⌝ }
-{
-    let mut made = l;
-    let places = filled(flat);
-    made.places = places;
-    made.place_count = flat.len() / 5;
-    made
 }

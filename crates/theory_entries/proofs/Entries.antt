@@ -12,6 +12,9 @@ use Rattle.theory_demands.proofs.Demands.{rewritten-stands-for-original, rewrit
 use Rattle.theory_demands.proofs.Demands.{ledgers-stay-well-formed, equal-views, told-before-is-disclosed}
 use Rattle.ledger_struct.specs.declared.Ledger as code
 use Rattle.ledger_struct.specs.Ledgers.{ledgerOf}
+use Rattle.ledger_struct.specs.Whole.{structOf}
+use Rattle.call.proofs.Answers.{kept}
+use Rattle.call.proofs.Whole.{told-after}
 use Rattle.theory_entries.specs.Traces.{Trace, Shown, Calls, ended, called, numbersIn, structIn, numbers, lent, shown, structAfter}
 use Rattle.theory_entries.specs.Traces.{originalPlaces, requestAt, StructStands, DiscloseAlike, PairedAnswers}
 use Rattle.theory_entries.proofs.Following.{shownOf, file-of-run, taken-at, disclosed-at}
@@ -23,8 +26,18 @@ refused-in : {party : ℕ} {l : code.Ledger} {rs : List Request} (n : ℕ) (call
     → structIn (suc n) calls ≡ structIn n calls
 unfolding numbersIn structIn
 refused-in n ended refuses = absurd (refuses refl)
-refused-in zero (called answer on look rest) refuses = on .kept (λ e. refuses (on .number ∙ e))
+refused-in {l = l} zero (called {r = r} answer on look rest) refuses =
+    kept l (r .function) (r .caller) (r .arguments) answer on (λ e. refuses (on .number ∙ e))
 refused-in (suc n) (called answer on look rest) refuses = refused-in n rest refuses
+
+-- A struct that is told by its ledger is followed by such structs.
+told-in : {party : ℕ} {l : code.Ledger} {rs : List Request} (n : ℕ) (calls : Calls party l rs) → l ≡ structOf (ledgerOf l)
+    → structIn n calls ≡ structOf (ledgerOf (structIn n calls))
+unfolding structIn
+told-in zero calls told = told
+told-in (suc n) ended told = told
+told-in {l = l} (suc n) (called {r = r} answer on look rest) told =
+    told-in n rest (told-after l (r .function) (r .caller) (r .arguments) told answer on)
 
 -- The first pairs of two lists are the pairs of their first elements.
 take-zip : {A B C : Type 0} (f : A → B → C) (n : ℕ) (xs : List A) (ys : List B)
@@ -38,6 +51,12 @@ take-zip f (suc n) (x ∷ xs) (y ∷ ys) = ap (λ zs. f x y ∷ zs) (take-zip f 
 module _ {party : ℕ} {file addresses : List ℕ} {requests : List Request} (trace : Trace party file addresses requests) where
   abbrev start : Run
   start = runAtDeployment file addresses
+
+  -- Demand 3 speaks of views; of the struct itself: after deployment and after each call every part of it is told by its ledger, so that no
+  -- argument, no variable and no byte of a file lies behind a count.
+  pub entries-leave-nothing-behind : (n : ℕ) → structAfter trace n ≡ structOf (ledgerOf (structAfter trace n))
+  entries-leave-nothing-behind n =
+      told-in n (trace .calls) ((trace .deploys) .whole ∙ ap structOf (sym ((trace .deploys) .ledger)))
 
   -- Demand 2: "every place then stands for the same value": after deployment, where n is 0, and after each call, whatever the entries
   -- answered.

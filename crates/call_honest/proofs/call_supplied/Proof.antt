@@ -3,6 +3,7 @@ use Rattle.theory_typing.proofs.CallEnvironment.{calls-left}
 use Rattle.call_ledgers.proofs.Ledgers.{call-of, call-left}
 use Rattle.call_honest.proofs.HonestParts.{parameters-ready, variables-ready, call-ready, call-honest}
 use borrow.Author.Needs.{needs}
+use Rattle.ledger_struct.proofs.Meaning.{laid-same}
 use Rattle.call_honest.proofs.call_supplied.Statement.{statement}
 use Rattle.call_honest.proofs.call_supplied.Tie as tie
 
@@ -22,4 +23,4 @@ call-supplied-spec =
     let args-l = start .args .l in let (worked-out, _) = start .pre in
     let put-parameters = c .before .before .before .before .before .before .before .before .before .before .before .put-parameters .ensures in
     let put-variables = c .before .before .before .before .before .before .before .put-variables .ensures in
-    call-honest _ _ _ _ _ _ _ _ _ _ worked-out _ _ _ _ (omega (arith, call-of args-l, c .before .before .before .before .before .before .before .before .before .before .before .before .before .serial-call .ensures)) put-parameters put-variables (c .before .before .call-with .ensures)))
+    laid-same _ _ _ _ (c .before .before .call-with .ensures) (call-honest _ _ _ _ _ _ _ _ _ _ worked-out _ _ _ (omega (arith, call-of args-l, c .before .before .before .before .before .before .before .before .before .before .before .before .before .serial-call .ensures)) put-parameters put-variables)))

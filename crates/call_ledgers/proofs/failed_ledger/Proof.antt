@@ -1,3 +1,4 @@
+-- The parts make the struct.
 use mathlib.Core.Path.{refl}
 use native.Mathlib.Omega.{arith}
 use borrow.Author.Needs.{needs}
@@ -5,21 +6,11 @@ use Rattle.call_ledgers.proofs.Ledgers.{call-left, failed-after}
 use Rattle.call_ledgers.proofs.failed_ledger.Statement.{statement}
 use Rattle.call_ledgers.proofs.failed_ledger.Tie as tie
 
-with-parameters-requires : tie.Need-with-parameters-requires
-with-parameters-requires c κs = search needs
-
-with-variables-requires : tie.Need-with-variables-requires
-with-variables-requires c κs = search needs
-
-with-call-requires : tie.Need-with-call-requires
-with-call-requires c κs = search needs
-
 pub failed-ledger-spec : {M : Type 1} → statement M
 failed-ledger-spec =
     tie.close (tie.spec
-    (λ c. omega (arith, call-left _ (c .before .before .pre .callLeft)))
-    with-parameters-requires
+    (λ c κs. search needs)
     (λ c. search needs) (λ c. search needs) (λ c. search needs)
-    with-variables-requires
-    with-call-requires
-    (λ c. failed-after _ _ _ _ _ _ _ (c .before .before .before .with-parameters .ensures) _ refl (c .before .with-variables .ensures) (c .with-call .ensures)))
+    (λ c κs. search needs)
+    (λ c. omega (arith, call-left _ (c .before .before .before .before .before .before .before .pre .callLeft)))
+    (λ c. failed-after (c .before .before .before .before .before .before .before .args .l) _ _ _ _ _ _ refl (c .before .before .before .filled-eight .ensures) (c .before .filled .ensures)))

@@ -2,6 +2,7 @@ use mathlib.Core.Path.{refl, ap, _∙_}
 use Rattle.definitions.specs.Numbers.{checkNumber}
 use native.Mathlib.Omega.{arith}
 use borrow.Author.Needs.{needs}
+use Rattle.ledger_struct.proofs.Meaning.{laid-same}
 use Rattle.call_with.proofs.CallParts.{call-done, call-failed}
 use Rattle.call_with.proofs.Ready.{room-here, addresses-here, public-here, held-still}
 use Rattle.call_with.proofs.call_on.Statement.{statement}
@@ -40,7 +41,7 @@ call-on-spec =
     let call-addresses-addresses = c .before .before .before .before .before .before .before .before .before .before .before .before .before .before .call-addresses .ensures .addresses in
     let walk-called-ran = c .before .before .before .before .before .before .before .before .walk-called .ensures .ran in
     let p = pre in
-    call-done _ _ _ _ _ _ _ _ _ (p .0 .1 .inside) (p .0 .0) function-start flat-places call-addresses-addresses _ _ walk-called-ran (c .before .before .before .if1 .taken) _ (c .done-ledger .ensures))
+    laid-same _ _ _ _ (c .done-ledger .ensures) (call-done _ _ _ _ _ _ _ _ _ (p .0 .1 .inside) (p .0 .0) function-start flat-places call-addresses-addresses _ _ walk-called-ran (c .before .before .before .if1 .taken)))
     (λ c. search needs)
     (λ c. let flat-places-kept = c .before .before .before .before .before .before .before .before .before .before .before .before .before .before .before .before .before .flat-places .kept in
     let walk-called-kept = c .before .before .before .before .before .before .walk-called .kept in
@@ -51,4 +52,4 @@ call-on-spec =
     let call-addresses-addresses = c .before .before .before .before .before .before .before .before .before .before .before .before .call-addresses .ensures .addresses in
     let walk-called-ran = c .before .before .before .before .before .before .walk-called .ensures .ran in
     let p = pre in
-    call-failed _ _ _ _ _ _ _ _ _ (p .0 .1 .inside) (p .0 .0) function-start flat-places call-addresses-addresses _ _ walk-called-ran (c .before .if1 .left) _ (c .failed-call .ensures)))
+    laid-same _ _ _ _ (c .failed-call .ensures) (call-failed _ _ _ _ _ _ _ _ _ (p .0 .1 .inside) (p .0 .0) function-start flat-places call-addresses-addresses _ _ walk-called-ran (c .before .if1 .left))))

@@ -11,16 +11,17 @@ use Rattle.definitions.specs.Ledger.{contentFor}
 use Rattle.file_accepted.specs.Context.{fieldsIn}
 use Rattle.ledger_struct.specs.Ledgers.{contentsIn}
 use Rattle.ledger_struct.proofs.Flat.{unmapped}
-use Rattle.deploy_ledger.specs.Deployments.{contentsFor, readersOf, fieldContents}
-use Rattle.deploy_ledger.proofs.Places.{short-reader, field-start, field-next, field-done}
+use Rattle.deploy_ledger.specs.Deployments.{contentsFor, readersOf, fieldContents, Tidy}
+use Rattle.deploy_ledger.proofs.Places.{short-reader, field-start, field-next, field-done, tidy-first, tidy-next, tidy-last}
 use Rattle.deploy_ledger.proofs.put_field.Statement.{statement}
 use Rattle.deploy_ledger.proofs.put_field.Tie as tie
 
 abbrev Inv-loop : tie.InvT-loop
 Inv-loop file numbers f p count made₀ key₀ made key =
     (key ≤ count) × ((length made ≡ 1024)
-    × (contentsIn (p + key) made ++ contentsFor (readersOf (fieldsIn file) numbers f key (count - key)) (drop (p + key) numbers)
-    ≡ contentsIn p made₀ ++ fieldContents (fieldsIn file) numbers f p count))
+    × ((contentsIn (p + key) made ++ contentsFor (readersOf (fieldsIn file) numbers f key (count - key)) (drop (p + key) numbers)
+    ≡ contentsIn p made₀ ++ fieldContents (fieldsIn file) numbers f p count)
+    × (Tidy p made₀ → Tidy (p + key) made)))
 
 abbrev μ-loop : tie.MeasureT-loop
 μ-loop file numbers f p count made₀ key₀ made key = count - key
@@ -32,7 +33,7 @@ pub put-field-spec : {M : Type 1} → statement M
 put-field-spec =
     tie.close (tie.spec Inv-loop μ-loop
     (λ c. let s = c .before .before in
-    (omega arith, (long s, field-start (fieldsIn (s .args .file .now)) (s .args .numbers .now) (s .args .f) (s .args .p) (s .args .count) (s .args .places))))
+    (omega arith, (long s, (field-start (fieldsIn (s .args .file .now)) (s .args .numbers .now) (s .args .f) (s .args .p) (s .args .count) (s .args .places), tidy-first (s .args .p) (s .args .places)))))
     (λ c. search needs)
     (λ c κs. let (deployable, (f-bound, _)) = c .before .before .before .before .pre in (f-bound, deployable .fewFields))
     (λ c. search needs) (λ c. search needs) (λ c. search needs)
@@ -52,16 +53,21 @@ put-field-spec =
       omega arith,
       (
         simp length-set (k .loop .inv .1 .0),
-        field-next (fieldsIn (s .args .file .now)) (s .args .numbers .now) (s .args .f) (s .args .p) (s .args .count) (k .loop .key) (k .loop .made) _ _ (omega arith)
-            (omega arith) (omega arith)
-            (c .content-for .ensures ∙ ap (λ (r : Reader). contentFor r 0 0 (getD (s .args .numbers .now) (s .args .p + k .loop .key) 0)) (c .before .before .place-reader .ensures))
-            (k .loop .inv .1 .1),
+        (
+          field-next (fieldsIn (s .args .file .now)) (s .args .numbers .now) (s .args .f) (s .args .p) (s .args .count) (k .loop .key) (k .loop .made) _ _ (omega arith)
+              (omega arith) (omega arith)
+              (c .content-for .ensures ∙ ap (λ (r : Reader). contentFor r 0 0 (getD (s .args .numbers .now) (s .args .p + k .loop .key) 0)) (c .before .before .place-reader .ensures))
+              (k .loop .inv .1 .1 .0),
+          λ tidy. tidy-next (k .loop .made) (s .args .p + k .loop .key) (s .args .p + (k .loop .key + 1)) _ (k .loop .inv .1 .0) (omega arith) (omega arith)
+              (k .loop .inv .1 .1 .1 tidy),
+        ),
       ),
     ))
-    (λ c. let (_, (_, contents-in-is)) = c .before .loop .inv in
+    (λ c. let (_, (_, (contents-in-is, tidy))) = c .before .loop .inv in
     let s = c .before .before .before .before in
     record {
       stands =
           field-done (fieldsIn (s .args .file .now)) (s .args .numbers .now) (s .args .f) (s .args .p) (s .args .count) (c .before .loop .key) _ _ (omega arith) (omega arith)
           contents-in-is;
+      tidy = λ before. tidy-last _ _ (c .before .loop .key) _ (omega arith) (omega arith) (tidy before);
     }))

@@ -9,15 +9,16 @@ use Rattle.definitions.specs.Original.{perPlace, placeReaders}
 use Rattle.file_accepted.specs.Context.{fieldsIn}
 use Rattle.ledger_struct.specs.Ledgers.{contentsIn}
 use Rattle.ledger_places.proofs.Positions.{fields-count}
-use Rattle.deploy_ledger.specs.Deployments.{contentsFor}
-use Rattle.deploy_ledger.proofs.Places.{asked, field-counted, field-given, fields-done}
+use Rattle.deploy_ledger.specs.Deployments.{contentsFor, Tidy}
+use Rattle.deploy_ledger.proofs.Places.{asked, field-counted, field-given, fields-whole, tidy-none}
 use Rattle.deploy_ledger.proofs.put_places.Statement.{statement}
 use Rattle.deploy_ledger.proofs.put_places.Tie as tie
 
 abbrev Inv-loop : tie.InvT-loop
 Inv-loop file numbers places₀ count f₀ p₀ places f p =
     (f ≤ count) × ((p + length (perPlace (asked (fieldsIn file) numbers) (drop f (fieldsIn file))) ≡ length numbers)
-    × (contentsIn p places ++ contentsFor (perPlace (asked (fieldsIn file) numbers) (drop f (fieldsIn file))) (drop p numbers) ≡ contentsFor (placeReaders (fieldsIn file) numbers) numbers))
+    × ((contentsIn p places ++ contentsFor (perPlace (asked (fieldsIn file) numbers) (drop f (fieldsIn file))) (drop p numbers) ≡ contentsFor (placeReaders (fieldsIn file) numbers) numbers)
+    × Tidy p places))
 
 abbrev μ-loop : tie.MeasureT-loop
 μ-loop file numbers places₀ count f₀ p₀ places f p = count - f
@@ -26,7 +27,7 @@ pub put-places-spec : {M : Type 1} → statement M
 put-places-spec =
     tie.close (tie.spec Inv-loop μ-loop
     (λ c κs. search needs)
-    (λ c. (omega arith, (omega (arith, c .before .before .before .pre .perPlace), refl)))
+    (λ c. (omega arith, (omega (arith, c .before .before .before .pre .perPlace), (refl, tidy-none _ refl))))
     (λ c κs. omega (arith, c .before .before .before .before .before .pre .fewFields, c .before .before .byte-at .ensures .0))
     (λ c κs. let k = c .before .before in
     let s = c .before .before .before .before .before .before in
@@ -49,8 +50,11 @@ put-places-spec =
       omega arith,
       (
         more,
-        field-given (fieldsIn file) (s .args .numbers .now) (k .loop .f) (k .loop .p) _ inside place-count (k .loop .places) _ _ (omega arith)
-            (c .put-field .ensures .stands) (k .loop .inv .1 .1),
+        (
+          field-given (fieldsIn file) (s .args .numbers .now) (k .loop .f) (k .loop .p) _ inside place-count (k .loop .places) _ _ (omega arith)
+              (c .put-field .ensures .stands) (k .loop .inv .1 .1 .0),
+          c .put-field .ensures .tidy (k .loop .inv .1 .1 .1),
+        ),
       ),
     ))
     (λ c. let k = c .before in
@@ -59,5 +63,6 @@ put-places-spec =
     let same = c .before .before .byte-at .ensures .0 in
     let counted = fields-count file in
     record {
-      stands = fields-done (fieldsIn file) (s .args .numbers .now) (k .loop .f) (k .loop .p) _ _ (omega arith) (k .loop .inv .1 .0) (k .loop .inv .1 .1);
+      whole =
+          fields-whole (fieldsIn file) (s .args .numbers .now) (k .loop .f) (k .loop .p) _ _ (omega arith) (k .loop .inv .1 .0) (k .loop .inv .1 .1 .0) (k .loop .inv .1 .1 .1);
     }))

@@ -1,18 +1,19 @@
 -- Each turn fills one place more.
-use mathlib.Core.Path.{_≡_, refl}
+use mathlib.Core.Path.{_≡_, _∙_}
 use mathlib.Core.List.{map}
 use Prim.Native.Nat.{_≤_, _-_, _/_}
 use native.Mathlib.Omega.{arith}
-use lib.ListN.{length, take, length-set}
+use lib.ListN.{length, take}
 use borrow.Author.Needs.{needs}
-use Rattle.ledger_contents.specs.Contents.{contentOfPlace, contentsOf}
+use Rattle.ledger_contents.specs.Contents.{contentsOf}
+use Rattle.ledger_struct.specs.Whole.{padded, placeOf, zeroPlace}
+use Rattle.ledger_struct.proofs.Padding.{padded-none}
 use Rattle.ledger_struct.proofs.Flat.{fill-next, fill-done}
 use Rattle.ledger_struct.proofs.filled.Statement.{statement}
 use Rattle.ledger_struct.proofs.filled.Tie as tie
 
 abbrev Inv-loop : tie.InvT-loop
-Inv-loop flat places₀ i₀ places i =
-    (i ≤ length flat / 5) × ((length places ≡ 1024) × (map contentOfPlace (take i places) ≡ take i (contentsOf flat)))
+Inv-loop flat places₀ i₀ places i = (i ≤ length flat / 5) × (places ≡ padded 1024 zeroPlace (take i (map placeOf (contentsOf flat))))
 
 abbrev μ-loop : tie.MeasureT-loop
 μ-loop flat places₀ i₀ places i = length flat / 5 - i
@@ -20,10 +21,8 @@ abbrev μ-loop : tie.MeasureT-loop
 pub filled-spec : {M : Type 1} → statement M
 filled-spec =
     tie.close (tie.spec Inv-loop μ-loop
-    (λ c. (omega arith, (refl, refl)))
+    (λ c. (omega arith, padded-none 1024 zeroPlace))
     (λ c κs. search needs) (λ c. search needs) (λ c. search needs) (λ c. search needs) (λ c. search needs)
-    (λ c. let k = c .before .before in (
-      omega arith,
-      (simp length-set (k .loop .inv .1 .0), fill-next _ _ _ _ (omega arith) (omega arith) (c .content-at .ensures) (k .loop .inv .1 .1)),
-    ))
-    (λ c. let (_, (_, map-is)) = c .before .loop .inv in fill-done _ (c .before .loop .i) _ (omega arith) (omega arith) map-is))
+    (λ c. let k = c .before .before in
+    (omega arith, rw (k .loop .inv .1) (fill-next _ _ _ _ (omega arith) (omega arith) (c .content-at .ensures))))
+    (λ c. c .before .loop .inv .1 ∙ fill-done _ (c .before .loop .i) _ (omega arith) (omega arith)))
