@@ -42,8 +42,16 @@ unfolding ledgerOf laidOver
 laid given after same-file restored =
     record {
       means =
-          rw (contents-back 8 (after .parameters), contents-back 1024 (after .variables), placed (isZero (after .outcome)) refl)
-          (rw (← same-file));
+          λ i. record {
+            file = sym same-file i;
+            call = after .call;
+            function = after .function;
+            caller = after .caller;
+            outcome = after .outcome;
+            parameters = contents-back 8 (after .parameters) i;
+            variables = contents-back 1024 (after .variables) i;
+            places = placed (isZero (after .outcome)) refl i;
+          };
       whole = refl;
     }
   where

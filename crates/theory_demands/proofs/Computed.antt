@@ -57,6 +57,8 @@ pub record Computed : Type 0 where
   pub firstCall : ((after 1) .ledger) .call ≡ 1
   pub argumentIsCell : opensFor 3 (contentAt (honestParametersOf ((after 1) .ledger) 0 3 (9 ∷ [])) 0) ≡ true
   pub told : disclosedIn 4 (after 2) (show 3) ≡ 7 ∷ []
+  pub thirdVariables : length (((after 3) .ledger) .variables) ≡ 2
+  pub fourthVariables : ((after 4) .ledger) .variables ≡ []
 
 pub computed : Computed
 unfolding all any anyNumbered countIf largest flatMap firstThatHolds deployNumber deployed allFit publicOf isWellFormed notCallable argumentsOff callNumber callWith honestContents honestVariables honestParameters ledgerAfterCall functionsPassed nodesBegin fieldsRead parametersRead functionsRead nodesRead sectionsRead fieldOf parameterOf typeOf circuitValue contentOf isWalked stateAfter walkCompletes kindOf nodeOfKind expressionParts statementParts fieldsNamed chainLength expressionOf expressionAt statementOf statementAt contractOf endsWrongly countOffLimits fieldInTables parameterInTables kindInTables outsideTables namesNothing usesOf usedOtherThanOnce tooDeep wrongSort expressionFaults statementFaults contractFaults checkNumber value isWorkedOut placesAfter completes disclosed disclosedBy originalCompletes originalAfter originalDiscloses withLink nameOf ownerOf linksOfCondition linksAfter numbersFrom perPlace position deployedNumbers kept onePart twoParts supplying reading stepsBefore single inSequence inBranch inBranches rewriteStatement privateParameters openings rewriteFunction rewrite inBody inCircuit runAtDeployment isTaken runAfter disclosedIn viewsAfter disclosures sameName itemFor itemsFor itemBytes viewBytes zipWith runAfterAll callNumbers tagged start calls pay refused show
@@ -85,6 +87,8 @@ computed =
       firstCall = refl;
       argumentIsCell = refl;
       told = refl;
+      thirdVariables = refl;
+      fourthVariables = refl;
     }
   where
     private : (k : ℕ) → not ((parameterAt ((functionAt ((contractIn tagged) .functions) 0) .parameters) k) .private) || eqb 3 4 ≡ true

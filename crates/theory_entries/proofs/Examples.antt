@@ -12,11 +12,14 @@ use Rattle.definitions.specs.View.{Run, disclosedOn}
 use Rattle.theory_relations.specs.Standing.{Stands}
 use Rattle.theory_demands.specs.Example.{tagged, pay, show, calls, start, after}
 use Rattle.theory_demands.proofs.Computed.{computed}
+use Rattle.ledger_struct.specs.declared.Ledger as code
 use Rattle.ledger_struct.specs.Ledgers.{ledgerOf}
+use Rattle.ledger_struct.specs.Whole.{placesFor, structOf}
 use Rattle.theory_entries.specs.Traces.{Trace, PairedAnswers, numbers, lent, shown, structAfter, originalPlaces, placesIn}
 use Rattle.theory_entries.proofs.Answers.{answered, refuses, answers-paired, two-disclose-alike}
 use Rattle.theory_entries.proofs.Following.{file-of-run, numbers-of-trace, run-of-trace}
 use Rattle.theory_entries.proofs.Entries.{entries-stand-for-original, entries-complete-as-original}
+use Rattle.theory_entries.proofs.Entries.{entries-leave-nothing-behind}
 use Rattle.theory_entries.proofs.Entries.{refused-calls-change-nothing, told-before-counts, equal-looks}
 use Rattle.theory_entries.proofs.Existing.{traces-exist, lent-there}
 
@@ -70,6 +73,19 @@ module _ (trace : Trace 4 tagged [] (calls 7)) where
   second-changes-nothing : structAfter trace 2 ≡ structAfter trace 1
   second-changes-nothing =
       refused-calls-change-nothing trace 1 (λ e. refuses (ap (λ (ns : List ℕ). getD ns 1 0) (sym numbers-answered) ∙ e))
+
+  -- The third call had two variables; after the failed fourth the struct holds none, behind the count of 0 neither.
+  variables-of-third : (structAfter trace 3) .«variable_count» ≡ 2
+  unfolding start structOf
+  variables-of-third =
+      ap (λ (l : code.Ledger). l .«variable_count») (entries-leave-nothing-behind trace 3)
+      ∙ ap (λ (run : Run). length ((run .ledger) .variables)) (run-of-trace trace 3) ∙ computed .thirdVariables
+
+  none-left-by-fourth : (structAfter trace 4) .variables ≡ placesFor 1024 []
+  unfolding start structOf
+  none-left-by-fourth =
+      ap (λ (l : code.Ledger). l .variables) (entries-leave-nothing-behind trace 4)
+      ∙ ap (λ (run : Run). placesFor 1024 ((run .ledger) .variables)) (run-of-trace trace 4) ∙ ap (placesFor 1024) (computed .fourthVariables)
 
   -- Told on the struct before the third call: it would disclose 7 to address 4.
   told-before : disclosedOn (ledgerOf (structAfter trace 2)) 1 3 [] 4 ≡ 7 ∷ []
