@@ -7,8 +7,10 @@ use program_input::read_rest;
 use program_input::short_contract_room;
 use program_output::deliver;
 use program_output::print_refused;
+use write_extents::is_tiny;
 use write_output::Answer;
 use write_output::short_written_room;
+use write_output::tiny_written_room;
 use write_output::written_room;
 ghost use mathlib.Core.Path.{_≡_};
 ghost use Prim.Native.Nat.{_≤_};
@@ -40,6 +42,13 @@ fn answer_in(file: &[u8], out: &mut [u8])
 }
 
 // Functions of their own, so that the room that a short file needs is all that is cleared for it.
+fn answer_tiny(file: &[u8])
+    requires { ⌜ length (now file) ≤ 112 ⌝ }
+{
+    let mut out = tiny_written_room();
+    answer_in(file, &mut out);
+}
+
 fn answer_short(file: &[u8])
     requires { ⌜ length (now file) ≤ 512 ⌝ }
 {
@@ -53,7 +62,9 @@ fn answer_any(file: &[u8]) {
 }
 
 fn answer(file: &[u8]) {
-    if file.len() <= 512 {
+    if is_tiny(file.len()) {
+        answer_tiny(file);
+    } else if file.len() <= 512 {
         answer_short(file);
     } else {
         answer_any(file);

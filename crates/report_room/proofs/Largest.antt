@@ -5,8 +5,8 @@ use mathlib.Core.List.{List, [], _∷_, map}
 use Prim.Native.Nat.{ℕ, _+_, _*_, _≤_}
 use native.Mathlib.Omega.{arith}
 use lib.Dec.{leb}
-use lib.ListN.{length, length-append, length-map}
-use Rattle.definitions.specs.ContractFile.{Field, Function, sectionsOf, Node, nodeOf, functionOf, contractIn, contractOf}
+use lib.ListN.{length, length-append}
+use Rattle.definitions.specs.ContractFile.{Field, Function, contractIn, contractOf}
 use Rattle.definitions.specs.Crossings.{crossingsIn, totalIn}
 use Rattle.definitions.specs.Numbers.{checkNumber}
 use Rattle.definitions.specs.Rewriting.{origin, always, privateParameters, rewriteFunction, rewrite, writtenFile}
@@ -18,15 +18,15 @@ use Rattle.theory_laws.proofs.Written.{opening-count}
 use Rattle.theory_trees.specs.Sizes.{statementSize}
 use Rattle.rewrite_events.specs.Events.{variablesOf}
 use Rattle.rewrite_events.proofs.Functions.{opening, functionScope, functionEvents, function-variables}
-use Rattle.write_room.specs.Sizes.{bodiesSize, fewParameters}
-use Rattle.write_room.proofs.Acceptance.{few-parameters, counts}
+use Rattle.write_room.specs.Sizes.{bodiesSize, parametersSize}
+use Rattle.write_room.proofs.Acceptance.{counts}
 use Rattle.write_room.proofs.Functions.{private-length}
 use Rattle.write_room.proofs.Room.{nodes-suffice, room-suffices}
 use Rattle.write_function_room.proofs.Sparse.{variables-sparse}
 
 module _ (fields : List Field) where
-  few-crossings : (g : Function) → length (g .parameters) ≤ 8 → 2 * crossings (rewriteFunction fields g) ≤ 16 + 3 * statementSize (g .body)
-  few-crossings g few =
+  few-crossings : (g : Function) → 2 * crossings (rewriteFunction fields g) ≤ 2 * length (g .parameters) + 3 * statementSize (g .body)
+  few-crossings g =
       let written = rewriteFunction fields g in
       let opened = opening fields g .variables in
       let parts = ap length (function-variables fields g) in
@@ -34,22 +34,18 @@ module _ (fields : List Field) where
       let private = opening-count (privateParameters 0 (g .parameters)) 0 in
       omega (arith, count-length (λ v. leb (origin v) 3) (written .variables), private-length 0 (g .parameters), variables-sparse (functionScope fields g) (g .body) always (length opened))
 
-  crossings-few : (gs : List Function) → fewParameters gs → 2 * sum (map crossings (map (rewriteFunction fields) gs)) ≤ 16 * length gs + 3 * bodiesSize gs
-  unfolding sum fewParameters bodiesSize
-  crossings-few [] few = omega arith
-  crossings-few (g ∷ gs) few = omega (arith, few-crossings g (few .0), crossings-few gs (few .1))
+  crossings-few : (gs : List Function) → 2 * sum (map crossings (map (rewriteFunction fields) gs)) ≤ 2 * parametersSize gs + 3 * bodiesSize gs
+  unfolding sum parametersSize bodiesSize
+  crossings-few [] = omega arith
+  crossings-few (g ∷ gs) = omega (arith, few-crossings g, crossings-few gs)
 
 module _ (file : List ℕ) (accepted : checkNumber file ≡ 0) where
   pub counts-few : sum (crossingsIn (writtenFile file)) ≤ 896
   unfolding writtenFile rewrite contractOf
   counts-few =
-      let s = sectionsOf file in
-      let nodes : List Node = map nodeOf (s .nodes) in
       let few = counts file accepted in
       let read = ap sum (counts-are-read (rewrite (contractIn file)) (omega (arith, room-suffices file accepted))) in
-      let all = crossings-few ((contractIn file) .fields) ((contractIn file) .functions) (few-parameters nodes (s .functions) (few .parameters)) in
-      let g = length-map (s .functions) (functionOf nodes) in
-      omega (arith, nodes-suffice file accepted)
+      omega (arith, crossings-few ((contractIn file) .fields) ((contractIn file) .functions), few .parameters, few .nodes, nodes-suffice file accepted)
 
   pub largest-total : totalIn (writtenFile file) ≤ 896
   largest-total = omega (arith, total-is-sum (writtenFile file), counts-few)

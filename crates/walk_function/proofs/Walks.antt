@@ -75,7 +75,7 @@ module _ (file : List ℕ) (at : ℕ) (source : List ℕ) (log numbers roots nod
                         count = entries-are;
                       };
                   space = ready .numbersSpace;
-                  bytes = omega (arith, ready .room .nodesByNodes, ready .nodesSpace);
+                  bytes = omega (arith, ready .room .nodesByParts, ready .nodesSpace);
                 };
             rootsSpace = ready .rootsSpace;
           }
@@ -99,7 +99,7 @@ module _ (file : List ℕ) (at : ℕ) (source : List ℕ) (log numbers roots nod
         (omega (arith, put .constraints, constraint-numbers-length 0 (function .constraints)))
 
     nodes-kept : length nodesAfter ≡ length nodes
-    nodes-kept = ap length (put .contents) ∙ stored-length nodes 0 (functionNodes function) (omega (arith, node-count, ready .room .nodesByNodes, ready .nodesSpace))
+    nodes-kept = ap length (put .contents) ∙ stored-length nodes 0 (functionNodes function) (omega (arith, node-count, ready .room .nodesByParts, ready .nodesSpace))
 
     numbers-kept : length numbersAfter ≡ length numbers
     numbers-kept =
@@ -111,7 +111,7 @@ module _ (file : List ℕ) (at : ℕ) (source : List ℕ) (log numbers roots nod
     last-ready =
         record {
           some = omega (arith, put .nodes, sizes-are file at, size-positive (commandTree (function .body)));
-          bytes = omega (arith, nodes-kept, put .nodes, ready .room .nodesByNodes, ready .nodesSpace);
+          bytes = omega (arith, nodes-kept, put .nodes, ready .room .nodesByParts, ready .nodesSpace);
           space = omega (arith, numbers-kept, put .constraints, constraints-by-nodes file at (ready .room), ready .numbersSpace);
           readable = rw nodes-front (back .readable);
           fewFields = context-here .fewFields;

@@ -4,7 +4,8 @@ use Prim.Native.Nat.{ℕ, _+_, _*_, _<_, _≤_}
 use lib.ListN.{length, take}
 use Rattle.definitions.specs.ContractFile.{fieldCount, nodeCount}
 use Rattle.write_trees.specs.Table.{Readable}
-use Rattle.write_function_room.specs.Functions.{mostBytes, FunctionRoom}
+use Rattle.write_room.specs.Rooms.{mostBytes}
+use Rattle.write_function_room.specs.Functions.{FunctionRoom}
 use Rattle.file_accepted.specs.Context.{Source}
 
 -- So many nodes and constraints are there, and code can read them.

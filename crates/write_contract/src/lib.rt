@@ -5,6 +5,7 @@ use file_bytes::Layout;
 use file_bytes::read_layout;
 use write_crossings::no_counts;
 use write_extents::is_short;
+use write_extents::is_tiny;
 use write_output::Answer;
 use write_output::hand_out;
 use write_parts::write_parts;
@@ -44,7 +45,29 @@ fn write_in(
     hand_out(&headings[..end], &nodes[..bytes], count, parts.counts, out)
 }
 
-// Most contracts are short: what they need costs less to clear.
+// Most contracts are short, and some have a few nodes alone: what they need costs less to clear.
+fn write_accepted_tiny(file: &[u8], source: &[u16], out: &mut [u8]) -> Answer
+    requires { ⌜ (checkNumber (now file) ≡ 0) × (Source (now file) (now source)) × (length (now file) ≤ 112) ⌝ }
+    ensures { λ r. ⌜ Promised (now (file .entry)) (now (out .entry)) (now (out .exit)) (r .number) (r .length)
+        (r .counts .crossings) ⌝ }
+{
+    let mut log = [0u16; 140];
+    let mut roots = [0u16; 29];
+    let mut numbers = [0u16; 56];
+    let mut headings = [0u8; 2016];
+    let mut nodes = [0u8; 2016];
+    write_in(
+        file,
+        source,
+        &mut log[..],
+        &mut roots[..],
+        &mut numbers[..],
+        &mut headings[..],
+        &mut nodes[..],
+        out,
+    )
+}
+
 fn write_accepted_short(file: &[u8], source: &[u16], out: &mut [u8]) -> Answer
     requires { ⌜ (checkNumber (now file) ≡ 0) × (Source (now file) (now source)) × (nodeCount (now file) ≤ 64) ⌝ }
     ensures { λ r. ⌜ Promised (now (file .entry)) (now (out .entry)) (now (out .exit)) (r .number) (r .length)
@@ -89,6 +112,18 @@ fn write_accepted_long(file: &[u8], source: &[u16], out: &mut [u8]) -> Answer
     )
 }
 
+fn write_accepted(file: &[u8], source: &[u16], out: &mut [u8]) -> Answer
+    requires { ⌜ (checkNumber (now file) ≡ 0) × (Source (now file) (now source)) × (nodeCount (now file) ≤ 64) ⌝ }
+    ensures { λ r. ⌜ Promised (now (file .entry)) (now (out .entry)) (now (out .exit)) (r .number) (r .length)
+        (r .counts .crossings) ⌝ }
+{
+    if is_tiny(file.len()) {
+        write_accepted_tiny(file, source, out)
+    } else {
+        write_accepted_short(file, source, out)
+    }
+}
+
 // The nodes that the check decoded are those that are written.
 fn write_short(file: &[u8], l: Layout, out: &mut [u8]) -> Answer
     requires { ⌜ (IsLayout (now file) l) × (l .nodes ≤ 64) ⌝ }
@@ -106,7 +141,7 @@ fn write_short(file: &[u8], l: Layout, out: &mut [u8]) -> Answer
         };
     }
     let count = 5 * l.nodes;
-    write_accepted_short(file, &source[..count], out)
+    write_accepted(file, &source[..count], out)
 }
 
 fn write_long(file: &[u8], l: Layout, out: &mut [u8]) -> Answer

@@ -17,6 +17,13 @@ pub fn is_short(nodes: usize) -> bool
     nodes <= 64
 }
 
+// Whether a file of so many bytes, of which there are at most 18 times as many when it is written, is written in the least memory.
+pub fn is_tiny(length: usize) -> bool
+    ensures { λ r. ⌜ r ≡ leb length 112 ⌝ }
+{
+    length <= 112
+}
+
 // "A verify ends the body if any constraint exists."
 pub fn is_verified(constraints: usize) -> bool
     ensures { λ r. ⌜ r ≡ ltb 0 constraints ⌝ }

@@ -1,4 +1,4 @@
--- The headings alone: 97 bytes for a function, and 6 for each node of its body.
+-- The headings alone: 9 bytes for a function, 11 for each parameter, and 6 for each node of its body.
 use mathlib.Core.Path.{ap}
 use mathlib.Core.List.{List, [], _∷_, map}
 use Prim.Native.Nat.{ℕ, _+_, _*_, _≤_}
@@ -9,15 +9,15 @@ use Rattle.definitions.specs.Rewriting.{Constraint, Variable, always, heldUnder
 use Rattle.theory_trees.specs.Sizes.{statementSize}
 use Rattle.rewrite_events.specs.Events.{variablesOf, constraintsOf}
 use Rattle.rewrite_events.proofs.Functions.{opening, functionScope, functionEvents, function-variables, function-constraints}
-use Rattle.write_room.specs.Sizes.{bodiesSize, fewParameters}
+use Rattle.write_room.specs.Sizes.{bodiesSize, parametersSize}
 use Rattle.write_room.proofs.Functions.{heading-length, openings-variables, openings-constraints, private-length}
 use Rattle.write_function_room.proofs.Weights.{statement-weight}
 
 module _ (fields : List Field) where
-  pub function-heading : (n : ℕ) (g : Function) → length (g .parameters) ≤ 8
-      → length (functionBytes n (rewriteFunction fields g)) ≤ 97 + 6 * statementSize (g .body)
+  pub function-heading : (n : ℕ) (g : Function)
+      → length (functionBytes n (rewriteFunction fields g)) ≤ 9 + 11 * length (g .parameters) + 6 * statementSize (g .body)
   unfolding rewriteFunction
-  function-heading n g few =
+  function-heading n g =
       let w = rewriteFunction fields g in
       let ks = privateParameters 0 (g .parameters) in
       let events = functionEvents fields g in
@@ -34,12 +34,12 @@ module _ (fields : List Field) where
         statement-weight (functionScope fields g) (g .body) always (length (opening fields g .variables)),
       )
 
-  pub functions-headings : (n : ℕ) (gs : List Function) → fewParameters gs
-      → length (functionsBytes n (map (rewriteFunction fields) gs)) ≤ 97 * length gs + 6 * bodiesSize gs
-  unfolding functionsWritten bodiesSize fewParameters
-  functions-headings n [] few = omega arith
-  functions-headings n (g ∷ gs) few =
+  pub functions-headings : (n : ℕ) (gs : List Function)
+      → length (functionsBytes n (map (rewriteFunction fields) gs)) ≤ 9 * length gs + 11 * parametersSize gs + 6 * bodiesSize gs
+  unfolding functionsWritten bodiesSize parametersSize
+  functions-headings n [] = omega arith
+  functions-headings n (g ∷ gs) =
       let w = rewriteFunction fields g in
       let m = n + sizes (functionTrees w) in
       let rest = length-append (functionBytes n w) (functionsBytes m (map (rewriteFunction fields) gs)) in
-      omega (arith, functions-headings m gs (few .1), function-heading n g (few .0))
+      omega (arith, functions-headings m gs, function-heading n g)

@@ -15,18 +15,18 @@ use Rattle.theory_accepted.proofs.Sentences.{accepted-settled}
 use Rattle.theory_trees.specs.Trees.{statementIn}
 use Rattle.file_accepted.specs.Context.{nodesIn, fieldsIn, parametersIn, scopeIn, Known}
 use Rattle.file_accepted.specs.Functions.{functionStart, rootAt}
-use Rattle.file_accepted.proofs.Accepted.{few-functions, few-fields, known-of}
+use Rattle.file_accepted.proofs.Accepted.{few-functions, known-of}
 use Rattle.file_accepted.proofs.Functions.{functions-count, function-in, root-below}
 use Rattle.rewrite_events.specs.Events.{variableCount, stepsOf, constraintsOf}
 use Rattle.theory_trees.specs.Sizes.{statementSize}
 use Rattle.rewrite_events.proofs.Lengths.{statement-length, steps-few}
 use Rattle.write_variables.specs.Variables.{ownersFit}
 use Rattle.write_parameters.specs.Parameters.{privateCount}
-use Rattle.write_room.specs.Sizes.{bodiesSize}
+use Rattle.write_room.specs.Sizes.{bodiesSize, parametersSize}
+use Rattle.write_room.specs.Rooms.{parameterCount, mostBytes, mostHeadings}
 use Rattle.write_room.proofs.Functions.{private-length, rewritten-weight}
-use Rattle.write_room.proofs.Acceptance.{counts, few-parameters}
-use Rattle.write_room.proofs.Room.{nodes-suffice, room-suffices, room-by-nodes}
-use Rattle.write_function_room.specs.Functions.{functionIn, privateIn, eventsIn, headingsBefore, nodesBefore, mostBytes, mostHeadings, writtenFunctions, FunctionRoom}
+use Rattle.write_room.proofs.Room.{nodes-suffice, room-suffices, room-by-parts, bytes-by-nodes}
+use Rattle.write_function_room.specs.Functions.{functionIn, privateIn, eventsIn, headingsBefore, nodesBefore, writtenFunctions, FunctionRoom}
 use Rattle.write_function_room.proofs.Sparse.{variables-sparse}
 use Rattle.write_function_room.proofs.Weights.{statement-weight}
 use Rattle.rewrite_event_owners.proofs.Files.{owners-listed}
@@ -39,6 +39,12 @@ unfolding bodiesSize
 body-within [] f h = absurd (omega arith)
 body-within (g ∷ gs) zero h = omega arith
 body-within (g ∷ gs) (suc f) h = omega (arith, body-within gs f (omega arith))
+
+own-parameters : (gs : List Function) (f : ℕ) → f < length gs → length ((functionAt gs f) .parameters) ≤ parametersSize gs
+unfolding parametersSize
+own-parameters [] f h = absurd (omega arith)
+own-parameters (g ∷ gs) zero h = omega arith
+own-parameters (g ∷ gs) (suc f) h = omega (arith, own-parameters gs f (omega arith))
 
 private-within : (file : List ℕ) (at : ℕ) → privateIn file at ≤ byteAt file at
 unfolding privateCount parametersIn
@@ -68,20 +74,18 @@ module _ (file : List ℕ) (accepted : checkNumber file ≡ 0) where
   pub file-fits : headingsBefore file (functionCount file) + 2 + 8 * nodesBefore file (functionCount file) ≤ 49152
   file-fits = omega (arith, room-suffices file accepted, written-length file)
 
-  pub file-fits-by-nodes : headingsBefore file (functionCount file) + 2 + 8 * nodesBefore file (functionCount file) ≤ mostBytes file
-  file-fits-by-nodes = omega (arith, room-by-nodes file accepted, written-length file, count-of-nodes file)
+  pub file-fits-by-parts : headingsBefore file (functionCount file) + 2 + 8 * nodesBefore file (functionCount file) ≤ mostBytes file
+  file-fits-by-parts = omega (arith, room-by-parts file accepted, written-length file)
 
-  -- Of the headings alone: those of sixteen functions, behind 64 fields.
-  pub headings-by-nodes : headingsBefore file (functionCount file) ≤ mostHeadings file
+  pub headings-fit-by-parts : headingsBefore file (functionCount file) ≤ mostHeadings file
   unfolding contractOf nodesIn rewrite
-  headings-by-nodes =
+  headings-fit-by-parts =
       let c = contractOf (sectionsOf file) in
-      let few = counts file accepted in
       let all : take (functionCount file) (writtenFunctions file) ≡ writtenFunctions file = ap (λ (n : ℕ). take n (writtenFunctions file)) (sym (functions-counted file)) ∙ take-length (writtenFunctions file) in
       let long = ap (λ (ws : List WrittenFunction). length (functionsBytes 0 ws)) all in
-      let own : length (functionsBytes 0 (writtenFunctions file)) ≤ 97 * length (c .functions) + 6 * bodiesSize (c .functions) =
-      functions-headings (c .fields) 0 (c .functions) (few-parameters (nodesIn file) ((sectionsOf file) .functions) (few .parameters)) in
-      omega (arith, functions-count file, functions-few, few-fields file (settled .counts), nodes-suffice file accepted, count-of-nodes file)
+      let own : length (functionsBytes 0 (writtenFunctions file)) ≤ 9 * length (c .functions) + 11 * parameterCount file + 6 * bodiesSize (c .functions) =
+      functions-headings (c .fields) 0 (c .functions) in
+      omega (arith, functions-count file, nodes-suffice file accepted, count-of-nodes file)
 
   module _ (f : ℕ) (inside : f < functionCount file) where
     abbrev start : ℕ
@@ -103,6 +107,13 @@ module _ (file : List ℕ) (accepted : checkNumber file ≡ 0) where
         let counted = functions-count file in
         let one = body-within ((contractOf (sectionsOf file)) .functions) f (omega arith) in
         omega (arith, nodes-suffice file accepted, count-of-nodes file)
+
+    -- So are its parameters.
+    parameters-within : length (parametersIn file start) ≤ parameterCount file
+    parameters-within =
+        let same = ap (λ (g : Function). length (g .parameters)) (function-in file f inside) in
+        let counted = functions-count file in
+        omega (arith, own-parameters ((contractOf (sectionsOf file)) .functions) f (omega arith))
 
     body-small : statementSize body ≤ 512
     body-small = omega (arith, body-within-nodes, function-context .fewNodes)
@@ -144,15 +155,16 @@ module _ (file : List ℕ) (accepted : checkNumber file ≡ 0) where
           owners = owners-small;
           heading = omega (arith, file-fits, headings-before-step file f inside);
           nodes = omega (arith, file-fits, before-step file f inside);
-          headingByNodes = omega (arith, headings-by-nodes, headings-before-step file f inside);
-          nodesByNodes = omega (arith, file-fits-by-nodes, before-step file f inside);
+          headingByParts = omega (arith, headings-fit-by-parts, headings-before-step file f inside);
+          nodesByParts = omega (arith, file-fits-by-parts, before-step file f inside);
+          partsByNodes = bytes-by-nodes file accepted;
         }
 
     pub function-room-alone : FunctionRoom file start 0 0
     function-room-alone =
         let few = parameters-count file start in
-        let weight = rewritten-weight (fieldsIn file) 0 (functionIn file start) (omega (arith, function-context .fewParameters)) in
-        let own = function-heading (fieldsIn file) 0 (functionIn file start) (omega (arith, function-context .fewParameters)) in
+        let weight = rewritten-weight (fieldsIn file) 0 (functionIn file start) in
+        let own = function-heading (fieldsIn file) 0 (functionIn file start) in
         record {
           context = function-context;
           root = function-root;
@@ -162,10 +174,11 @@ module _ (file : List ℕ) (accepted : checkNumber file ≡ 0) where
           claims = claims-by-nodes;
           variables = variables-few;
           owners = owners-small;
-          heading = omega (arith, body-small);
-          nodes = omega (arith, body-small);
-          headingByNodes = omega (arith, body-within-nodes);
-          nodesByNodes = omega (arith, body-within-nodes);
+          heading = omega (arith, body-small, function-context .fewParameters);
+          nodes = omega (arith, body-small, function-context .fewParameters);
+          headingByParts = omega (arith, body-within-nodes, few, parameters-within);
+          nodesByParts = omega (arith, body-within-nodes, few, parameters-within);
+          partsByNodes = bytes-by-nodes file accepted;
         }
 
 -- The count that code makes of the private parameters.

@@ -12,6 +12,7 @@ use Rattle.file_accepted.specs.Functions.{rootAt}
 use Rattle.rewrite_events.specs.Events.{Event, variableCount, stepsOf, constraintsOf, statementEvents}
 use Rattle.write_variables.specs.Variables.{ownersFit}
 use Rattle.write_parameters.specs.Parameters.{privateCount}
+use Rattle.write_room.specs.Rooms.{mostBytes, mostHeadings}
 
 -- The function that begins at a place of a file.
 abbrev pub functionIn : List ℕ → ℕ → Function
@@ -37,14 +38,6 @@ headingsBefore file f = 1 + 3 * fieldCount file + 1 + length (functionsBytes 0 (
 abbrev pub nodesBefore : List ℕ → ℕ → ℕ
 nodesBefore file f = sizes (flatMap functionTrees (take f (writtenFunctions file)))
 
--- As many bytes as a file of so many nodes is ever written in; 49,152 are more.
-abbrev pub mostBytes : List ℕ → ℕ
-mostBytes file = 5076 + 64 * nodeCount file
-
--- The headings alone are never longer.
-abbrev pub mostHeadings : List ℕ → ℕ
-mostHeadings file = 1746 + 6 * nodeCount file
-
 -- The function that begins at a place can be written: its heading from a place of so many bytes on, its nodes from a number of as many
 -- bytes on.
 pub record FunctionRoom (file : List ℕ) (at from base : ℕ) : Type 0 where
@@ -58,5 +51,6 @@ pub record FunctionRoom (file : List ℕ) (at from base : ℕ) : Type 0 where
   pub owners : ownersFit (eventsIn file at)
   pub heading : from + length (functionBytes base (writtenIn file at)) ≤ 49152
   pub nodes : 8 * (base + sizes (functionTrees (writtenIn file at))) ≤ 49152
-  pub headingByNodes : from + length (functionBytes base (writtenIn file at)) ≤ mostHeadings file
-  pub nodesByNodes : 8 * (base + sizes (functionTrees (writtenIn file at))) ≤ mostBytes file
+  pub headingByParts : from + length (functionBytes base (writtenIn file at)) ≤ mostHeadings file
+  pub nodesByParts : 8 * (base + sizes (functionTrees (writtenIn file at))) ≤ mostBytes file
+  pub partsByNodes : mostBytes file ≤ 5076 + 64 * nodeCount file

@@ -26,7 +26,8 @@ use Rattle.write_nodes.proofs.TreeNodes.{nodes-append, run-then}
 use Rattle.write_trees.proofs.Functions.{numbered-append, all-length}
 use Rattle.write_logged_steps.specs.Held.{HoldsEvents}
 use Rattle.write_bodies.specs.Bodies.{BodyReady}
-use Rattle.write_function_room.specs.Functions.{writtenIn, eventsIn, mostBytes}
+use Rattle.write_room.specs.Rooms.{mostBytes}
+use Rattle.write_function_room.specs.Functions.{writtenIn, eventsIn}
 use Rattle.write_functions.specs.declared.Parts.{Parts}
 use Rattle.write_functions.specs.Writing.{circuitsIn, CircuitsReady, CircuitsWritten, HeadingReady, FunctionReady, FunctionWritten}
 use Rattle.write_functions.proofs.Written.{constraints-counted, trees-are, trees-counted}
@@ -53,7 +54,7 @@ module _ (file : List ℕ) (at : ℕ) (source : List ℕ) (log roots numbers hea
     nodes-few = omega (arith, ready .room .nodes, trees-counted file at, written .nodes)
 
     nodes-fit : 8 * (base + parts .nodes) + 8 * size (commandTree ((writtenIn file at) .body)) ≤ mostBytes file
-    nodes-fit = omega (arith, ready .room .nodesByNodes, trees-counted file at, written .nodes)
+    nodes-fit = omega (arith, ready .room .nodesByParts, trees-counted file at, written .nodes)
 
     pub constraints-fit : parts .private + parts .claims ≤ 65535
     constraints-fit =

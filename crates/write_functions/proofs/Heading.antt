@@ -65,7 +65,7 @@ module _ (file : List ℕ) (at : ℕ) (log numbers headings : List ℕ) (from : 
         near = ready .room .context .nearFunction;
         variables = omega (arith, ready .told .made, ready .room .variables);
         constraints = omega (arith, claims-told (nodesIn file) (scopeIn file at) (ready .told .entries), ready .room .claims, ready .room .variables, ready .room .events);
-        bytes = omega (arith, ap length parts-are, ready .room .headingByNodes, ready .headingSpace);
+        bytes = omega (arith, ap length parts-are, ready .room .headingByParts, ready .headingSpace);
       }
 
   pub heading-written : (after : List ℕ) (end : ℕ) → Appended headings after from partsGiven end → Appended headings after from (functionBytes base (writtenIn file at)) end

@@ -101,7 +101,7 @@ module _ (file : List ℕ) (at : ℕ) (source : List ℕ) (log numbers out : Lis
           claimable file at (nodes-counted file) logAfter (eventsIn file at) (logged .numbers) entries 0 holds
               (claims-few (scopeIn file at) (statementEvents (scopeIn file at) (statementIn (nodesIn file) (rootAt file at)) always) (privateIn file at) within few),
           record {
-            bytes = omega (arith, ready .room .nodesByNodes, ready .nodeSpace);
+            bytes = omega (arith, ready .room .nodesByParts, ready .nodeSpace);
             numbers = omega (arith, ready .room .nodes);
             space = omega (arith, ready .room .claims, ready .numberSpace);
           },

@@ -13,7 +13,8 @@ use Rattle.file_accepted.specs.Context.{nodesIn, scopeIn, Source}
 use Rattle.rewrite_events.specs.Events.{variableCount, constraintsOf}
 use Rattle.rewrite_log.specs.Entries.{Entries}
 use Rattle.write_circuits.specs.Circuits.{sixesFrom}
-use Rattle.write_function_room.specs.Functions.{writtenIn, privateIn, eventsIn, mostBytes, mostHeadings, FunctionRoom}
+use Rattle.write_room.specs.Rooms.{mostBytes, mostHeadings}
+use Rattle.write_function_room.specs.Functions.{writtenIn, privateIn, eventsIn, FunctionRoom}
 use Rattle.write_functions.specs.declared.Parts.{Parts}
 use Rattle.write_functions.specs.declared.Finished.{Finished}
 

@@ -17,7 +17,14 @@ pub struct Answer {
     pub counts: Counts,
 }
 
-// Room for whatever is written of an accepted file of at most 512 bytes, which has at most 64 nodes; and of any accepted file.
+// Room for whatever is written of an accepted file of at most 112 bytes, each of which makes at most 18; of one of at most 512 bytes, which
+// has at most 64 nodes; and of any accepted file.
+pub fn tiny_written_room() -> [u8; 2016]
+    ensures { λ r. ⌜ 2016 ≡ length r ⌝ }
+{
+    [0; 2016]
+}
+
 pub fn short_written_room() -> [u8; 9172]
     ensures { λ r. ⌜ 9172 ≡ length r ⌝ }
 {

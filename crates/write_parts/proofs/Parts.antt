@@ -22,9 +22,10 @@ use Rattle.memory_append.proofs.Appending.{appended-then}
 use Rattle.write_fields.specs.Fields.{fieldSection}
 use Rattle.write_fields.proofs.Fields.{section-length}
 use Rattle.write_crossings.proofs.Sixteen.{sixteen-next}
-use Rattle.write_function_room.specs.Functions.{writtenIn, writtenFunctions, headingsBefore, nodesBefore, mostBytes, mostHeadings, FunctionRoom}
+use Rattle.write_room.specs.Rooms.{mostBytes, mostHeadings}
+use Rattle.write_function_room.specs.Functions.{writtenIn, writtenFunctions, headingsBefore, nodesBefore, FunctionRoom}
 use Rattle.write_function_room.proofs.Written.{functions-counted, take-next, headings-step, node-bytes-step, before-step, headings-before-step, nodes-before-length, start-step, before-first, headings-first, file-parts, written-length}
-use Rattle.write_function_room.proofs.Room.{file-fits, file-fits-by-nodes, headings-by-nodes}
+use Rattle.write_function_room.proofs.Room.{file-fits, file-fits-by-parts, headings-fit-by-parts}
 use Rattle.write_parts.specs.Parts.{headingsOf, nodesOf, crossingsOf, headingPart, nodePart, FunctionsPut, PartsPut}
 
 module _ (file : List ℕ) where
@@ -94,8 +95,8 @@ module _ (file : List ℕ) where
             let placed = headings-at in
             let counted = nodes-at in
             let l = nodes-before-length file f in
-            let fitsHeading = room .headingByNodes in
-            let fitsNodes = room .nodesByNodes in
+            let fitsHeading = room .headingByParts in
+            let fitsNodes = room .nodesByParts in
             rw (add-one f)
             record {
               headings =
@@ -162,11 +163,11 @@ module _ (file : List ℕ) where
     pub parts-fit : end + 2 + 8 * base ≤ 49152
     parts-fit = let e = put .end in let c = put .count in let l = heading-length in omega (arith, file-fits file accepted)
 
-    pub parts-fit-by-nodes : end + 2 + 8 * base ≤ mostBytes file
-    parts-fit-by-nodes = let e = put .end in let c = put .count in let l = heading-length in omega (arith, file-fits-by-nodes file accepted)
+    pub whole-by-parts : end + 2 + 8 * base ≤ mostBytes file
+    whole-by-parts = let e = put .end in let c = put .count in let l = heading-length in omega (arith, file-fits-by-parts file accepted)
 
-    pub headings-fit-by-nodes : end ≤ mostHeadings file
-    headings-fit-by-nodes = let e = put .end in let l = heading-length in omega (arith, headings-by-nodes file accepted)
+    pub heading-by-parts : end ≤ mostHeadings file
+    heading-by-parts = let e = put .end in let l = heading-length in omega (arith, headings-fit-by-parts file accepted)
 
     pub parts-make : writtenFile file ≡ headingPart file ++ twoBytes base ++ nodePart file
     parts-make = file-is ∙ ap (λ (k : ℕ). headingPart file ++ twoBytes k ++ nodePart file) (sym (put .count))

@@ -12,7 +12,8 @@ use Rattle.theory_crossings.specs.Crossings.{crossings}
 use Rattle.file_accepted.specs.Functions.{functionStart}
 use Rattle.memory_buffer.specs.Buffer.{stored}
 use Rattle.write_fields.specs.Fields.{fieldSection}
-use Rattle.write_function_room.specs.Functions.{writtenFunctions, headingsBefore, nodesBefore, mostBytes, mostHeadings}
+use Rattle.write_room.specs.Rooms.{mostBytes, mostHeadings}
+use Rattle.write_function_room.specs.Functions.{writtenFunctions, headingsBefore, nodesBefore}
 use Rattle.file_accepted.specs.Context.{Source}
 
 -- The headings and the nodes of the first f functions.

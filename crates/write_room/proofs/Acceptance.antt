@@ -2,23 +2,24 @@
 use mathlib.Core.Path.{_≡_, refl, ap, _∙_}
 use mathlib.Core.Bool.{Bool, false, _||_, not}
 use mathlib.Core.List.{List, [], _∷_, _++_, map}
-use Prim.Native.Nat.{ℕ, _+_, _*_, _≤_, _<_}
+use Prim.Native.Nat.{ℕ, zero, suc, _+_, _*_, _≤_, _<_}
 use native.Mathlib.Omega.{arith}
 use borrow.Author.Tests.{ltb-false, leb-false, not-false, eqb-true}
 use lib.Dec.{eqb, leb, ltb}
 use lib.ListN.{length, length-map}
 use Rattle.definitions.specs.Basics.{any, anyNumbered, countIf, flatMap, isZero}
-use Rattle.definitions.specs.ContractFile.{FunctionRecord, NodeRecord, Sections, fieldCount, functionCount, nodeCount, nodesAt, fileEnd, nodeRecords, sectionsOf, fieldOf, parameterOf, Node, nodeOf, children, fieldsNamed, functionOf}
-use Rattle.definitions.specs.Reading.{sectionsRead}
+use Rattle.definitions.specs.ContractFile.{FunctionRecord, NodeRecord, Sections, byteAt, fieldCount, functionsAt, functionCount, functionEnd, functionsEnd, nodeCount, nodesAt, fileEnd, parameterRecords, functionRecords, nodeRecords, sectionsOf, fieldOf, parameterOf, Node, nodeOf, children, fieldsNamed, functionOf, contractOf}
+use Rattle.definitions.specs.Reading.{functionsPassed, nodesBegin, functionsRead, sectionsRead}
 use Rattle.definitions.specs.Numbers.{endsWrongly, countOffLimits, namesNothing, fieldOfDeclaredOwner, usesOf, usedOtherThanOnce, checkNumber}
 use Rattle.theory_laws.proofs.Lists.{count-append, none-numbered}
-use Rattle.theory_laws.proofs.Records.{fields-length, force-is, functions-length, node-records-length}
+use Rattle.theory_laws.proofs.Records.{fields-length, force-is, parameters-length, functions-length, node-records-length}
 use Rattle.theory_laws.proofs.TruthValues.{or-left, or-right}
 use Rattle.theory_accepted.specs.Settled.{Settled}
 use Rattle.theory_accepted.proofs.Sentences.{accepted-settled}
 use Rattle.theory_trees.specs.Trees.{Falling}
 use Rattle.theory_trees.proofs.Falls.{nodes-fall}
-use Rattle.write_room.specs.Sizes.{fewParameters}
+use Rattle.write_room.specs.Sizes.{parametersSize}
+use Rattle.write_room.specs.Rooms.{parameterCount}
 use Rattle.write_room.specs.Counting.{Below}
 
 -- None at or above k: all below k.
@@ -27,13 +28,26 @@ unfolding any Below
 roots-below k [] h = tt
 roots-below k (r ∷ rs) h = (leb-false k (r .root) (or-left (leb k (r .root)) _ h), roots-below k rs (or-right (leb k (r .root)) _ h))
 
-pub few-parameters : (nodes : List Node) (rs : List FunctionRecord) → any (λ r. ltb 8 (length (r .parameters))) rs ≡ false → fewParameters (map (functionOf nodes) rs)
-unfolding any fewParameters
-few-parameters nodes [] h = tt
+-- "a one-byte parameter count, 0 to 8"
+few-parameters : (nodes : List Node) (rs : List FunctionRecord) → any (λ r. ltb 8 (length (r .parameters))) rs ≡ false
+    → parametersSize (map (functionOf nodes) rs) ≤ 8 * length rs
+unfolding any parametersSize
+few-parameters nodes [] h = omega arith
 few-parameters nodes (r ∷ rs) h =
     let l = ltb-false 8 (length (r .parameters)) (or-left (ltb 8 (length (r .parameters))) _ h) in
     let m = length-map (r .parameters) parameterOf in
-    (omega arith, few-parameters nodes rs (or-right (ltb 8 (length (r .parameters))) _ h))
+    omega (arith, few-parameters nodes rs (or-right (ltb 8 (length (r .parameters))) _ h))
+
+-- A function takes three bytes, and two for each parameter.
+functions-passed : (nodes : List Node) (k : ℕ) (file : List ℕ) (at : ℕ)
+    → functionsEnd k file at ≡ at + 3 * k + 2 * parametersSize (map (functionOf nodes) (functionRecords k file at))
+unfolding functionsPassed functionsRead parametersSize
+functions-passed nodes zero file at = omega arith
+functions-passed nodes (suc k) file at =
+    let end = functionEnd file at in
+    let rest = ap (λ (rs : List FunctionRecord). parametersSize (map (functionOf nodes) rs)) (force-is end (functionRecords k file)) in
+    let m = length-map (parameterRecords (byteAt file at) file (at + 1)) parameterOf in
+    omega (arith, force-is end (functionsEnd k file), functions-passed nodes k file end, parameters-length (byteAt file at) file (at + 1))
 
 flat-map : {A B C : Type 0} (g : A → B) (f : B → List C) (xs : List A) → flatMap f (map g xs) ≡ flatMap (λ x. f (g x)) xs
 unfolding flatMap
@@ -73,11 +87,11 @@ module _ (file : List ℕ) (accepted : checkNumber file ≡ 0) where
   pub record Counts : Type 0 where
     pub fields : length (sections .fields) ≤ 64
     pub functions : length (sections .functions) ≤ 16
-    pub parameters : manyParameters ≡ false
+    pub parameters : parameterCount file ≤ 128
     pub nodes : length (sections .nodes) ≤ 512
 
   pub counts : Counts
-  unfolding countOffLimits
+  unfolding countOffLimits contractOf
   counts =
       let off = settled .counts in
       let four = or-left (ltb 64 (fieldCount file) || isZero (functionCount file) || ltb 16 (functionCount file) || manyParameters) (ltb 512 (nodeCount file)) off in
@@ -94,14 +108,19 @@ module _ (file : List ℕ) (accepted : checkNumber file ≡ 0) where
       record {
         fields = omega arith;
         functions = omega arith;
-        parameters = or-right (ltb 64 (fieldCount file) || isZero (functionCount file) || ltb 16 (functionCount file)) manyParameters four;
+        parameters = omega (arith, few-parameters nodes (sections .functions) (or-right (ltb 64 (fieldCount file) || isZero (functionCount file) || ltb 16 (functionCount file)) manyParameters four));
         nodes = omega arith;
       }
 
-  -- Number 1: eight bytes of the file for each node.
-  pub nodes-in-length : 8 * length (sections .nodes) ≤ length file
-  unfolding endsWrongly
-  nodes-in-length = omega (arith, eqb-true (length file) (fileEnd file) (not-false _ (settled .ends)), nodes-counted)
+  -- Number 1: how long the file is.
+  pub file-length : length file ≡ 4 + 3 * fieldCount file + 3 * functionCount file + 2 * parameterCount file + 8 * nodeCount file
+  unfolding endsWrongly contractOf sectionsRead nodesBegin
+  file-length =
+      omega (
+        arith,
+        eqb-true (length file) (fileEnd file) (not-false _ (settled .ends)),
+        functions-passed nodes (functionCount file) file (functionsAt file + 1),
+      )
 
   -- Number 4.
   abbrev ownersOff : Bool

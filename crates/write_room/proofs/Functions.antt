@@ -12,7 +12,7 @@ use Rattle.definitions.specs.Rewriting.{Command, Variable, supplied, readFrom, 
 use Rattle.theory_laws.proofs.Lists.{four-lengths}
 use Rattle.theory_laws.proofs.Written.{all-length, sizes-append}
 use Rattle.theory_trees.specs.Sizes.{statementSize}
-use Rattle.write_room.specs.Sizes.{bodiesSize, commandSize, stepsSize, claimWeight, claimsWeight, constraintsWeight, passageWeight, fewParameters}
+use Rattle.write_room.specs.Sizes.{bodiesSize, parametersSize, commandSize, stepsSize, claimWeight, claimsWeight, constraintsWeight, passageWeight}
 use Rattle.write_room.proofs.Pieces.{constraints-append, steps-before, held-weight, statement-light}
 
 -- Lengths of lists put together from short ones.
@@ -168,10 +168,10 @@ verify-size [] body = omega arith
 verify-size (c ∷ cs) body = omega arith
 
 module _ (fields : List Field) where
-  pub rewritten-weight : (n : ℕ) (g : Function) → length (g .parameters) ≤ 8
-      → length (functionBytes n (rewriteFunction fields g)) + 8 * sizes (functionTrees (rewriteFunction fields g)) ≤ 305 + 64 * statementSize (g .body)
+  pub rewritten-weight : (n : ℕ) (g : Function)
+      → length (functionBytes n (rewriteFunction fields g)) + 8 * sizes (functionTrees (rewriteFunction fields g)) ≤ 25 + 35 * length (g .parameters) + 64 * statementSize (g .body)
   unfolding rewriteFunction passageWeight
-  rewritten-weight n g few =
+  rewritten-weight n g =
       let ks = privateParameters 0 (g .parameters) in
       let opening = openings ks 0 in
       let i = length (opening .variables) in
@@ -189,27 +189,29 @@ module _ (fields : List Field) where
       let w = verify-size constraints (passage .command) in
       omega arith
 
-  pub functions-weight : (n : ℕ) (gs : List Function) → fewParameters gs
-      → length (functionsBytes n (map (rewriteFunction fields) gs)) + 8 * sizes (flatMap functionTrees (map (rewriteFunction fields) gs)) ≤ 305 * length gs + 64 * bodiesSize gs
-  unfolding functionsWritten flatMap bodiesSize sizes fewParameters
-  functions-weight n [] few = omega arith
-  functions-weight n (g ∷ gs) few =
+  pub functions-weight : (n : ℕ) (gs : List Function)
+      → length (functionsBytes n (map (rewriteFunction fields) gs)) + 8 * sizes (flatMap functionTrees (map (rewriteFunction fields) gs))
+      ≤ 25 * length gs + 35 * parametersSize gs + 64 * bodiesSize gs
+  unfolding functionsWritten flatMap bodiesSize parametersSize sizes
+  functions-weight n [] = omega arith
+  functions-weight n (g ∷ gs) =
       let w = rewriteFunction fields g in
       let ws = map (rewriteFunction fields) gs in
       let m = n + sizes (functionTrees w) in
-      let h = functions-weight m gs (few .1) in
-      let k = rewritten-weight n g (few .0) in
+      let h = functions-weight m gs in
+      let k = rewritten-weight n g in
       let a = length-append (functionBytes n w) (functionsBytes m ws) in
       let s = sizes-append (functionTrees w) (flatMap functionTrees ws) in
       omega arith
 
-pub contract-length : (c : Contract) → fewParameters (c .functions)
-    → length (contractBytes (rewrite c)) ≤ 4 + 3 * length (c .fields) + 305 * length (c .functions) + 64 * bodiesSize (c .functions)
+pub contract-length : (c : Contract)
+    → length (contractBytes (rewrite c))
+    ≤ 4 + 3 * length (c .fields) + 25 * length (c .functions) + 35 * parametersSize (c .functions) + 64 * bodiesSize (c .functions)
 unfolding contractWritten rewrite
-contract-length c few =
+contract-length c =
     let gs = map (rewriteFunction (c .fields)) (c .functions) in
     let trees = flatMap functionTrees gs in
-    let w = functions-weight (c .fields) 0 (c .functions) few in
+    let w = functions-weight (c .fields) 0 (c .functions) in
     let f = flat-three fieldBytes (λ d. refl) (c .fields) in
     let a = all-length 0 trees in
     let b = flat-eight nodeBytes (λ r. refl) (numberedAll 0 trees) in

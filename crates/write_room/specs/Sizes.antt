@@ -1,6 +1,6 @@
 -- How many nodes the bodies of the original have, and how many bytes the parts of a rewritten function take.
 use mathlib.Core.List.{List, [], _∷_}
-use Prim.Native.Nat.{ℕ, _+_, _*_, _≤_}
+use Prim.Native.Nat.{ℕ, _+_, _*_}
 use lib.ListN.{length}
 use Rattle.definitions.specs.ContractFile.{Function}
 use Rattle.definitions.specs.Rewriting.{BodyExpression, Circuit, Command, Claim, equals, opensForCaller, Constraint, Step, Piece, Passage}
@@ -12,10 +12,10 @@ unfoldable pub bodiesSize : List Function → ℕ
 bodiesSize [] = 0
 bodiesSize (g ∷ gs) = statementSize (g .body) + bodiesSize gs
 
--- "a one-byte parameter count, 0 to 8"
-unfoldable pub fewParameters : List Function → Type 0
-fewParameters [] = Unit {0}
-fewParameters (g ∷ gs) = (length (g .parameters) ≤ 8) × fewParameters gs
+-- Their parameters together.
+unfoldable pub parametersSize : List Function → ℕ
+parametersSize [] = 0
+parametersSize (g ∷ gs) = length (g .parameters) + parametersSize gs
 
 -- The nodes that a form of the rewritten function has.
 abbrev pub bodySize : BodyExpression → ℕ

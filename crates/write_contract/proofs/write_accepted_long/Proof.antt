@@ -2,6 +2,7 @@
 use native.Mathlib.Omega.{arith}
 use Rattle.theory_accepted.proofs.Sentences.{accepted-settled}
 use Rattle.file_accepted.proofs.Accepted.{few-nodes}
+use Rattle.write_room.proofs.Room.{bytes-by-nodes, headings-by-nodes}
 use borrow.Author.Needs.{needs}
 use Rattle.write_contract.proofs.write_accepted_long.Statement.{statement}
 use Rattle.write_contract.proofs.write_accepted_long.Tie as tie
@@ -10,10 +11,10 @@ pub write-accepted-long-spec : {M : Type 1} → statement M
 write-accepted-long-spec =
     tie.close (tie.spec
     (λ c. search needs) (λ c. search needs) (λ c. search needs) (λ c. search needs) (λ c. search needs)
-    (λ c κs. let start = c .before .before .before .before .before .before .before .before .before in let accepted = start .pre .0 in
-    let few = few-nodes (start .args .file .now) (accepted-settled (start .args .file .now) accepted .counts) in (
+    (λ c κs. let start = c .before .before .before .before .before .before .before .before .before in let file = start .args .file .now in let accepted = start .pre .0 in
+    let few = few-nodes file (accepted-settled file accepted .counts) in (
       start .pre .1,
-      record { accepted = accepted; headingSpace = omega arith; nodeSpace = omega arith },
+      record { accepted = accepted; headingSpace = omega (arith, headings-by-nodes file accepted); nodeSpace = omega (arith, bytes-by-nodes file accepted) },
       record { logSpace = omega arith; rootSpace = omega arith; numberSpace = omega arith },
     ))
     (λ c. search needs) (λ c. search needs))

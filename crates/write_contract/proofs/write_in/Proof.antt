@@ -4,7 +4,7 @@ use native.Mathlib.Omega.{arith}
 use lib.ListN.{length}
 use Rattle.memory_buffer.proofs.Storing.{front-stored}
 use Rattle.write_output.proofs.Answers.{accepted-parts}
-use Rattle.write_parts.proofs.Parts.{counts-make, parts-fit, parts-fit-by-nodes, headings-fit-by-nodes, parts-make, nodes-long}
+use Rattle.write_parts.proofs.Parts.{counts-make, parts-fit, whole-by-parts, heading-by-parts, parts-make, nodes-long}
 use borrow.Author.Needs.{needs}
 use Rattle.write_contract.proofs.write_in.Statement.{statement}
 use Rattle.write_contract.proofs.write_in.Tie as tie
@@ -16,10 +16,10 @@ write-in-spec =
     (λ c. let start = c .before .before .before .before .before .before .before .before .before .before .before .before .before .before .before .before .before .before .before .before .before .before .before .before in let args-file = start .args .file .now in
     let pre = start .pre .1 .accepted in omega (arith, parts-fit args-file _ _ _ _ _ _ _ (c .before .before .before .before .before .before .before .before .before .before .write-parts .ensures) pre))
     (λ c. let start = c .before .before .before .before .before .before .before .before .before .before .before .before .before .before .before .before .before .before .before .before .before .before .before .before in let args-file = start .args .file .now in
-    let pre = start .pre .1 .accepted in omega (arith, headings-fit-by-nodes args-file _ _ _ _ _ _ _ (c .before .before .before .before .before .before .before .before .before .before .write-parts .ensures) pre, start .pre .1 .headingSpace, c .before .before .before .before .before .before .before .before .before .before .write-parts .kept))
+    let pre = start .pre .1 .accepted in omega (arith, heading-by-parts args-file _ _ _ _ _ _ _ (c .before .before .before .before .before .before .before .before .before .before .write-parts .ensures) pre, start .pre .1 .headingSpace, c .before .before .before .before .before .before .before .before .before .before .write-parts .kept))
     (λ c. let put = c .before .before .before .before .before .before .before .before .before .before .before .write-parts .ensures in let front = front-stored _ _ _ _ (put .headings) (put .end) in put .end ∙ sym (ap length front))
     (λ c. let start = c .before .before .before .before .before .before .before .before .before .before .before .before .before .before .before .before .before .before .before .before .before .before .before .before .before in let args-file = start .args .file .now in
-    let pre = start .pre .1 .accepted in omega (arith, parts-fit-by-nodes args-file _ _ _ _ _ _ _ (c .before .before .before .before .before .before .before .before .before .before .before .write-parts .ensures) pre, start .pre .1 .nodeSpace, c .before .before .before .before .before .before .before .before .before .before .before .write-parts .kept))
+    let pre = start .pre .1 .accepted in omega (arith, whole-by-parts args-file _ _ _ _ _ _ _ (c .before .before .before .before .before .before .before .before .before .before .before .write-parts .ensures) pre, start .pre .1 .nodeSpace, c .before .before .before .before .before .before .before .before .before .before .before .write-parts .kept))
     (λ c. let start = c .before .before .before .before .before .before .before .before .before .before .before .before .before .before .before .before .before .before .before .before .before .before .before .before .before .before in let args-file = start .args .file .now in
     let pre = start .pre .1 .accepted in let write-parts = c .before .before .before .before .before .before .before .before .before .before .before .before .write-parts .ensures in
     let put = write-parts in let back = front-stored _ _ _ _ (put .nodes) (nodes-long args-file _ _ _ _ _ _ _ put pre) in nodes-long args-file _ _ _ _ _ _ _ put pre ∙ sym (ap length back))
