@@ -4,7 +4,7 @@ use mathlib.Core.List.{List, map}
 use Prim.Native.Nat.{ℕ, suc, _*_, _<_, _≤_}
 use native.Mathlib.Omega.{arith}
 use lib.ListN.{length, take}
-use Rattle.definitions.specs.ContractFile.{Function, byteAt, functionCount, nodesAt}
+use Rattle.definitions.specs.ContractFile.{Function, byteAt, functionCount}
 use Rattle.definitions.specs.Numbers.{checkNumber}
 use Rattle.definitions.specs.Original.{addressIn}
 use Rattle.definitions.specs.Ledger.{Content, Ledger, openedNumber, callNumber, callWith, honestParameters, honestParametersOf, honestVariablesOf}

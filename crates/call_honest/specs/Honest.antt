@@ -3,7 +3,6 @@ use mathlib.Core.Path.{_≡_}
 use mathlib.Core.List.{List, map}
 use Prim.Native.Nat.{ℕ, _*_, _≤_}
 use lib.ListN.{length, take}
-use Rattle.definitions.specs.ContractFile.{nodesAt}
 use Rattle.definitions.specs.Original.{addressIn}
 use Rattle.definitions.specs.Ledger.{Ledger, openedNumber, callNumber}
 use Rattle.file_accepted.specs.Context.{nodesIn, scopeIn, Source}

@@ -7,6 +7,8 @@ use check_04_nodes::node_names_nothing;
 use file_children::either;
 use file_decoded::node_from;
 use file_decoded::number_from;
+use file_kinds::EVERYONE_CODE;
+use file_kinds::KEY_CODE;
 ghost use mathlib.Core.Path.{_≡_};
 ghost use mathlib.Core.List.{List, [], _∷_};
 ghost use Prim.Native.Nat.{ℕ, _/_};
@@ -22,10 +24,10 @@ ghost use Rattle.check_04_nodes.specs.Naming.{ownerNamesNothing, rootNamesNothi
 fn owner_names_nothing(fields: usize, owner: usize) -> bool
     ensures { λ r. ⌜ r ≡ any (leb fields) (fieldOfDeclaredOwner (fieldOwnerOfCode owner)) ⌝ }
 {
-    if owner == 0 {
+    if owner == EVERYONE_CODE {
         return false;
     }
-    if owner == 2 {
+    if owner == KEY_CODE {
         return false;
     }
     fields <= final_number(owner)

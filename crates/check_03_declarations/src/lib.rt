@@ -1,9 +1,12 @@
 // Number 3 for fields and parameters: their shapes, types and owner codes.
 use file_decoded::number_from;
 use file_kinds::ADDRESS;
+use file_kinds::CALLER_CODE;
+use file_kinds::EVERYONE_CODE;
 use file_kinds::FINAL;
 use file_kinds::FINAL_CODES;
 use file_kinds::FINAL_CODES_END;
+use file_kinds::KEY_CODE;
 use file_kinds::MAPPING;
 ghost use mathlib.Core.Path.{_≡_};
 ghost use mathlib.Core.Bool.{_&&_, _||_};
@@ -27,13 +30,13 @@ pub fn is_final_code(code: usize) -> bool
 fn field_owner_in_tables(shape: usize, owner: usize) -> bool
     ensures { λ r. ⌜ r ≡ (isZero owner || isFinalCode owner || (eqb owner 2 && eqb shape 2)) ⌝ }
 {
-    if owner == 0 {
+    if owner == EVERYONE_CODE {
         return true;
     }
     if is_final_code(owner) {
         return true;
     }
-    owner == 2 && shape == MAPPING
+    owner == KEY_CODE && shape == MAPPING
 }
 
 fn field_in_tables(shape: usize, data_type: usize, owner: usize) -> bool
@@ -51,7 +54,7 @@ fn field_in_tables(shape: usize, data_type: usize, owner: usize) -> bool
     if shape != FINAL {
         return true;
     }
-    data_type == ADDRESS && owner == 0
+    data_type == ADDRESS && owner == EVERYONE_CODE
 }
 
 // Whether some of the fields is outside the tables.
@@ -76,7 +79,7 @@ pub fn fields_outside(fields: &[u16]) -> bool
 fn parameter_in_tables(data_type: usize, owner: usize) -> bool
     ensures { λ r. ⌜ r ≡ parameterInTables (record { type = «data_type»; owner = owner }) ⌝ }
 {
-    data_type <= ADDRESS && owner <= 1
+    data_type <= ADDRESS && owner <= CALLER_CODE
 }
 
 // Whether some of a function's parameters is outside the tables.

@@ -3,6 +3,7 @@ use check_03_declarations::is_final_code;
 use file_bytes::Node;
 use file_kinds::ADDRESS;
 use file_kinds::BOOL;
+use file_kinds::CALLER_CODE;
 use file_kinds::CONSTANT;
 use file_kinds::ENTRY;
 use file_kinds::ENTRY_TAKES;
@@ -40,7 +41,7 @@ fn is_parameter_code(code: usize) -> bool
 fn target_in_tables(code: usize) -> bool
     ensures { λ r. ⌜ r ≡ targetInTables code ⌝ }
 {
-    if code <= 1 {
+    if code <= CALLER_CODE {
         return true;
     }
     if is_final_code(code) {

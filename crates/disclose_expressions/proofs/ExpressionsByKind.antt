@@ -14,7 +14,8 @@ use Rattle.memory_append.specs.Append.{Appended}
 use Rattle.memory_append.proofs.Appending.{appended-nothing}
 use Rattle.file_decoded.specs.Slices.{recordAt}
 use Rattle.file_accepted.specs.Context.{Context, nodesIn}
-use Rattle.file_accepted.proofs.Nodes.{constant-is, field-is, parameter-is, other-is}
+use Rattle.theory_trees.proofs.ByKind.{constant-is, field-is, parameter-is, other-is}
+use Rattle.file_accepted.proofs.Nodes.{node-reads}
 use Rattle.ledger_circuits.specs.Circuits.{addressFrom}
 use Rattle.honest_values.specs.Values.{valueOf}
 use Rattle.honest_values.proofs.Addresses.{value-is}
@@ -93,10 +94,10 @@ module _ (file arguments addresses numbers : List ℕ) where
       silent-is = first (eqb (r .kind) 1) refl
         where
           third : (eqb (r .kind) 1 ≡ false) → (eqb (r .kind) 3 ≡ false) → (test : Bool) → eqb (r .kind) 5 ≡ test → Silent here
-          third a b true e = constant-silent here _ (parameter-is file functionStart source context n inside r same (eqb-true (r .kind) 5 e)) refl refl
+          third a b true e = constant-silent here _ (parameter-is (node-reads file functionStart source context n inside r same) (eqb-true (r .kind) 5 e)) refl refl
           third a b false e =
               constant-silent here _
-              (other-is file functionStart source context n inside r same
+              (other-is (node-reads file functionStart source context n inside r same)
               (record {
                 constant = eqb-false (r .kind) 1 a;
                 field = eqb-false (r .kind) 3 b;
@@ -108,11 +109,11 @@ module _ (file arguments addresses numbers : List ℕ) where
               })) refl refl
 
           second : (eqb (r .kind) 1 ≡ false) → (test : Bool) → eqb (r .kind) 3 ≡ test → Silent here
-          second a true e = constant-silent here _ (field-is file functionStart source context n inside r same (eqb-true (r .kind) 3 e)) refl refl
+          second a true e = constant-silent here _ (field-is (node-reads file functionStart source context n inside r same) (eqb-true (r .kind) 3 e)) refl refl
           second a false e = third a e (eqb (r .kind) 5) refl
 
           first : (test : Bool) → eqb (r .kind) 1 ≡ test → Silent here
-          first true e = constant-silent here _ (constant-is file functionStart source context n inside r same (eqb-true (r .kind) 1 e)) refl refl
+          first true e = constant-silent here _ (constant-is (node-reads file functionStart source context n inside r same) (eqb-true (r .kind) 1 e)) refl refl
           first false e = second e (eqb (r .kind) 3) refl
 
     -- "Both operands are always worked out, left first."

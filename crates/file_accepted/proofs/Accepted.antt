@@ -9,7 +9,7 @@ use lib.Dec.{leb, ltb}
 use lib.ListN.{length, getD, length-map, List·getD-eq-default}
 use Rattle.definitions.specs.Basics.{all, any, anyNumbered, isZero}
 use Rattle.definitions.specs.ContractFile.{FieldRecord, FunctionRecord, NodeRecord, byteAt, fieldCount, functionCount, functionsAt, functionEnd, functionsEnd, nodesAt, nodeCount, fieldRecords, parameterRecords, functionRecord, functionRecords, nodeRecord, sectionsOf, fieldOf, Node, unknownNode, nodeOf, nodeAt, children, expressionParts, statementParts, isExpression, isStatement, fieldsNamed}
-use Rattle.definitions.specs.Reading.{functionsPassed, nodesBegin, functionsRead}
+use Rattle.definitions.specs.Reading.{functionsPassed, functionsRead}
 use Rattle.definitions.specs.Numbers.{countOffLimits, fieldInTables, parameterInTables, nodeInTables, outsideTables, fieldOfDeclaredOwner, namesNothing, wrongSort}
 use Rattle.theory_laws.proofs.Records.{field-record, fields-length, force-is, functions-length, parameters-length}
 use Rattle.theory_laws.proofs.TruthValues.{or-left, or-right}

@@ -1,5 +1,4 @@
 pub mod Nodes
-pub mod Statements
 pub mod Declarations
 pub mod Accepted
 pub mod Functions

@@ -1,13 +1,13 @@
 -- What is known of a file, with its nodes in a slice and without; and the slice that the decoder fills.
-use mathlib.Core.Path.{_≡_, refl, ap, sym, _∙_}
+use mathlib.Core.Path.{_≡_, ap, sym, _∙_}
 use mathlib.Core.List.{List}
 use Prim.Native.Nat.{ℕ, zero, suc, _+_, _*_, _/_, _<_}
 use native.Mathlib.Omega.{arith}
 use lib.ListN.{length, getD}
-use Rattle.definitions.specs.ContractFile.{NodeRecord, nodesAt, nodeCount, nodeRecord, nodeRecords}
+use Rattle.definitions.specs.ContractFile.{NodeRecord, nodesAt, nodeCount, nodeRecords}
 use Rattle.definitions.specs.Numbers.{nodeInTables}
 use Rattle.file_bytes.proofs.ReadingSteps.{getD-nodeRecords}
-use Rattle.file_decoded.specs.Slices.{nodeFrom, nodesFrom, recordAt, Narrow}
+use Rattle.file_decoded.specs.Slices.{nodeFrom, nodesFrom, Narrow}
 use Rattle.file_accepted.specs.Context.{Source, Known, Context}
 
 pub context-with : (file : List ℕ) (at : ℕ) (source : List ℕ) → Known file at → Source file source → Context file at source

@@ -127,6 +127,13 @@ pub const FINAL: usize = 1;
 
 pub const MAPPING: usize = 2;
 
+// "Owner codes: 0 all, 1 me (the caller), 2 the mapping's key ..".
+pub const EVERYONE_CODE: usize = 0;
+
+pub const CALLER_CODE: usize = 1;
+
+pub const KEY_CODE: usize = 2;
+
 // "Owner codes: .. 16+f final field f (f 0 to 63), 128+k parameter k (k 0 to 7).": where the codes of finals and those of parameters
 // begin, and where they end.
 pub const FINAL_CODES: usize = 16;
@@ -136,6 +143,9 @@ pub const FINAL_CODES_END: usize = FINAL_CODES + 64;
 pub const PARAMETER_CODES: usize = 128;
 
 pub const PARAMETER_CODES_END: usize = PARAMETER_CODES + 8;
+
+// The root of a constraint that its variable opens for the caller, which has no circuit.
+pub const OPENS: usize = 65535;
 
 // The same as numbers of two bytes, which a decoded contract is made of.
 pub const CONSTANT_SHORT: u16 = CONSTANT as u16;
@@ -197,3 +207,7 @@ pub const FINAL_CODES_SHORT: u16 = FINAL_CODES as u16;
 pub const FINAL_CODES_END_SHORT: u16 = FINAL_CODES_END as u16;
 
 pub const PARAMETER_CODES_SHORT: u16 = PARAMETER_CODES as u16;
+
+pub const CALLER_CODE_SHORT: u16 = CALLER_CODE as u16;
+
+pub const OPENS_SHORT: u16 = OPENS as u16;

@@ -4,10 +4,9 @@ use mathlib.Core.List.{List, _++_}
 use Prim.Native.Nat.{ℕ, _+_, _*_, _/_, _≤_}
 use native.Mathlib.Omega.{arith}
 use borrow.Author.Tests.{eqb-true, not-false}
-use lib.Dec.{eqb}
 use lib.ListN.{length, take, drop, length-append, length-drop}
 use lib.Seq.{take-at, length-take-le}
-use Rattle.definitions.specs.ContractFile.{nodesAt, nodeCount, fileEnd, nodeRecords}
+use Rattle.definitions.specs.ContractFile.{nodeCount, fileEnd, nodeRecords}
 use Rattle.definitions.specs.Numbers.{checkNumber, endsWrongly}
 use Rattle.theory_accepted.proofs.Sentences.{accepted-settled}
 use Rattle.file_bytes.specs.declared.Layout.{Layout}

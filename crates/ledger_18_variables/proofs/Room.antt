@@ -6,7 +6,6 @@ use Prim.Native.Nat.{ℕ, _≤_}
 use native.Mathlib.Omega.{arith}
 use lib.ListN.{length, drop, take, getD}
 use lib.Seq.{length-take-le}
-use Rattle.definitions.specs.ContractFile.{nodesAt}
 use Rattle.definitions.specs.Ledger.{allFit}
 use Rattle.file_accepted.specs.Context.{Context, nodesIn, parametersIn, scopeIn, Source}
 use Rattle.file_accepted.specs.Functions.{rootAt}

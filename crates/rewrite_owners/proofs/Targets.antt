@@ -2,9 +2,9 @@
 use mathlib.Core.Path.{_≡_}
 use mathlib.Core.Bool.{true, _&&_}
 use mathlib.Core.List.{List}
-use Prim.Native.Nat.{ℕ, _+_, _*_, _<_}
+use Prim.Native.Nat.{ℕ, _<_}
 use Rattle.definitions.specs.Basics.{isZero}
-use Rattle.definitions.specs.ContractFile.{NodeRecord, nodeCount, nodeRecord, revealKind, kindOf}
+use Rattle.definitions.specs.ContractFile.{NodeRecord, nodeCount, revealKind, kindOf}
 use Rattle.definitions.specs.Numbers.{kindInTables, targetInTables}
 use Rattle.theory_laws.proofs.TruthValues.{and-left}
 use Rattle.file_accepted.specs.Context.{Context}

@@ -2,14 +2,15 @@
 use mathlib.Core.Path.{_≡_, refl, ap, sym, _∙_}
 use mathlib.Core.Bool.{Bool, true, false, _&&_, cond, not, false≢true}
 use mathlib.Core.List.{List}
-use Prim.Native.Nat.{ℕ, suc, _+_, _*_, _<_, _≤_}
+use Prim.Native.Nat.{ℕ, suc, _+_, _<_, _≤_}
 use native.Mathlib.Omega.{arith}
 use lib.Dec.{eqb}
 use borrow.Author.Tests.{eq-eqb, ne-eqb}
-use Rattle.definitions.specs.ContractFile.{meName, Owner, everyone, ownedBy, Operator, Expression, Scope, isEveryone, isDivision, NodeRecord, nodeCount, nodeRecord, ownerCode}
+use Rattle.definitions.specs.ContractFile.{meName, Owner, everyone, ownedBy, Operator, Expression, Scope, isEveryone, isDivision, NodeRecord, nodeCount, ownerCode}
 use Rattle.definitions.specs.Owners.{ownerOf}
 use Rattle.file_accepted.specs.Context.{Context, scopeIn}
-use Rattle.file_accepted.proofs.Nodes.{field-is, entry-is, parameter-is, operator-is, negation-is, reveal-is, key-below, part-below, revealed-below, operands-below}
+use Rattle.theory_trees.proofs.ByKind.{field-is, entry-is, parameter-is, operator-is, negation-is, reveal-is, key-below, part-below, revealed-below, operands-below}
+use Rattle.file_accepted.proofs.Nodes.{node-reads}
 use Rattle.rewrite_owners.proofs.Codes.{public-test}
 use Rattle.rewrite_events.specs.Events.{Events, noEvents}
 use Rattle.rewrite_events.specs.Parts.{isSupplied, isRead, suppliedFor, eachPart}
@@ -130,28 +131,28 @@ module _ (file : List ℕ) (functionStart : ℕ) (source : List ℕ) (context : 
   pub parts-entry : r .kind ≡ 4 → PartsOf file n (record { count = 1; first = r .first; second = r .second })
   unfolding eachPart
   parts-entry k =
-      one-part (key-below file functionStart source context n inside r same k) (λ rule. ap (eachPart rule) (entry-is file functionStart source context n inside r same k))
+      one-part (key-below (node-reads file functionStart source context n inside r same) k) (λ rule. ap (eachPart rule) (entry-is (node-reads file functionStart source context n inside r same) k))
 
   pub parts-negation : r .kind ≡ 7 → PartsOf file n (record { count = 1; first = r .first; second = r .second })
   unfolding eachPart
   parts-negation k =
-      one-part (part-below file functionStart source context n inside r same k) (λ rule. ap (eachPart rule) (negation-is file functionStart source context n inside r same k))
+      one-part (part-below (node-reads file functionStart source context n inside r same) k) (λ rule. ap (eachPart rule) (negation-is (node-reads file functionStart source context n inside r same) k))
 
   pub parts-reveal : r .kind ≡ 8 → PartsOf file n (record { count = 1; first = r .first; second = r .second })
   unfolding eachPart
   parts-reveal k =
-      one-part (revealed-below file functionStart source context n inside r same k) (λ rule. ap (eachPart rule) (reveal-is file functionStart source context n inside r same k))
+      one-part (revealed-below (node-reads file functionStart source context n inside r same) k) (λ rule. ap (eachPart rule) (reveal-is (node-reads file functionStart source context n inside r same) k))
 
   pub parts-operator : r .kind ≡ 6 → PartsOf file n (record { count = 2; first = r .first; second = r .second })
   unfolding eachPart
   parts-operator k =
-      let less = operands-below file functionStart source context n inside r same k in
+      let less = operands-below (node-reads file functionStart source context n inside r same) k in
       record {
         first = λ some. less .0;
         second = λ more. less .1;
         none = λ empty. absurd (omega arith);
         one = λ single. absurd (omega arith);
-        two = λ more rule. ap (eachPart rule) (operator-is file functionStart source context n inside r same k);
+        two = λ more rule. ap (eachPart rule) (operator-is (node-reads file functionStart source context n inside r same) k);
       }
 
   pub parts-rest : (r .kind ≡ 4 → ⊥) → (r .kind ≡ 6 → ⊥) → (r .kind ≡ 7 → ⊥) → (r .kind ≡ 8 → ⊥)
@@ -178,12 +179,12 @@ module _ (file : List ℕ) (functionStart : ℕ) (source : List ℕ) (context : 
 
   pub read-field : r .kind ≡ 3 → isRead (scopeIn file functionStart) (nodeExpression file n) ≡ true
   unfolding isRead
-  read-field k = ap (isRead (scopeIn file functionStart)) (field-is file functionStart source context n inside r same k)
+  read-field k = ap (isRead (scopeIn file functionStart)) (field-is (node-reads file functionStart source context n inside r same) k)
 
   pub read-entry : r .kind ≡ 4 → isRead (scopeIn file functionStart) (nodeExpression file n) ≡ true
   unfolding isRead
-  read-entry k = ap (isRead (scopeIn file functionStart)) (entry-is file functionStart source context n inside r same k)
+  read-entry k = ap (isRead (scopeIn file functionStart)) (entry-is (node-reads file functionStart source context n inside r same) k)
 
   pub read-parameter : r .kind ≡ 5 → isRead (scopeIn file functionStart) (nodeExpression file n) ≡ true
   unfolding isRead
-  read-parameter k = ap (isRead (scopeIn file functionStart)) (parameter-is file functionStart source context n inside r same k)
+  read-parameter k = ap (isRead (scopeIn file functionStart)) (parameter-is (node-reads file functionStart source context n inside r same) k)

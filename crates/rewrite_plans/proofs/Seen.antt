@@ -5,9 +5,10 @@ use mathlib.Core.List.{List}
 use Prim.Native.Nat.{ℕ, _+_, _*_, _<_}
 use borrow.Author.Tests.{eqb-true, eqb-false}
 use lib.Dec.{eqb}
-use Rattle.definitions.specs.ContractFile.{Expression, NodeRecord, nodeCount, nodeRecord, dataTypeOf, ownerOfCode, operatorOf}
+use Rattle.definitions.specs.ContractFile.{Expression, NodeRecord, nodeCount, dataTypeOf, ownerOfCode, operatorOf}
 use Rattle.file_accepted.specs.Context.{Context}
-use Rattle.file_accepted.proofs.Nodes.{constant-is, field-is, entry-is, parameter-is, operator-is, negation-is, reveal-is, other-is}
+use Rattle.theory_trees.proofs.ByKind.{constant-is, field-is, entry-is, parameter-is, operator-is, negation-is, reveal-is, other-is}
+use Rattle.file_accepted.proofs.Nodes.{node-reads}
 use Rattle.rewrite_plans.specs.Plans.{nodeExpression}
 use Rattle.file_decoded.specs.Slices.{recordAt}
 
@@ -24,23 +25,23 @@ pub data Seen (file : List ℕ) (n : ℕ) (r : NodeRecord) : Type 0 where
 module _ (file : List ℕ) (functionStart : ℕ) (source : List ℕ) (context : Context file functionStart source) (n : ℕ) (inside : n < nodeCount file) (r : NodeRecord)
     (same : r ≡ recordAt source n) where
   seen-from-8 : (a : Bool) → eqb (r .kind) 8 ≡ a → (r .kind ≡ 1 → ⊥) → (r .kind ≡ 3 → ⊥) → (r .kind ≡ 4 → ⊥) → (r .kind ≡ 5 → ⊥) → (r .kind ≡ 6 → ⊥) → (r .kind ≡ 7 → ⊥) → Seen file n r
-  seen-from-8 true e a b c d f g = seenReveal (eqb-true _ _ e) (reveal-is file functionStart source context n inside r same (eqb-true _ _ e))
+  seen-from-8 true e a b c d f g = seenReveal (eqb-true _ _ e) (reveal-is (node-reads file functionStart source context n inside r same) (eqb-true _ _ e))
   seen-from-8 false e a b c d f g =
-      seenMe (other-is file functionStart source context n inside r same (record { constant = a; field = b; entry = c; parameter = d; operator = f; negation = g; reveal = eqb-false _ _ e }))
+      seenMe (other-is (node-reads file functionStart source context n inside r same) (record { constant = a; field = b; entry = c; parameter = d; operator = f; negation = g; reveal = eqb-false _ _ e }))
 
   seen-from-6 : (a b : Bool) → eqb (r .kind) 6 ≡ a → eqb (r .kind) 7 ≡ b → (r .kind ≡ 1 → ⊥) → (r .kind ≡ 3 → ⊥) → (r .kind ≡ 4 → ⊥) → (r .kind ≡ 5 → ⊥) → Seen file n r
-  seen-from-6 true q e f a b c d = seenOperator (eqb-true _ _ e) (operator-is file functionStart source context n inside r same (eqb-true _ _ e))
-  seen-from-6 false true e f a b c d = seenNegation (eqb-true _ _ f) (negation-is file functionStart source context n inside r same (eqb-true _ _ f))
+  seen-from-6 true q e f a b c d = seenOperator (eqb-true _ _ e) (operator-is (node-reads file functionStart source context n inside r same) (eqb-true _ _ e))
+  seen-from-6 false true e f a b c d = seenNegation (eqb-true _ _ f) (negation-is (node-reads file functionStart source context n inside r same) (eqb-true _ _ f))
   seen-from-6 false false e f a b c d = seen-from-8 (eqb (r .kind) 8) refl a b c d (eqb-false _ _ e) (eqb-false _ _ f)
 
   seen-from-4 : (a b : Bool) → eqb (r .kind) 4 ≡ a → eqb (r .kind) 5 ≡ b → (r .kind ≡ 1 → ⊥) → (r .kind ≡ 3 → ⊥) → Seen file n r
-  seen-from-4 true q e f a b = seenEntry (eqb-true _ _ e) (entry-is file functionStart source context n inside r same (eqb-true _ _ e))
-  seen-from-4 false true e f a b = seenParameter (eqb-true _ _ f) (parameter-is file functionStart source context n inside r same (eqb-true _ _ f))
+  seen-from-4 true q e f a b = seenEntry (eqb-true _ _ e) (entry-is (node-reads file functionStart source context n inside r same) (eqb-true _ _ e))
+  seen-from-4 false true e f a b = seenParameter (eqb-true _ _ f) (parameter-is (node-reads file functionStart source context n inside r same) (eqb-true _ _ f))
   seen-from-4 false false e f a b = seen-from-6 (eqb (r .kind) 6) (eqb (r .kind) 7) refl refl a b (eqb-false _ _ e) (eqb-false _ _ f)
 
   seen-from-1 : (a b : Bool) → eqb (r .kind) 1 ≡ a → eqb (r .kind) 3 ≡ b → Seen file n r
-  seen-from-1 true q e f = seenConstant (eqb-true _ _ e) (constant-is file functionStart source context n inside r same (eqb-true _ _ e))
-  seen-from-1 false true e f = seenField (eqb-true _ _ f) (field-is file functionStart source context n inside r same (eqb-true _ _ f))
+  seen-from-1 true q e f = seenConstant (eqb-true _ _ e) (constant-is (node-reads file functionStart source context n inside r same) (eqb-true _ _ e))
+  seen-from-1 false true e f = seenField (eqb-true _ _ f) (field-is (node-reads file functionStart source context n inside r same) (eqb-true _ _ f))
   seen-from-1 false false e f = seen-from-4 (eqb (r .kind) 4) (eqb (r .kind) 5) refl refl (eqb-false _ _ e) (eqb-false _ _ f)
 
   pub seen : Seen file n r

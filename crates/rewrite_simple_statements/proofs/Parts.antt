@@ -8,7 +8,8 @@ use Rattle.definitions.specs.ContractFile.{Statement, NodeRecord, nodeCount}
 use Rattle.theory_trees.specs.Trees.{statementIn}
 use Rattle.file_decoded.specs.Slices.{recordAt}
 use Rattle.file_accepted.specs.Context.{nodesIn, scopeIn}
-use Rattle.file_accepted.proofs.Statements.{still-is, assign-field-is, assign-entry-is, require-is, value-below, key-and-value-below, required-below}
+use Rattle.theory_trees.proofs.ByKind.{still-is, assign-field-is, assign-entry-is, require-is, value-below, key-and-value-below, required-below}
+use Rattle.file_accepted.proofs.Nodes.{node-reads}
 use Rattle.rewrite_events.specs.Events.{Events, noEvents}
 use Rattle.rewrite_events.specs.Ends.{isSimple, simpleEvents}
 use Rattle.rewrite_log.specs.declared.Position.{Position}
@@ -44,7 +45,7 @@ module _ (file : List ℕ) (functionStart : ℕ) (source : List ℕ) (guard : �
       → Logged (nodesIn file) before before p p (whole (p .variable))
   unfolding simpleEvents noEvents
   still-logged simple a b c =
-      logged-as before p noEvents (statement-as _ (still-is file functionStart source (ready .context) n (ready .inside) r same
+      logged-as before p noEvents (statement-as _ (still-is (node-reads file functionStart source (ready .context) n (ready .inside) r same)
       (record {
         sequence = no-sequence file functionStart source (ready .context) n (ready .inside) r same simple;
         assignField = a;
@@ -56,10 +57,10 @@ module _ (file : List ℕ) (functionStart : ℕ) (source : List ℕ) (guard : �
   module _ (k : r .kind ≡ 18) where
     assign-field-events : whole ≡ assignFieldOf file functionStart guard (r .arg) (r .first)
     unfolding simpleEvents
-    assign-field-events = statement-as _ (assign-field-is file functionStart source (ready .context) n (ready .inside) r same k)
+    assign-field-events = statement-as _ (assign-field-is (node-reads file functionStart source (ready .context) n (ready .inside) r same) k)
 
     pub assign-field-ready : Ready file functionStart source (r .first) before p (assignFieldOf file functionStart guard (r .arg) (r .first))
-    assign-field-ready = part (r .first) _ (value-below file functionStart source (ready .context) n (ready .inside) r same k) assign-field-events
+    assign-field-ready = part (r .first) _ (value-below (node-reads file functionStart source (ready .context) n (ready .inside) r same) k) assign-field-events
 
     pub assign-field-logged : (after : List ℕ) (q : Position) → Logged (nodesIn file) before after p q (assignFieldOf file functionStart guard (r .arg) (r .first) (p .variable))
         → Logged (nodesIn file) before after p q (whole (p .variable))
@@ -68,13 +69,13 @@ module _ (file : List ℕ) (functionStart : ℕ) (source : List ℕ) (guard : �
   module _ (k : r .kind ≡ 19) where
     assign-entry-events : whole ≡ assignEntryOf file functionStart guard (r .arg) (r .first) (r .second)
     unfolding simpleEvents
-    assign-entry-events = statement-as _ (assign-entry-is file functionStart source (ready .context) n (ready .inside) r same k)
+    assign-entry-events = statement-as _ (assign-entry-is (node-reads file functionStart source (ready .context) n (ready .inside) r same) k)
 
     pub entry-value-inside : r .second < nodeCount file
-    entry-value-inside = let less = key-and-value-below file functionStart source (ready .context) n (ready .inside) r same k .1 in omega (arith, ready .inside)
+    entry-value-inside = let less = key-and-value-below (node-reads file functionStart source (ready .context) n (ready .inside) r same) k .1 in omega (arith, ready .inside)
 
     pub assign-entry-ready : Ready file functionStart source (r .first) before p (assignEntryOf file functionStart guard (r .arg) (r .first) (r .second))
-    assign-entry-ready = part (r .first) _ (key-and-value-below file functionStart source (ready .context) n (ready .inside) r same k .0) assign-entry-events
+    assign-entry-ready = part (r .first) _ (key-and-value-below (node-reads file functionStart source (ready .context) n (ready .inside) r same) k .0) assign-entry-events
 
     pub assign-entry-logged : (after : List ℕ) (q : Position)
         → Logged (nodesIn file) before after p q (assignEntryOf file functionStart guard (r .arg) (r .first) (r .second) (p .variable))
@@ -84,10 +85,10 @@ module _ (file : List ℕ) (functionStart : ℕ) (source : List ℕ) (guard : �
   module _ (k : r .kind ≡ 20) where
     require-events : whole ≡ bodyOf file functionStart guard (r .first)
     unfolding simpleEvents
-    require-events = statement-as _ (require-is file functionStart source (ready .context) n (ready .inside) r same k)
+    require-events = statement-as _ (require-is (node-reads file functionStart source (ready .context) n (ready .inside) r same) k)
 
     pub require-ready : Ready file functionStart source (r .first) before p (bodyOf file functionStart guard (r .first))
-    require-ready = part (r .first) _ (required-below file functionStart source (ready .context) n (ready .inside) r same k) require-events
+    require-ready = part (r .first) _ (required-below (node-reads file functionStart source (ready .context) n (ready .inside) r same) k) require-events
 
     pub require-logged : (after : List ℕ) (q : Position) → Logged (nodesIn file) before after p q (bodyOf file functionStart guard (r .first) (p .variable))
         → Logged (nodesIn file) before after p q (whole (p .variable))

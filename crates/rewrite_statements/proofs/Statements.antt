@@ -7,7 +7,8 @@ use native.Mathlib.Omega.{arith}
 use Rattle.definitions.specs.ContractFile.{Statement, NodeRecord}
 use Rattle.theory_trees.specs.Trees.{statementIn}
 use Rattle.file_accepted.specs.Context.{nodesIn, scopeIn}
-use Rattle.file_accepted.proofs.Statements.{sequence-is, conditional-is, steps-below, branches-below}
+use Rattle.theory_trees.proofs.ByKind.{sequence-is, conditional-is, steps-below, branches-below}
+use Rattle.file_accepted.proofs.Nodes.{node-reads}
 use Rattle.rewrite_events.specs.Events.{Events, inTurn, statementEvents}
 use Rattle.rewrite_events.specs.Ends.{isSimple}
 use Rattle.rewrite_log.specs.declared.Position.{Position}
@@ -45,10 +46,10 @@ module _ (file : List ℕ) (functionStart : ℕ) (source : List ℕ) (guard : �
   module _ (k : r .kind ≡ 17) where
     sequence-events : whole ≡ inTurn (statementOf file functionStart guard (r .first)) (statementOf file functionStart guard (r .second))
     unfolding statementEvents
-    sequence-events = statement-as _ (sequence-is file functionStart source (ready .context) n (ready .inside) r same k)
+    sequence-events = statement-as _ (sequence-is (node-reads file functionStart source (ready .context) n (ready .inside) r same) k)
 
     pub steps-less : (r .first < n) × (r .second < n)
-    steps-less = steps-below file functionStart source (ready .context) n (ready .inside) r same k
+    steps-less = steps-below (node-reads file functionStart source (ready .context) n (ready .inside) r same) k
 
     pub first-ready : Ready file functionStart source (r .first) before p (statementOf file functionStart guard (r .first))
     first-ready = part (r .first) before p (statementOf file functionStart guard (r .first)) (steps-less .0) (turn-first (nodesIn file) before before p p _ (statementOf file functionStart guard (r .second)) (room-as _ sequence-events))
@@ -75,10 +76,10 @@ module _ (file : List ℕ) (functionStart : ℕ) (source : List ℕ) (guard : �
 
     conditional-events : whole ≡ inTurn condition (inTurn then else)
     unfolding statementEvents
-    conditional-events = statement-as _ (conditional-is file functionStart source (ready .context) n (ready .inside) r same k)
+    conditional-events = statement-as _ (conditional-is (node-reads file functionStart source (ready .context) n (ready .inside) r same) k)
 
     pub branches-less : (r .first < n) × ((r .second < n) × (r .third < n))
-    branches-less = branches-below file functionStart source (ready .context) n (ready .inside) r same k
+    branches-less = branches-below (node-reads file functionStart source (ready .context) n (ready .inside) r same) k
 
     pub condition-ready : Ready file functionStart source (r .first) before p condition
     condition-ready = part (r .first) before p condition (branches-less .0) (turn-first (nodesIn file) before before p p condition (inTurn then else) (room-as _ conditional-events))

@@ -1,6 +1,6 @@
 // What is found of a sequence and of an if, from what was found of their parts: the least fault, and whether a link was added. They
 // stand apart from the recursion over statements, so that each is proved by itself.
-use rules_faults::either;
+use file_children::either;
 use rules_faults::least;
 use rules_links::class_room;
 use rules_links::copy_classes;

@@ -1,4 +1,5 @@
 // Rules on data types, operators and owners, over their numbers.
+use file_children::either;
 use file_kinds::AND_SHORT;
 use file_kinds::BOOL_SHORT;
 use file_kinds::DIVIDED_SHORT;
@@ -10,10 +11,10 @@ use file_kinds::OR_SHORT;
 use file_kinds::REMAINDER_SHORT;
 use file_kinds::UINT_SHORT;
 use rules_faults::both;
-use rules_faults::either;
 use rules_faults::number_if;
 use rules_links::same_class;
 use rules_owners::CALLER;
+use rules_owners::EVERYONE;
 use rules_scopes::Declared;
 ghost use mathlib.Core.Path.{_≡_};
 ghost use mathlib.Core.Bool.{not, cond};
@@ -30,7 +31,7 @@ pub fn unread(classes: &[u16], owner: u16) -> u8
     requires { ⌜ HasClass (now classes) owner ⌝ }
     ensures { λ r. ⌜ r ≡ leastFault (fault (not (isReader (linkedBy (now (classes .entry))) (ownerWith owner))) 11) ⌝ }
 {
-    if owner == 0 {
+    if owner == EVERYONE {
         return 16;
     }
     number_if(!same_class(classes, owner, CALLER), 11)
@@ -100,8 +101,8 @@ pub fn place_owner(d: Declared, name: u16) -> u16
 pub fn parts_owner(left: u16, right: u16) -> u16
     ensures { λ r. ⌜ r ≡ partsNumber left right ⌝ }
 {
-    if both(left == 0, right == 0) {
-        0
+    if both(left == EVERYONE, right == EVERYONE) {
+        EVERYONE
     } else {
         CALLER
     }

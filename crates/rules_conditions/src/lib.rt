@@ -3,6 +3,7 @@ use file_kinds::BOOL_SHORT;
 use rules_faults::least;
 use rules_faults::number_if;
 use rules_judgements::Judged;
+use rules_owners::EVERYONE;
 ghost use mathlib.Core.Path.{_≡_};
 ghost use Rattle.rules_values.specs.Putting.{conditionFault};
 
@@ -15,6 +16,6 @@ pub fn condition_fault(condition: Judged) -> u8
             condition.fault,
             number_if(!(condition.kind == BOOL_SHORT), 9),
         ),
-        number_if(!(condition.owner == 0), 14),
+        number_if(!(condition.owner == EVERYONE), 14),
     )
 }

@@ -8,7 +8,7 @@ use borrow.Author.Tests.{ne-eqb}
 use lib.ListN.{length, take, drop, length-drop}
 use lib.Seq.{getD-take, getD-drop, length-take-le}
 use Rattle.definitions.specs.Basics.{any, flatMap, firstThatHolds}
-use Rattle.definitions.specs.ContractFile.{FunctionRecord, parameterOf, functionOf, contractOf}
+use Rattle.definitions.specs.ContractFile.{FunctionRecord, functionOf, contractOf}
 use Rattle.definitions.specs.Numbers.{functionFaults, fieldFaults, parameterInTables, contractFaults, contractSentences}
 use Rattle.file_decoded.specs.Slices.{numberAt, parametersFrom, functionFrom, functionsFrom, sectionsFrom}
 use Rattle.file_decoded.proofs.Records.{functions-step, functions-end}
@@ -20,10 +20,9 @@ use Rattle.definitions.specs.Owners.{noLinks}
 use Rattle.rules_links.specs.Classes.{linkedBy}
 use Rattle.rules_statements.specs.Checking.{JudgedStatement}
 use Rattle.rules_branches.specs.declared.Checked.{Checked}
-use Rattle.rules_marks.specs.Marks.{marked, ownerAt, statementsUnder}
 use Rattle.rules_marks.proofs.Marking.{marked-length}
 use Rattle.rules_fields.specs.Fields.{fieldsIn, allFieldsFault}
-use Rattle.rules_contract.specs.Sections.{functionsMarked, contractMarked, FunctionJudged, FunctionsJudged, FunctionsReady}
+use Rattle.rules_contract.specs.Sections.{functionsMarked, contractMarked, FunctionJudged, FunctionsJudged}
 use Rattle.rules_fields.proofs.Fields.{flat-cons, flat-none, fault-start}
 use Rattle.rules_contract.proofs.Passing.{parameters-each, not-not}
 

@@ -1,20 +1,19 @@
 -- What numbers 2, 3 and 4 leave, record by record: all that judging relies on.
-use mathlib.Core.Path.{_≡_, refl, ap, sym, _∙_}
+use mathlib.Core.Path.{_≡_, refl, sym}
 use mathlib.Core.Bool.{Bool, true, false, not, _||_}
-use mathlib.Core.List.{List, [], _∷_, map}
+use mathlib.Core.List.{List}
 use Prim.Native.Nat.{ℕ, zero, suc, _+_, _*_, _/_, _<_, _≤_}
 use native.Mathlib.Omega.{arith}
-use borrow.Author.Tests.{ltb-false, leb-false, not-false}
+use borrow.Author.Tests.{ltb-false, leb-false}
 use lib.Dec.{leb, ltb}
-use lib.ListN.{length, getD, take, drop}
+use lib.ListN.{length}
 use Rattle.definitions.specs.Basics.{any, anyNumbered}
 use Rattle.definitions.specs.ContractFile.{FieldRecord, ParameterRecord, FunctionRecord, NodeRecord, fieldOf, nodeOf, fieldsNamed, children}
 use Rattle.definitions.specs.Numbers.{fieldInTables, parameterInTables, nodeInTables, fieldOfDeclaredOwner, outsideTables, namesNothing}
 use Rattle.theory_laws.proofs.TruthValues.{or-left, or-right}
 use Rattle.file_decoded.specs.Slices.{numberAt, fieldFrom, fieldsFrom, parameterFrom, parametersFrom, functionFrom, functionsFrom, nodeFrom, nodesFrom}
-use Rattle.file_decoded.specs.Slices.{sectionsFrom}
 use Rattle.file_decoded.proofs.Records.{fields-length, parameters-length, nodes-length}
-use Rattle.rules_scopes.specs.Scopes.{FieldsReady, NodesReady, ParametersReady}
+use Rattle.rules_scopes.specs.Scopes.{FieldsReady, NodesReady}
 use Rattle.rules_contract.specs.Sections.{Passed, FunctionsReady}
 
 -- A test that no record passes, at the record of a number.

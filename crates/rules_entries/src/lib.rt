@@ -1,13 +1,14 @@
 // An entry of a mapping judged on its key's judgement: numbers 8, 9, 10 and 11.
+use file_children::either;
 use file_kinds::ADDRESS_SHORT;
 use file_kinds::MAPPING_SHORT;
 use rules_codes::place_owner;
 use rules_codes::unread;
 use rules_faults::both;
-use rules_faults::either;
 use rules_faults::least;
 use rules_faults::number_if;
 use rules_judgements::Judged;
+use rules_owners::EVERYONE;
 use rules_scopes::Declared;
 ghost use mathlib.Core.Path.{_≡_};
 ghost use Rattle.rules_links.specs.Classes.{linkedBy};
@@ -23,7 +24,7 @@ pub fn entry_fault(d: Declared, key: Judged) -> u8
     let unnamed = both(d.tagged, key.name == 0);
     least(
         least(shape, kind),
-        number_if(either(!(key.owner == 0), unnamed), 10),
+        number_if(either(!(key.owner == EVERYONE), unnamed), 10),
     )
 }
 

@@ -17,8 +17,9 @@ use Rattle.rules_scopes.specs.Trees.{nodesIn}
 use Rattle.rules_scopes.specs.Scopes.{fieldOn, parameterOn, scopeFrom, IsField, IsParameter, Ready}
 use Rattle.rules_scopes.specs.declared.Declared.{Declared}
 use Rattle.rules_scopes.specs.declared.Given.{Given}
-use Rattle.rules_scopes.proofs.Nodes.{node-named, falling}
-use Rattle.rules_scopes.proofs.ByKind.{constant-tree, field-tree, entry-tree, parameter-tree, operator-tree, negation-tree, reveal-tree, me-tree, field-there, constant-listed, target-listed, target-there}
+use Rattle.theory_trees.proofs.ByKind as trees
+use Rattle.rules_scopes.proofs.Nodes.{node-named, falling, node-reads}
+use Rattle.rules_scopes.proofs.Named.{field-there, constant-listed, target-listed, target-there}
 use Rattle.rules_codes.specs.Codes.{placeNumber, HasClass}
 use Rattle.rules_codes.proofs.Codes.{place-listed}
 use Rattle.rules_judgements.specs.Judging.{JudgedAs, constantJudged, meJudged, fieldJudged, entryJudged, parameterJudged}
@@ -83,7 +84,7 @@ module _ (fields parameters nodes classes : List ℕ) (ready : Ready fields para
         → MarkedAs fields parameters nodes classes n before after p
     constant-judged before after q p e j m =
         leaf-kind 1 e (λ x. omega arith) (λ x. omega arith) (λ x. omega arith) (λ x. omega arith) before after q p
-        (judged-same _ q _ (constant-tree fields nodes (ready .bodies) n inside r same e) j
+        (judged-same _ q _ (trees.constant-is (node-reads fields nodes (ready .bodies) n inside r same) e) j
         (constant-is (scopeFrom fields parameters) (linkedBy classes) (length classes) enough (r .arg) (constantValue r)
         (constant-listed fields nodes (ready .bodies) n inside r same e))) m
 
@@ -93,7 +94,7 @@ module _ (fields parameters nodes classes : List ℕ) (ready : Ready fields para
         let there = field-there fields nodes (ready .bodies) n inside r same e in
         let long = ready .numbered in
         leaf-kind 3 e (λ x. omega arith) (λ x. omega arith) (λ x. omega arith) (λ x. omega arith) before after q p
-        (judged-same _ q _ (field-tree fields nodes (ready .bodies) n inside r same e) j
+        (judged-same _ q _ (trees.field-is (node-reads fields nodes (ready .bodies) n inside r same) e) j
         (field-is (scopeFrom fields parameters) (linkedBy classes) (length classes) enough (length fields / 3) (r .arg) d room (omega arith) i)) m
 
     pub parameter-judged : (before after : List ℕ) (g : Given) (q p : Judged) → r .kind ≡ 5 → IsParameter (r .arg) (parameterOn parameters (r .arg)) g
@@ -104,20 +105,20 @@ module _ (fields parameters nodes classes : List ℕ) (ready : Ready fields para
         let count : length (map parameterOf records) ≡ length parameters / 2 =
         length-map records parameterOf ∙ parameters-length (length parameters / 2) parameters 0 in
         leaf-kind 5 e (λ x. omega arith) (λ x. omega arith) (λ x. omega arith) (λ x. omega arith) before after q p
-        (judged-same _ q _ (parameter-tree fields nodes (ready .bodies) n inside r same e) j
+        (judged-same _ q _ (trees.parameter-is (node-reads fields nodes (ready .bodies) n inside r same) e) j
         (parameter-is (scopeFrom fields parameters) (linkedBy classes) (length classes) enough (r .arg) (length parameters / 2) g count i)) m
 
     pub me-judged : (before after : List ℕ) (q p : Judged) → (r .kind ≡ 1 → ⊥) → (r .kind ≡ 3 → ⊥) → (r .kind ≡ 4 → ⊥) → (r .kind ≡ 5 → ⊥) → (r .kind ≡ 6 → ⊥)
         → (r .kind ≡ 7 → ⊥) → (r .kind ≡ 8 → ⊥) → q ≡ meJudged → IsMarked before after q p → MarkedAs fields parameters nodes classes n before after p
     me-judged before after q p h1 h3 h4 h5 h6 h7 h8 j m =
-        leaf before after q p h4 h6 h7 h8 (judged-same _ q _ (me-tree fields nodes (ready .bodies) n inside r same h1 h3 h4 h5 h6 h7 h8) j
+        leaf before after q p h4 h6 h7 h8 (judged-same _ q _ (trees.other-is (node-reads fields nodes (ready .bodies) n inside r same) (record { constant = h1; field = h3; entry = h4; parameter = h5; operator = h6; negation = h7; reveal = h8 })) j
         (me-is (scopeFrom fields parameters) (linkedBy classes) (length classes) enough)) m
 
     module _ (before mid after : List ℕ) (part q p : Judged) (h : MarkedAs fields parameters nodes classes (r .first) before mid part) (m : IsMarked mid after q p) where
       pub entry-judged : (d : Declared) → r .kind ≡ 4 → IsField (length fields / 3) (fieldOn fields (r .arg)) d → q ≡ entryJudged (linkedBy classes) d part
           → MarkedAs fields parameters nodes classes n before after p
       entry-judged d e i j =
-          let is = judged-same _ q _ (entry-tree fields nodes (ready .bodies) n inside r same e) j
+          let is = judged-same _ q _ (trees.entry-is (node-reads fields nodes (ready .bodies) n inside r same) e) j
           (entry-is (scopeFrom fields parameters) (linkedBy classes) (length classes) enough (length fields / 3) (r .arg) d _ part room i (h .judged)) in
           record {
             judged = rw (m .0) is;
@@ -127,7 +128,7 @@ module _ (fields parameters nodes classes : List ℕ) (ready : Ready fields para
 
       pub negation-judged : r .kind ≡ 7 → q ≡ negationJudged (linkedBy classes) part → MarkedAs fields parameters nodes classes n before after p
       negation-judged e j =
-          let is = judged-same _ q _ (negation-tree fields nodes (ready .bodies) n inside r same e) j
+          let is = judged-same _ q _ (trees.negation-is (node-reads fields nodes (ready .bodies) n inside r same) e) j
           (negation-is (scopeFrom fields parameters) (linkedBy classes) (length classes) enough _ part (h .judged)) in
           record {
             judged = rw (m .0) is;
@@ -143,7 +144,7 @@ module _ (fields parameters nodes classes : List ℕ) (ready : Ready fields para
           let long = ready .numbered in
           let owned : ownerOfCode (r .arg) ≡ ownerWith target =
           sym (target-owner (r .arg) (target-listed fields nodes (ready .bodies) n inside r same e)) ∙ ap ownerWith (sym t) in
-          let tree = reveal-tree fields nodes (ready .bodies) n inside r same e
+          let tree = trees.reveal-is (node-reads fields nodes (ready .bodies) n inside r same) e
           ∙ ap (Expression.reveal (expressionIn (nodesIn nodes) (r .first))) owned in
           let is = judged-same _ q _ tree j (reveal-is (scopeFrom fields parameters) (linkedBy classes) (length classes) enough target fits _ part (omega arith) o (h .judged)) in
           record {
@@ -156,7 +157,7 @@ module _ (fields parameters nodes classes : List ℕ) (ready : Ready fields para
         → MarkedAs fields parameters nodes classes (r .first) before mid left → MarkedAs fields parameters nodes classes (r .second) mid later right
         → q ≡ operatorJudged (linkedBy classes) (r .arg) left right → IsMarked later after q p → MarkedAs fields parameters nodes classes n before after p
     operator-judged before mid later after left right q p e h k j m =
-        let is = judged-same _ q _ (operator-tree fields nodes (ready .bodies) n inside r same e) j
+        let is = judged-same _ q _ (trees.operator-is (node-reads fields nodes (ready .bodies) n inside r same) e) j
         (operator-is (scopeFrom fields parameters) (linkedBy classes) (length classes) enough (r .arg) _ _ left right (h .judged) (k .judged)) in
         record {
           judged = rw (m .0) is;

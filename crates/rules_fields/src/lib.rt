@@ -2,6 +2,7 @@
 use file_kinds::FINAL_SHORT;
 use rules_faults::least;
 use rules_faults::number_if;
+use rules_owners::EVERYONE;
 use rules_owners::FINALS;
 use rules_scopes::field_from;
 ghost use mathlib.Core.Path.{_≡_};
@@ -19,7 +20,7 @@ fn owner_fault(fields: &[u16], f: u16) -> u8
     if declared.tagged {
         return 16;
     }
-    if declared.owner == 0 {
+    if declared.owner == EVERYONE {
         return 16;
     }
     let named = field_from(fields, declared.owner - FINALS);

@@ -8,6 +8,7 @@ use rules_codes::unread;
 use rules_faults::least;
 use rules_faults::number_if;
 use rules_owners::CALLER;
+use rules_owners::EVERYONE;
 use rules_owners::FINALS;
 use rules_owners::PARAMETERS;
 use rules_scopes::Declared;
@@ -34,7 +35,7 @@ pub fn constant_judged(code: u16) -> Judged
 {
     Judged {
         kind: code,
-        owner: 0,
+        owner: EVERYONE,
         name: 0,
         fault: 16,
     }
@@ -46,7 +47,7 @@ pub fn me_judged() -> Judged
 {
     Judged {
         kind: ADDRESS_SHORT,
-        owner: 0,
+        owner: EVERYONE,
         name: CALLER,
         fault: 16,
     }

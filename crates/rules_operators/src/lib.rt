@@ -1,14 +1,15 @@
 // What is found of an operator, from what is found of its operands: numbers 9, 11 and 12.
+use file_children::either;
 use rules_codes::is_division;
 use rules_codes::operands_fit;
 use rules_codes::parts_owner;
 use rules_codes::result_type;
 use rules_codes::unread;
 use rules_faults::both;
-use rules_faults::either;
 use rules_faults::least;
 use rules_faults::number_if;
 use rules_judgements::Judged;
+use rules_owners::EVERYONE;
 ghost use mathlib.Core.Path.{_≡_};
 ghost use Rattle.rules_links.specs.Classes.{linkedBy};
 ghost use Rattle.rules_codes.specs.Codes.{HasClass};
@@ -20,7 +21,7 @@ fn operator_fault(classes: &[u16], code: u16, left: Judged, right: Judged) -> u8
     ensures { λ r. ⌜ r ≡ operatorFault (linkedBy (now (classes .entry))) code left right ⌝ }
 {
     let kind = number_if(!operands_fit(code, left.kind, right.kind), 9);
-    let private = either(!(left.owner == 0), !(right.owner == 0));
+    let private = either(!(left.owner == EVERYONE), !(right.owner == EVERYONE));
     let divisor = number_if(both(is_division(code), private), 12);
     let read = least(
         least(

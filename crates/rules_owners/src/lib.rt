@@ -9,6 +9,8 @@ ghost use Rattle.definitions.specs.ContractFile.{ownerOfCode};
 ghost use Rattle.definitions.specs.Numbers.{targetInTables};
 ghost use Rattle.rules_owners.specs.Numbering.{numberOfOwner, isFieldCode, declaredNumber};
 
+pub const EVERYONE: u16 = 0;
+
 pub const CALLER: u16 = 1;
 
 pub const PARAMETERS: u16 = 2;

@@ -5,6 +5,7 @@ use rules_codes::unread;
 use rules_faults::least;
 use rules_faults::number_if;
 use rules_judgements::Judged;
+use rules_owners::EVERYONE;
 ghost use mathlib.Core.Path.{_≡_};
 ghost use Rattle.rules_links.specs.Classes.{linkedBy};
 ghost use Rattle.rules_codes.specs.Codes.{HasClass};
@@ -40,6 +41,6 @@ pub fn reveal_judged(classes: &[u16], target: u16, fits: bool, part: Judged) -> 
         kind: part.kind,
         owner: target,
         name: 0,
-        fault: least(read, number_if(part.owner == 0, 13)),
+        fault: least(read, number_if(part.owner == EVERYONE, 13)),
     }
 }

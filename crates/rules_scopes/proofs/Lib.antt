@@ -1,5 +1,4 @@
 pub mod Lists
 pub mod Nodes
-pub mod Statements
-pub mod ByKind
+pub mod Named
 pub mod Tables

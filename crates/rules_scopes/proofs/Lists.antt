@@ -1,4 +1,4 @@
--- The record at an index of a slice, and what a test that no number of a list passes says of its first ones.
+-- The record at an index of a slice, and what a test that no number of a list passes says of its first one.
 use mathlib.Core.Path.{_≡_, refl}
 use mathlib.Core.Bool.{true, false}
 use mathlib.Core.List.{List, _∷_, map}
@@ -8,7 +8,7 @@ use borrow.Author.Tests.{leb-false}
 use lib.Dec.{leb}
 use Rattle.definitions.specs.Basics.{any}
 use Rattle.definitions.specs.ContractFile.{boolean, fieldAt, fieldOf, parameterAt, parameterOf}
-use Rattle.theory_laws.proofs.TruthValues.{or-left, or-right}
+use Rattle.theory_laws.proofs.TruthValues.{or-left}
 use Rattle.file_decoded.specs.Slices.{fieldFrom, fieldsFrom, parameterFrom, parametersFrom}
 
 pub field-within : (count : ℕ) (numbers : List ℕ) (at f : ℕ) → f < count
@@ -43,7 +43,3 @@ parameter-past (suc count) numbers at (suc k) h = parameter-past count numbers (
 pub first-below : (n m : ℕ) (rest : List ℕ) → any (leb n) (m ∷ rest) ≡ false → m < n
 unfolding any
 first-below n m rest h = leb-false n m (or-left (leb n m) (any (leb n) rest) h)
-
-pub rest-below : (n m : ℕ) (rest : List ℕ) → any (leb n) (m ∷ rest) ≡ false → any (leb n) rest ≡ false
-unfolding any
-rest-below n m rest h = or-right (leb n m) (any (leb n) rest) h

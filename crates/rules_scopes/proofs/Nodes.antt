@@ -1,5 +1,5 @@
--- The node that a number names among the decoded ones, and that the numbers of the nodes fall from parent to child.
-use mathlib.Core.Path.{_≡_, refl}
+-- The node that a number names among the decoded ones; the numbers of the nodes fall from parent to child.
+use mathlib.Core.Path.{_≡_, refl, ap, sym, _∙_}
 use mathlib.Core.Bool.{Bool, true, false}
 use mathlib.Core.List.{List}
 use Prim.Native.Nat.{ℕ, _+_, _*_, _/_, _<_}
@@ -8,8 +8,8 @@ use borrow.Author.Tests.{ltb-false, ltb-true}
 use lib.Dec.{ltb}
 use lib.ListN.{length}
 use Rattle.definitions.specs.Basics.{all}
-use Rattle.definitions.specs.ContractFile.{node, unknownNode, nodeOf, nodeAt, children, expressionParts, statementParts}
-use Rattle.theory_trees.specs.Trees.{Falling}
+use Rattle.definitions.specs.ContractFile.{NodeRecord, node, unknownNode, nodeOf, nodeAt, children, expressionParts, statementParts}
+use Rattle.theory_trees.specs.Trees.{Falling, Reads}
 use Rattle.theory_trees.proofs.Unfolding.{nodes-read}
 use Rattle.theory_trees.proofs.Falls.{none-above}
 use Rattle.file_decoded.specs.Slices.{numberAt, nodeFrom, nodesFrom}
@@ -42,3 +42,7 @@ module _ (fields nodes : List ℕ) (ready : NodesReady fields nodes) where
           let inside = ltb-true n (length nodes / 5) e in
           rw (node-named nodes n inside) (none-above n (children (nodeOf (nodeFrom nodes (5 * n)))) (ready .falling n inside))
       go n false e = no-children n (nodeAt (nodesIn nodes) n) (node-past (length nodes / 5) nodes 0 n (ltb-false n (length nodes / 5) e))
+
+  -- A decoded record is that of the node.
+  pub node-reads : (n : ℕ) → n < length nodes / 5 → (r : NodeRecord) → r ≡ nodeFrom nodes (5 * n) → Reads (nodesIn nodes) n r
+  node-reads n inside r same = record { falling = falling; named = node-named nodes n inside ∙ ap (λ (x : NodeRecord). nodeOf x) (sym same) }

@@ -1,21 +1,21 @@
 -- What judging a statement's node of each kind answers, and leaves in the classes and the column, from what judging its parts did.
 use mathlib.Core.Path.{_≡_, refl, ap, sym, _∙_}
 use mathlib.Core.Bool.{Bool, false, _||_}
-use mathlib.Core.List.{List, _++_}
-use Prim.Native.Nat.{ℕ, _*_, _/_, _<_, _≤_, min}
+use mathlib.Core.List.{List}
+use Prim.Native.Nat.{ℕ, _*_, _/_, _<_, min}
 use lib.ListN.{length}
-use Rattle.definitions.specs.ContractFile.{Expression, Statement, Scope, NodeRecord, Node, nodeOf, nodeAt}
+use Rattle.definitions.specs.ContractFile.{Statement, Scope, NodeRecord, nodeOf, nodeAt}
 use Rattle.definitions.specs.Owners.{linksOfCondition}
 use Rattle.definitions.specs.Numbers.{statementFaults, conditionFaults}
-use Rattle.theory_trees.specs.Trees.{expressionIn, statementIn, Falling}
+use Rattle.theory_trees.specs.Trees.{expressionIn, Falling}
 use Rattle.file_decoded.specs.Slices.{nodeFrom}
 use Rattle.rules_faults.specs.Faults.{leastFault}
 use Rattle.rules_links.specs.Classes.{Classed, linkedBy, Learnt}
 use Rattle.rules_meet.specs.Branches.{Behind}
 use Rattle.rules_scopes.specs.Trees.{nodesIn}
 use Rattle.rules_scopes.specs.Scopes.{NodesReady, Ready, scopeFrom}
-use Rattle.rules_scopes.proofs.Nodes.{node-named, falling}
-use Rattle.rules_scopes.proofs.Statements as trees
+use Rattle.theory_trees.proofs.ByKind as trees
+use Rattle.rules_scopes.proofs.Nodes.{node-named, falling, node-reads}
 use Rattle.rules_marks.specs.Marks.{marked, ownerAt}
 use Rattle.rules_marks.proofs.Marking.{marked-length}
 use Rattle.rules_marks.proofs.Parts.{none-marked, sequence-marked, put-marked, required-marked, entry-put-marked, conditional-marked}
@@ -59,7 +59,7 @@ module _ (fields parameters nodes : List ℕ) (bodies : NodesReady fields nodes)
       → q ≡ record { fault = 16; added = false } → JudgedStatement fields parameters nodes n classes classes owners owners q
   skip-judged classed h17 h18 h19 h20 h21 is =
       record {
-        checked = skip-is scope classes classed _ q (trees.skip-tree fields nodes bodies n inside r same h17 h18 h19 h20 h21) is;
+        checked = skip-is scope classes classed _ q (trees.still-is (node-reads fields nodes bodies n inside r same) (record { sequence = h17; assignField = h18; assignEntry = h19; require = h20; conditional = h21 })) is;
         column = none-marked (nodesIn nodes) fall owner n r at owners owners h17 h18 h19 h20 h21 refl;
       }
 
@@ -68,7 +68,7 @@ module _ (fields parameters nodes : List ℕ) (bodies : NodesReady fields nodes)
       → owners′ ≡ markedUnder fields parameters nodes (r .first) owners → q .added ≡ false → JudgedStatement fields parameters nodes n classes classes owners owners′ q
   field-judged owners′ classed e h marks added =
       record {
-        checked = assign-field-is scope classes classed _ q _ _ (q .fault) (trees.assign-field-tree fields nodes bodies n inside r same e)
+        checked = assign-field-is scope classes classed _ q _ _ (q .fault) (trees.assign-field-is (node-reads fields nodes bodies n inside r same) e)
             (ap (λ (a : Bool). record { fault = q .fault; added = a }) added) h;
         column = put-marked (nodesIn nodes) fall owner n r at owners owners′ marks e;
       }
@@ -80,7 +80,7 @@ module _ (fields parameters nodes : List ℕ) (bodies : NodesReady fields nodes)
       → JudgedStatement fields parameters nodes n classes classes owners owners′ q
   entry-judged owners′ classed e h marks added =
       record {
-        checked = assign-entry-is scope classes classed _ q _ _ _ (q .fault) (trees.assign-entry-tree fields nodes bodies n inside r same e)
+        checked = assign-entry-is scope classes classed _ q _ _ _ (q .fault) (trees.assign-entry-is (node-reads fields nodes bodies n inside r same) e)
             (ap (λ (a : Bool). record { fault = q .fault; added = a }) added) h;
         column = entry-put-marked (nodesIn nodes) fall owner n r at owners (markedUnder fields parameters nodes (r .first) owners) owners′ e refl marks;
       }
@@ -92,7 +92,7 @@ module _ (fields parameters nodes : List ℕ) (bodies : NodesReady fields nodes)
       → JudgedStatement fields parameters nodes n classes after owners owners′ q
   require-judged after owners′ e h marks learns =
       record {
-        checked = require-is scope classes after _ q _ (q .fault) (q .added) (trees.require-tree fields nodes bodies n inside r same e) refl h learns;
+        checked = require-is scope classes after _ q _ (q .fault) (q .added) (trees.require-is (node-reads fields nodes bodies n inside r same) e) refl h learns;
         column = required-marked (nodesIn nodes) fall owner n r at owners owners′ marks e;
       }
 
@@ -104,7 +104,7 @@ module _ (fields parameters nodes : List ℕ) (bodies : NodesReady fields nodes)
   sequence-judged between after mid owners′ one two e h k f a =
       record {
         checked = sequence-is scope classes after _ q between _ _ one two (q .fault) (q .added)
-            (trees.sequence-tree fields nodes bodies n inside r same e) refl (h .checked) (k .checked) f a;
+            (trees.sequence-is (node-reads fields nodes bodies n inside r same) e) refl (h .checked) (k .checked) f a;
         column = sequence-marked (nodesIn nodes) fall owner n r at owners mid owners′ e (h .column) (k .column);
       }
 
@@ -122,7 +122,7 @@ module _ (fields parameters nodes : List ℕ) (bodies : NodesReady fields nodes)
       let else-judged = rw g at inElse in
       record {
         checked = conditional-is scope classes learnt taken passed _ _ _ (met .added) one two learns (inThen .checked) (else-judged .checked) _ q after
-            (met .fault) (q .fault) (met .added || one .added) (q .added) (trees.conditional-tree fields nodes bodies n inside r same e) refl refl
+            (met .fault) (q .fault) (met .added || one .added) (q .added) (trees.conditional-is (node-reads fields nodes bodies n inside r same) e) refl refl
             (rw (b, o) at behind) f h;
         column = conditional-marked (nodesIn nodes) fall owner n r at owners mid later owners′ e marks (inThen .column) (else-judged .column);
       }

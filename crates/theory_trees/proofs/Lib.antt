@@ -1,3 +1,4 @@
 pub mod Unfolding
 pub mod Falls
 pub mod Kept
+pub mod ByKind

@@ -27,3 +27,8 @@ pub record Falling (nodes : List Node) : Type 0 where
 abbrev pub Keeps : (Expression → Type 0) → (Statement → Type 0) → Node → Type 0
 Keeps P Q x = (below : ℕ → Expression) → ((m : ℕ) → P (below m))
     → P (expressionOf x below) × ((later : ℕ → Statement) → ((m : ℕ) → Q (later m)) → Q (statementOf x below later))
+
+-- Node n of some nodes, whose numbers fall, is the one that a record reads as.
+pub record Reads (nodes : List Node) (n : ℕ) (r : NodeRecord) : Type 0 where
+  pub falling : Falling nodes
+  pub named : nodeAt nodes n ≡ nodeOf r

@@ -1,6 +1,9 @@
 // A content as an item of a party's view: plain, opaque or opened.
 use ledger_contents::Cell;
 use ledger_contents::Content;
+use view_item::OPAQUE_ITEM;
+use view_item::OPENED_ITEM;
+use view_item::PLAIN_ITEM;
 use view_item::put_item;
 ghost use mathlib.Core.Path.{_≡_};
 ghost use lib.ListN.{length};
@@ -15,11 +18,11 @@ pub fn put_cell(out: &mut [u8], at: usize, party: u8, cell: Cell)
     ensures { λ _. ⌜ now (out .exit) ≡ stored (now (out .entry)) at (itemBytes (itemFor party (contentOfCode (Content.Cell cell)))) ⌝ }
 {
     if cell.owner == party {
-        put_item(out, at, 2, cell)
+        put_item(out, at, OPENED_ITEM, cell)
     } else {
         let mut hidden = cell;
         hidden.value = 0;
-        put_item(out, at, 1, hidden)
+        put_item(out, at, OPAQUE_ITEM, hidden)
     }
 }
 
@@ -32,7 +35,7 @@ pub fn put_content(out: &mut [u8], at: usize, party: u8, content: Content)
         Content::Plain(value) => put_item(
             out,
             at,
-            0,
+            PLAIN_ITEM,
             Cell {
                 owner: 0,
                 call: 0,

@@ -7,6 +7,13 @@ ghost use Rattle.memory_buffer.specs.Buffer.{stored};
 ghost use Rattle.definitions.specs.View.{itemBytes};
 ghost use Rattle.view_item.specs.Items.{itemOf};
 
+// "Mark 0 plain has zero owner and serial; 1 opaque has value 0; 2 is a cell of the viewing party."
+pub const PLAIN_ITEM: u8 = 0;
+
+pub const OPAQUE_ITEM: u8 = 1;
+
+pub const OPENED_ITEM: u8 = 2;
+
 // Mark, owner, serial and value.
 pub fn put_item(out: &mut [u8], at: usize, mark: u8, cell: Cell)
     requires { ⌜ at + 10 ≤ length (now out) ⌝ }

@@ -1,6 +1,8 @@
 // 01, Runs and views: what a constraint says of its variable.
+use file_kinds::CALLER_CODE;
 use file_kinds::FINAL_CODES;
 use file_kinds::FINAL_CODES_END;
+use file_kinds::OPENS;
 use file_kinds::PARAMETER_CODES;
 use ledger_circuits::circuit_value;
 use ledger_contents::content_at;
@@ -82,9 +84,9 @@ pub fn claim_holds(
     ensures { λ r. ⌜ r ≡ claimHolds (addressFrom (now (addresses .entry))) (contentsOf (now (variables .entry)))
         (claimFrom (tableOf (now (nodes .entry))) i owner root) ⌝ }
 {
-    if root == 65535 {
+    if root == OPENS {
         let content = content_at(variables, i);
-        opens_for(content, number_at(addresses, 1))
+        opens_for(content, number_at(addresses, CALLER_CODE))
     } else {
         equals_value(nodes, addresses, variables, i, owner, root)
     }

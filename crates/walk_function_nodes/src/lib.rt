@@ -1,4 +1,6 @@
 // 01, Runs and views: the nodes of one written function, numbered from 0, and its constraints as flat numbers, for a call to walk.
+use file_kinds::CALLER_CODE_SHORT;
+use file_kinds::OPENS_SHORT;
 use write_circuits::Circuits;
 use write_circuits::put_circuits;
 use write_circuits::put_four;
@@ -24,7 +26,7 @@ fn put_openings(numbers: &mut [u16], private: usize)
 {
     let mut i: usize = 0;
     while i < private {
-        put_four(numbers, 4 * i, 0, i as u16, 1, 65535);
+        put_four(numbers, 4 * i, 0, i as u16, CALLER_CODE_SHORT, OPENS_SHORT);
         i += 1;
     }
 }

@@ -6,7 +6,7 @@ use Prim.Native.Nat.{ℕ, suc, _+_, _-_, _<_, _≤_}
 use native.Mathlib.Omega.{arith}
 use lib.ListN.{length, length-append}
 use Rattle.definitions.specs.Basics.{flatMap}
-use Rattle.definitions.specs.ContractFile.{Field, Parameter, Function, Scope, nodesAt}
+use Rattle.definitions.specs.ContractFile.{Field, Parameter, Function, Scope}
 use Rattle.definitions.specs.Rewriting.{BodyExpression, Command, Claim, equals, opensForCaller, always, Constraint, WrittenFunction, privateParameters, openings, heldUnder, withVerify, rewriteStatement, rewriteFunction, Tree, sizes, numberedAll, nodeBytes, commandTree, claimTrees, functionTrees}
 use Rattle.theory_laws.proofs.Written.{nodes-length, opening-count, sizes-append}
 use Rattle.theory_trees.specs.Trees.{statementIn}

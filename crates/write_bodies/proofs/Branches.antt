@@ -10,7 +10,8 @@ use Rattle.definitions.specs.Rewriting.{BodyExpression, Command, always, under,
 use Rattle.theory_trees.specs.Trees.{statementIn}
 use Rattle.memory_buffer.specs.Buffer.{stored}
 use Rattle.file_accepted.specs.Context.{nodesIn, scopeIn}
-use Rattle.file_accepted.proofs.Statements.{branches-below}
+use Rattle.theory_trees.proofs.ByKind.{branches-below}
+use Rattle.file_accepted.proofs.Nodes.{node-reads}
 use Rattle.rewrite_events.specs.Events.{Event, guardEvent, variablesOf, variableCount, stepsOf, Events, branchEvents, statementEvents}
 use Rattle.rewrite_events.proofs.Appended.{variable-count-append}
 use Rattle.rewrite_log.specs.declared.Position.{Position}
@@ -125,7 +126,7 @@ module _ (file : List ℕ) (functionStart : ℕ) (source : List ℕ) (n form : �
   guard = p .variable
 
   pub branches-less : (r .second < n) × (r .third < n)
-  branches-less = branches-below file functionStart source (ready .context) n (ready .inside) r same (ready .kind) .1
+  branches-less = branches-below (node-reads file functionStart source (ready .context) n (ready .inside) r same) (ready .kind) .1
 
   abbrev other : ℕ
   other = elseGuard file functionStart r guard

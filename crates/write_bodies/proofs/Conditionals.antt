@@ -12,7 +12,8 @@ use Rattle.theory_laws.proofs.Records.{kind-as}
 use Rattle.theory_trees.specs.Trees.{expressionIn, statementIn}
 use Rattle.memory_buffer.specs.Buffer.{stored}
 use Rattle.file_accepted.specs.Context.{nodesIn, scopeIn}
-use Rattle.file_accepted.proofs.Statements.{conditional-is, branches-below}
+use Rattle.theory_trees.proofs.ByKind.{conditional-is, branches-below}
+use Rattle.file_accepted.proofs.Nodes.{node-reads}
 use Rattle.rewrite_events.specs.Events.{Event, stepsOf, variableCount, Events, inTurn, ended, bodyEvents, branchEvents, statementEvents}
 use Rattle.rewrite_events.proofs.Appended.{variable-count-append}
 use Rattle.rewrite_events.proofs.Pieces.{ended-made, body-made}
@@ -40,7 +41,7 @@ module _ (file : List ℕ) (functionStart : ℕ) (source : List ℕ) (n : ℕ) (
 
   is : statementIn (nodesIn file) n
       ≡ Statement.conditional (expressionIn (nodesIn file) (r .first)) (statementIn (nodesIn file) (r .second)) (statementIn (nodesIn file) (r .third))
-  is = conditional-is file functionStart source (ready .context) n (ready .inside) r same own-kind
+  is = conditional-is (node-reads file functionStart source (ready .context) n (ready .inside) r same) own-kind
 
   abbrev i : ℕ
   i = p .variable
@@ -104,7 +105,7 @@ module _ (file : List ℕ) (functionStart : ℕ) (source : List ℕ) (n : ℕ) (
 
   pub condition-ready : ConditionReady file functionStart source (r .first) log p roots out at base
   condition-ready =
-      let less = branches-below file functionStart source (ready .context) n (ready .inside) r same own-kind .0 in
+      let less = branches-below (node-reads file functionStart source (ready .context) n (ready .inside) r same) own-kind .0 in
       let variables = variables-are in
       record {
         inside = omega (arith, ready .inside);

@@ -10,7 +10,8 @@ use Rattle.theory_laws.proofs.Records.{kind-as}
 use Rattle.theory_trees.specs.Trees.{statementIn}
 use Rattle.memory_buffer.specs.Buffer.{stored}
 use Rattle.file_accepted.specs.Context.{nodesIn, scopeIn}
-use Rattle.file_accepted.proofs.Statements.{sequence-is, steps-below}
+use Rattle.theory_trees.proofs.ByKind.{sequence-is, steps-below}
+use Rattle.file_accepted.proofs.Nodes.{node-reads}
 use Rattle.rewrite_events.specs.Events.{Event, variableCount, stepsOf, Events, inTurn, statementEvents}
 use Rattle.rewrite_events.proofs.Appended.{variable-count-append}
 use Rattle.rewrite_log.specs.declared.Position.{Position}
@@ -31,10 +32,10 @@ module _ (file : List ℕ) (functionStart : ℕ) (source : List ℕ) (n : ℕ) (
   own-kind = kind-as (recordAt source n) r 17 (sym same) kind
 
   pub parts-less : (r .first < n) × (r .second < n)
-  parts-less = steps-below file functionStart source (ready .context) n (ready .inside) r same own-kind
+  parts-less = steps-below (node-reads file functionStart source (ready .context) n (ready .inside) r same) own-kind
 
   is : statementIn (nodesIn file) n ≡ Statement.sequence (statementIn (nodesIn file) (r .first)) (statementIn (nodesIn file) (r .second))
-  is = sequence-is file functionStart source (ready .context) n (ready .inside) r same own-kind
+  is = sequence-is (node-reads file functionStart source (ready .context) n (ready .inside) r same) own-kind
 
   abbrev i : ℕ
   i = p .variable

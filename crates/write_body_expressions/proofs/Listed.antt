@@ -7,7 +7,7 @@ use native.Mathlib.Omega.{arith}
 use borrow.Author.Tests.{leb-true}
 use lib.Dec.{leb}
 use Rattle.definitions.specs.Basics.{isZero}
-use Rattle.definitions.specs.ContractFile.{dataTypeCode, operatorCode, NodeRecord, nodeCount, nodeRecord, dataTypeOf, operatorOf, constantKind, operatorKind, kindOf, constantValue, isOfType}
+use Rattle.definitions.specs.ContractFile.{dataTypeCode, operatorCode, NodeRecord, nodeCount, dataTypeOf, operatorOf, constantKind, operatorKind, kindOf, constantValue, isOfType}
 use Rattle.definitions.specs.Numbers.{kindInTables}
 use Rattle.definitions.specs.Rewriting.{leaf}
 use Rattle.theory_laws.proofs.Codes.{type-code}

@@ -7,7 +7,8 @@ use Rattle.definitions.specs.ContractFile.{isDivision, NodeRecord, nodeCount, o
 use Rattle.definitions.specs.Rewriting.{Tree, leaf, oneChild, twoChildren}
 use Rattle.theory_trees.specs.Trees.{expressionIn}
 use Rattle.file_accepted.specs.Context.{Context, nodesIn, scopeIn}
-use Rattle.file_accepted.proofs.Nodes.{constant-is, field-is, entry-is, parameter-is, operator-is, negation-is, reveal-is, other-is, Unlisted}
+use Rattle.theory_trees.proofs.ByKind.{constant-is, field-is, entry-is, parameter-is, operator-is, negation-is, reveal-is, other-is, Unlisted}
+use Rattle.file_accepted.proofs.Nodes.{node-reads}
 use Rattle.write_variable_counts.specs.Counts.{circuitCount}
 use Rattle.write_variable_counts.proofs.Steps.{circuit-constant, circuit-me, circuit-field, circuit-parameter, circuit-entry, circuit-division, circuit-operator, circuit-negation, circuit-reveal}
 use Rattle.write_reads.specs.Forms.{circuitForm, readKind}
@@ -26,49 +27,49 @@ module _ (file : List ℕ) (functionStart : ℕ) (source : List ℕ) (context : 
     (same : r ≡ recordAt source n) where
   pub constant-circuit : (i : ℕ) → r .kind ≡ 1 → r .first ≤ 65535 → circuitAt file functionStart n i ≡ leaf 1 (r .arg) (r .first) (r .second)
   constant-circuit i e small =
-      circuit-of-constant _ _ i _ _ (constant-is file functionStart source context n inside r same e) ∙ constant-kept file functionStart source context n inside r same e small
+      circuit-of-constant _ _ i _ _ (constant-is (node-reads file functionStart source context n inside r same) e) ∙ constant-kept file functionStart source context n inside r same e small
 
   pub negation-circuit : (i : ℕ) → r .kind ≡ 7 → circuitAt file functionStart n i ≡ oneChild 7 0 (circuitAt file functionStart (r .first) i)
-  negation-circuit i e = circuit-of-negation _ _ i _ (negation-is file functionStart source context n inside r same e)
+  negation-circuit i e = circuit-of-negation _ _ i _ (negation-is (node-reads file functionStart source context n inside r same) e)
 
   pub reveal-circuit : (i : ℕ) → r .kind ≡ 8 → circuitAt file functionStart n i ≡ circuitAt file functionStart (r .first) i
-  reveal-circuit i e = circuit-of-reveal _ _ i _ _ (reveal-is file functionStart source context n inside r same e)
+  reveal-circuit i e = circuit-of-reveal _ _ i _ _ (reveal-is (node-reads file functionStart source context n inside r same) e)
 
   pub other-circuit : (i : ℕ) → Unlisted (r .kind) → circuitAt file functionStart n i ≡ leaf 2 0 0 0
-  other-circuit i u = circuit-of-me _ _ i (other-is file functionStart source context n inside r same u)
+  other-circuit i u = circuit-of-me _ _ i (other-is (node-reads file functionStart source context n inside r same) u)
 
   pub constant-variables : r .kind ≡ 1 → 0 ≡ circuitCountAt file functionStart n
-  constant-variables e = circuit-constant _ _ _ _ (constant-is file functionStart source context n inside r same e)
+  constant-variables e = circuit-constant _ _ _ _ (constant-is (node-reads file functionStart source context n inside r same) e)
 
   pub field-variables : r .kind ≡ 3 → 1 ≡ circuitCountAt file functionStart n
-  field-variables e = circuit-field _ _ _ (field-is file functionStart source context n inside r same e)
+  field-variables e = circuit-field _ _ _ (field-is (node-reads file functionStart source context n inside r same) e)
 
   pub parameter-variables : r .kind ≡ 5 → 1 ≡ circuitCountAt file functionStart n
-  parameter-variables e = circuit-parameter _ _ _ (parameter-is file functionStart source context n inside r same e)
+  parameter-variables e = circuit-parameter _ _ _ (parameter-is (node-reads file functionStart source context n inside r same) e)
 
   pub other-variables : Unlisted (r .kind) → 0 ≡ circuitCountAt file functionStart n
-  other-variables u = circuit-me _ _ (other-is file functionStart source context n inside r same u)
+  other-variables u = circuit-me _ _ (other-is (node-reads file functionStart source context n inside r same) u)
 
   pub entry-variables : r .kind ≡ 4 → countAt file functionStart (r .first) + 1 ≡ circuitCountAt file functionStart n
-  entry-variables e = circuit-entry _ _ _ _ (entry-is file functionStart source context n inside r same e)
+  entry-variables e = circuit-entry _ _ _ _ (entry-is (node-reads file functionStart source context n inside r same) e)
 
   pub negation-variables : r .kind ≡ 7 → circuitCountAt file functionStart (r .first) ≡ circuitCountAt file functionStart n
-  negation-variables e = circuit-negation _ _ _ (negation-is file functionStart source context n inside r same e)
+  negation-variables e = circuit-negation _ _ _ (negation-is (node-reads file functionStart source context n inside r same) e)
 
   pub reveal-variables : r .kind ≡ 8 → circuitCountAt file functionStart (r .first) ≡ circuitCountAt file functionStart n
-  reveal-variables e = circuit-reveal _ _ _ _ (reveal-is file functionStart source context n inside r same e)
+  reveal-variables e = circuit-reveal _ _ _ _ (reveal-is (node-reads file functionStart source context n inside r same) e)
 
   -- A read, whose kind tells whether it is public.
   module _ (flag : Bool) (found : flag ≡ publicAt file functionStart n) (i : ℕ) where
     pub field-circuit : r .kind ≡ 3 → circuitAt file functionStart n i ≡ leaf (readKind flag) 0 i 0
-    field-circuit e = circuit-of-field _ _ i _ (field-is file functionStart source context n inside r same e) ∙ ap (λ (b : Bool). leaf (readKind b) 0 i 0) (sym found)
+    field-circuit e = circuit-of-field _ _ i _ (field-is (node-reads file functionStart source context n inside r same) e) ∙ ap (λ (b : Bool). leaf (readKind b) 0 i 0) (sym found)
 
     pub parameter-circuit : r .kind ≡ 5 → circuitAt file functionStart n i ≡ leaf (readKind flag) 0 i 0
-    parameter-circuit e = circuit-of-parameter _ _ i _ (parameter-is file functionStart source context n inside r same e) ∙ ap (λ (b : Bool). leaf (readKind b) 0 i 0) (sym found)
+    parameter-circuit e = circuit-of-parameter _ _ i _ (parameter-is (node-reads file functionStart source context n inside r same) e) ∙ ap (λ (b : Bool). leaf (readKind b) 0 i 0) (sym found)
 
     pub entry-circuit : r .kind ≡ 4 → (more : ℕ) → more ≡ countAt file functionStart (r .first) → circuitAt file functionStart n i ≡ leaf (readKind flag) 0 (i + more) 0
     entry-circuit e more counted =
-        circuit-of-entry _ _ i _ _ (entry-is file functionStart source context n inside r same e)
+        circuit-of-entry _ _ i _ _ (entry-is (node-reads file functionStart source context n inside r same) e)
         ∙ ap (λ (b : Bool). leaf (readKind b) 0 (i + countAt file functionStart (r .first)) 0) (sym found)
         ∙ ap (λ (j : ℕ). leaf (readKind flag) 0 (i + j) 0) (sym counted)
 
@@ -76,22 +77,22 @@ module _ (file : List ℕ) (functionStart : ℕ) (source : List ℕ) (context : 
     pub division-circuit : flag ≡ true → (i : ℕ) → r .kind ≡ 6 → (left right : ℕ) → left ≡ countAt file functionStart (r .first)
         → right ≡ countAt file functionStart (r .second) → circuitAt file functionStart n i ≡ leaf 9 0 (i + left + right) 0
     division-circuit h i e left right countedLeft countedRight =
-        circuit-of-division _ _ i _ _ _ (operator-is file functionStart source context n inside r same e) (sym found ∙ h)
+        circuit-of-division _ _ i _ _ _ (operator-is (node-reads file functionStart source context n inside r same) e) (sym found ∙ h)
         ∙ ap (λ (j : ℕ). leaf 9 0 (i + j + countAt file functionStart (r .second)) 0) (sym countedLeft)
         ∙ ap (λ (j : ℕ). leaf 9 0 (i + left + j) 0) (sym countedRight)
 
     pub division-variables : flag ≡ true → r .kind ≡ 6
         → countAt file functionStart (r .first) + countAt file functionStart (r .second) + 1 ≡ circuitCountAt file functionStart n
-    division-variables h e = circuit-division _ _ _ _ _ (operator-is file functionStart source context n inside r same e) (sym found ∙ h)
+    division-variables h e = circuit-division _ _ _ _ _ (operator-is (node-reads file functionStart source context n inside r same) e) (sym found ∙ h)
 
     pub operator-circuit : flag ≡ false → (i : ℕ) → r .kind ≡ 6 → (next : ℕ) → next ≡ i + circuitCountAt file functionStart (r .first)
         → circuitAt file functionStart n i ≡ twoChildren 6 (r .arg) (circuitAt file functionStart (r .first) i) (circuitAt file functionStart (r .second) next)
     operator-circuit h i e next counted =
-        circuit-of-operator _ _ i _ _ _ (operator-is file functionStart source context n inside r same e) (sym found ∙ h)
+        circuit-of-operator _ _ i _ _ _ (operator-is (node-reads file functionStart source context n inside r same) e) (sym found ∙ h)
         ∙ ap (λ (code : ℕ). twoChildren 6 code (circuitAt file functionStart (r .first) i) (circuitAt file functionStart (r .second) (i + circuitCountAt file functionStart (r .first))))
         (operator-kept file functionStart source context n inside r same e)
         ∙ ap (λ (j : ℕ). twoChildren 6 (r .arg) (circuitAt file functionStart (r .first) i) (circuitAt file functionStart (r .second) j)) (sym counted)
 
     pub operator-variables : flag ≡ false → r .kind ≡ 6
         → circuitCountAt file functionStart (r .first) + circuitCountAt file functionStart (r .second) ≡ circuitCountAt file functionStart n
-    operator-variables h e = circuit-operator _ _ _ _ _ (operator-is file functionStart source context n inside r same e) (sym found ∙ h)
+    operator-variables h e = circuit-operator _ _ _ _ _ (operator-is (node-reads file functionStart source context n inside r same) e) (sym found ∙ h)

@@ -4,6 +4,7 @@ use file_kinds::ADDRESS_BYTE;
 use file_kinds::BOOL;
 use file_kinds::BOOL_BYTE;
 use file_kinds::CELL_BYTE;
+use file_kinds::OPENS;
 use file_kinds::UINT;
 use file_kinds::UINT_BYTE;
 use memory_append::append_byte;
@@ -112,7 +113,7 @@ fn append_opening_claim(variable: usize, out: &mut [u8], at: usize) -> usize
 {
     let guard = append_two_bytes(0, out, at);
     let number = append_two_bytes(variable, out, guard);
-    append_two_bytes(65535, out, number)
+    append_two_bytes(OPENS, out, number)
 }
 
 // ".. with a constraint that it opens for the caller"

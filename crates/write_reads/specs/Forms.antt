@@ -1,8 +1,8 @@
 -- The trees of an expression's rewritten form, given the number of its first variable.
 use mathlib.Core.Bool.{Bool, cond}
 use mathlib.Core.List.{List}
-use Prim.Native.Nat.{ℕ, _+_, _*_}
-use Rattle.definitions.specs.ContractFile.{Expression, Scope, nodeRecord}
+use Prim.Native.Nat.{ℕ}
+use Rattle.definitions.specs.ContractFile.{Expression, Scope}
 use Rattle.definitions.specs.Owners.{ownerOf}
 use Rattle.definitions.specs.Rewriting.{inBody, inCircuit, Tree, bodyTree, circuitTree}
 use Rattle.file_decoded.specs.Slices.{recordAt}

@@ -4,7 +4,8 @@ use Prim.Native.Nat.{_+_, _*_}
 use borrow.Author.Needs.{needs}
 use borrow.Author.Tests.{not-true, not-false}
 use native.Mathlib.Omega.{arith}
-use Rattle.file_accepted.proofs.Nodes.{entry-is, operator-is, negation-is, reveal-is, key-below, operands-below, part-below, revealed-below}
+use Rattle.theory_trees.proofs.ByKind.{entry-is, operator-is, negation-is, reveal-is, key-below, part-below, revealed-below, operands-below}
+use Rattle.file_accepted.proofs.Nodes.{node-reads}
 use Rattle.honest_values.proofs.ValuesByKind.{kind-as}
 use Rattle.disclose_expressions.proofs.ExpressionsByKind.{value-here, ready-part, entry-like, negation-like, like-room, like-disclosed, silent-is, silent-disclosed}
 use Rattle.disclose_expressions.proofs.ExpressionsByKind.{left-stopped, left-room, right-room, right-stopped, operator-disclosed}
@@ -78,26 +79,26 @@ pub +disclose-expression+disclose-operator+disclose-reveal-spec : {M : Type 1} �
     (λ c κs. let (_, ready) = c .before .before .before .before .before .before .pre in (ready .context .narrow, omega (arith, ready .context .long, ready .inside)))
     (λ c κs. let start = c .before .before .before .before .before .before .before .before .before in let (falls-2, ready) = start .pre in
     let same = c .before .before .node-at .ensures .same in let kind = c .before .match .keys1 in
-    let less = key-below _ _ _ (ready .context) _ (ready .inside) _ same kind in
-    (omega (arith, falls-2, less), ready-part _ _ _ _ _ _ _ _ _ _ _ _ ready less (like-room _ _ _ _ _ _ _ (start .args .out .now) _ (entry-like _ _ _ _ _ _ _ _ (entry-is _ _ _ (ready .context) _ (ready .inside) _ same kind)) (ready .room))))
+    let less = key-below (node-reads _ _ _ (ready .context) _ (ready .inside) _ same) kind in
+    (omega (arith, falls-2, less), ready-part _ _ _ _ _ _ _ _ _ _ _ _ ready less (like-room _ _ _ _ _ _ _ (start .args .out .now) _ (entry-like _ _ _ _ _ _ _ _ (entry-is (node-reads _ _ _ (ready .context) _ (ready .inside) _ same) kind)) (ready .room))))
     (λ c κs. let (falls-2, ready) = c .before .before .before .before .before .before .before .before .before .pre in
     (omega (arith, falls-2), (kind-as _ _ _ (sym (c .before .before .node-at .ensures .same)) (c .before .match .keys2), ready)))
     (λ c κs. let start = c .before .before .before .before .before .before .before .before .before in let (falls-2, ready) = start .pre in
     let same = c .before .before .node-at .ensures .same in let kind = c .before .match .keys3 in
-    let less = part-below _ _ _ (ready .context) _ (ready .inside) _ same kind in
-    (omega (arith, falls-2, less), ready-part _ _ _ _ _ _ _ _ _ _ _ _ ready less (like-room _ _ _ _ _ _ _ (start .args .out .now) _ (negation-like _ _ _ _ _ _ _ (negation-is _ _ _ (ready .context) _ (ready .inside) _ same kind)) (ready .room))))
+    let less = part-below (node-reads _ _ _ (ready .context) _ (ready .inside) _ same) kind in
+    (omega (arith, falls-2, less), ready-part _ _ _ _ _ _ _ _ _ _ _ _ ready less (like-room _ _ _ _ _ _ _ (start .args .out .now) _ (negation-like _ _ _ _ _ _ _ (negation-is (node-reads _ _ _ (ready .context) _ (ready .inside) _ same) kind)) (ready .room))))
     (λ c κs. let (falls-2, ready) = c .before .before .before .before .before .before .before .before .before .pre in
     (omega (arith, falls-2), (kind-as _ _ _ (sym (c .before .before .node-at .ensures .same)) (c .before .match .keys4), ready)))
     (λ c. search needs)
     (λ c. let (_, ready) = c .before .before .before .before .before .before .before .before .before .before .before .before .pre in
     let same = c .before .before .before .before .before .node-at .ensures .same in let kind = c .before .before .before .before .match .keys1 in
-    like-disclosed _ _ _ _ _ _ _ _ _ _ _ (entry-like _ _ _ _ _ _ _ _ (entry-is _ _ _ (ready .context) _ (ready .inside) _ same kind)) (c .before .before .disclose-expression .ensures))
+    like-disclosed _ _ _ _ _ _ _ _ _ _ _ (entry-like _ _ _ _ _ _ _ _ (entry-is (node-reads _ _ _ (ready .context) _ (ready .inside) _ same) kind)) (c .before .before .disclose-expression .ensures))
     (λ c. search needs)
     (λ c. c .before .before .disclose-operator .ensures)
     (λ c. search needs)
     (λ c. let (_, ready) = c .before .before .before .before .before .before .before .before .before .before .before .before .pre in
     let same = c .before .before .before .before .before .node-at .ensures .same in let kind = c .before .before .before .before .match .keys3 in
-    like-disclosed _ _ _ _ _ _ _ _ _ _ _ (negation-like _ _ _ _ _ _ _ (negation-is _ _ _ (ready .context) _ (ready .inside) _ same kind)) (c .before .before .disclose-expression2 .ensures))
+    like-disclosed _ _ _ _ _ _ _ _ _ _ _ (negation-like _ _ _ _ _ _ _ (negation-is (node-reads _ _ _ (ready .context) _ (ready .inside) _ same) kind)) (c .before .before .disclose-expression2 .ensures))
     (λ c. search needs)
     (λ c. c .before .before .disclose-reveal .ensures)
     (λ c. let (_, ready) = c .before .before .before .before .before .before .before .before .pre in let u = c .match .rest in
@@ -106,57 +107,57 @@ pub +disclose-expression+disclose-operator+disclose-reveal-spec : {M : Type 1} �
     (λ c κs. let (_, (_, ready)) = c .before .before .before .before .before .before .pre in (ready .context .narrow, omega (arith, ready .context .long, ready .inside)))
     (λ c κs. let start = c .before .before .before .before .before .before .before .before in let (falls-2, (kind-at-is, ready)) = start .pre in
     let same = c .before .node-at .ensures .same in let kind = kind-as _ _ _ same kind-at-is in
-    let less = operands-below _ _ _ (ready .context) _ (ready .inside) _ same kind in
-    (omega (arith, falls-2, less .0), ready-part _ _ _ _ _ _ _ _ _ _ _ _ ready (less .0) (left-room _ _ _ _ _ _ _ _ _ (operator-is _ _ _ (ready .context) _ (ready .inside) _ same kind) (start .args .out .now) _ (ready .room))))
+    let less = operands-below (node-reads _ _ _ (ready .context) _ (ready .inside) _ same) kind in
+    (omega (arith, falls-2, less .0), ready-part _ _ _ _ _ _ _ _ _ _ _ _ ready (less .0) (left-room _ _ _ _ _ _ _ _ _ (operator-is (node-reads _ _ _ (ready .context) _ (ready .inside) _ same) kind) (start .args .out .now) _ (ready .room))))
     (λ c. search needs)
     (λ c. let (_, (kind-at-is, ready)) = c .before .before .before .before .before .before .before .before .before .before .before .before .before .pre in
     let same = c .before .before .before .before .before .before .node-at .ensures .same in let kind = kind-as _ _ _ same kind-at-is in
-    left-stopped _ _ _ _ _ _ _ _ _ (operator-is _ _ _ (ready .context) _ (ready .inside) _ same kind) _ _ _ _ (not-true _ (c .if1 .taken)) (c .before .before .before .before .disclose-expression .ensures))
+    left-stopped _ _ _ _ _ _ _ _ _ (operator-is (node-reads _ _ _ (ready .context) _ (ready .inside) _ same) kind) _ _ _ _ (not-true _ (c .if1 .taken)) (c .before .before .before .before .disclose-expression .ensures))
     (λ c κs. let (falls-2, (kind-at-is, ready)) = c .before .before .before .before .before .before .before .before .before .before .before .before .before .before .pre in
     let same = c .before .before .before .before .before .before .before .node-at .ensures .same in let kind = kind-as _ _ _ same kind-at-is in
-    let less = operands-below _ _ _ (ready .context) _ (ready .inside) _ same kind in
-    (omega (arith, falls-2, less .1), ready-part _ _ _ _ _ _ _ _ _ _ _ _ ready (less .1) (right-room _ _ _ _ _ _ _ _ _ (operator-is _ _ _ (ready .context) _ (ready .inside) _ same kind) _ _ (ready .room) _ _ (c .before .before .before .before .before .disclose-expression .ensures) (not-false _ (c .before .if1 .left)))))
+    let less = operands-below (node-reads _ _ _ (ready .context) _ (ready .inside) _ same) kind in
+    (omega (arith, falls-2, less .1), ready-part _ _ _ _ _ _ _ _ _ _ _ _ ready (less .1) (right-room _ _ _ _ _ _ _ _ _ (operator-is (node-reads _ _ _ (ready .context) _ (ready .inside) _ same) kind) _ _ (ready .room) _ _ (c .before .before .before .before .before .disclose-expression .ensures) (not-false _ (c .before .if1 .left)))))
     (λ c. search needs)
     (λ c. let (_, (kind-at-is, ready)) = c .before .before .before .before .before .before .before .before .before .before .before .before .before .before .before .before .before .before .before .pre in
     let same = c .before .before .before .before .before .before .before .before .before .before .before .before .node-at .ensures .same in
     let kind = kind-as _ _ _ same kind-at-is in
-    right-stopped _ _ _ _ _ _ _ _ _ (operator-is _ _ _ (ready .context) _ (ready .inside) _ same kind) _ _ (ready .room) _ _ (c .before .before .before .before .before .before .before .before .before .before .disclose-expression .ensures) (not-false _ (c .before .before .before .before .before .before .if1 .left)) _ _ (not-true _ (c .if2 .taken)) (c .before .before .before .before .disclose-expression2 .ensures))
+    right-stopped _ _ _ _ _ _ _ _ _ (operator-is (node-reads _ _ _ (ready .context) _ (ready .inside) _ same) kind) _ _ (ready .room) _ _ (c .before .before .before .before .before .before .before .before .before .before .disclose-expression .ensures) (not-false _ (c .before .before .before .before .before .before .if1 .left)) _ _ (not-true _ (c .if2 .taken)) (c .before .before .before .before .disclose-expression2 .ensures))
     (λ c κs. let (_, (kind-at-is, ready)) = c .before .before .before .before .before .before .before .before .before .before .before .before .before .before .before .before .before .before .before .pre in
     let same = c .before .before .before .before .before .before .before .before .before .before .before .before .node-at .ensures .same in
-    let less = operands-below _ _ _ (ready .context) _ (ready .inside) _ same (kind-as _ _ _ same kind-at-is) in
+    let less = operands-below (node-reads _ _ _ (ready .context) _ (ready .inside) _ same) (kind-as _ _ _ same kind-at-is) in
     (omega (arith, ready .inside, less .1), ready .context))
     (λ c κs. tt)
     (λ c. search needs)
     (λ c. let (_, (kind-at-is, ready)) = c .before .before .before .before .before .before .before .before .before .before .before .before .before .before .before .before .before .before .before .before .before .pre in
     let same = c .before .before .before .before .before .before .before .before .before .before .before .before .before .before .node-at .ensures .same in
     let kind = kind-as _ _ _ same kind-at-is in
-    operator-disclosed _ _ _ _ _ _ _ _ _ (operator-is _ _ _ (ready .context) _ (ready .inside) _ same kind) _ _ (ready .room) _ _ (c .before .before .before .before .before .before .before .before .before .before .before .before .disclose-expression .ensures) (not-false _ (c .before .before .before .before .before .before .before .before .if1 .left)) _ _ _ _ (not-false _ (c .before .before .if2 .left)) (c .before .before .before .before .before .before .disclose-expression2 .ensures) (value-here _ _ _ _ _ _ _ (ready .called) (c .before .value-asked .ensures)) refl (c .divides .ensures)))
+    operator-disclosed _ _ _ _ _ _ _ _ _ (operator-is (node-reads _ _ _ (ready .context) _ (ready .inside) _ same) kind) _ _ (ready .room) _ _ (c .before .before .before .before .before .before .before .before .before .before .before .before .disclose-expression .ensures) (not-false _ (c .before .before .before .before .before .before .before .before .if1 .left)) _ _ _ _ (not-false _ (c .before .before .if2 .left)) (c .before .before .before .before .before .before .disclose-expression2 .ensures) (value-here _ _ _ _ _ _ _ (ready .called) (c .before .value-asked .ensures)) refl (c .divides .ensures)))
     λ t. disclose-reveal-lts.spec (disclose-reveal-claims t) (disclose-reveal-at t) disclose-reveal.Post
     (λ c κs. let (_, (_, ready)) = c .before .before .before .before .before .before .pre in (ready .context .narrow, omega (arith, ready .context .long, ready .inside)))
     (λ c κs. let start = c .before .before .before .before .before .before .before .before in let (falls-2, (kind-at-is, ready)) = start .pre in
     let same = c .before .node-at .ensures .same in let kind = kind-as _ _ _ same kind-at-is in
-    let less = revealed-below _ _ _ (ready .context) _ (ready .inside) _ same kind in
-    (omega (arith, falls-2, less), ready-part _ _ _ _ _ _ _ _ _ _ _ _ ready less (part-room _ _ _ _ _ _ _ _ (reveal-is _ _ _ (ready .context) _ (ready .inside) _ same kind) (start .args .out .now) _ (ready .room))))
+    let less = revealed-below (node-reads _ _ _ (ready .context) _ (ready .inside) _ same) kind in
+    (omega (arith, falls-2, less), ready-part _ _ _ _ _ _ _ _ _ _ _ _ ready less (part-room _ _ _ _ _ _ _ _ (reveal-is (node-reads _ _ _ (ready .context) _ (ready .inside) _ same) kind) (start .args .out .now) _ (ready .room))))
     (λ c. search needs)
     (λ c. let (_, (kind-at-is, ready)) = c .before .before .before .before .before .before .before .before .before .before .before .before .before .pre in
     let same = c .before .before .before .before .before .before .node-at .ensures .same in let kind = kind-as _ _ _ same kind-at-is in
-    part-stopped _ _ _ _ _ _ _ _ (reveal-is _ _ _ (ready .context) _ (ready .inside) _ same kind) _ _ _ _ (not-true _ (c .if1 .taken)) (c .before .before .before .before .disclose-expression .ensures))
+    part-stopped _ _ _ _ _ _ _ _ (reveal-is (node-reads _ _ _ (ready .context) _ (ready .inside) _ same) kind) _ _ _ _ (not-true _ (c .if1 .taken)) (c .before .before .before .before .disclose-expression .ensures))
     (λ c κs. tt)
     (λ c. search needs)
     (λ c. let (_, (kind-at-is, ready)) = c .before .before .before .before .before .before .before .before .before .before .before .before .before .before .before .pre in
     let same = c .before .before .before .before .before .before .before .before .node-at .ensures .same in
     let kind = kind-as _ _ _ same kind-at-is in
-    reveal-hidden _ _ _ _ _ _ _ _ (reveal-is _ _ _ (ready .context) _ (ready .inside) _ same kind) _ _ _ _ (not-false _ (c .before .before .if1 .left)) (sym (c .before .may-read .ensures) ∙ not-true _ (c .if2 .taken)) (c .before .before .before .before .before .before .disclose-expression .ensures))
+    reveal-hidden _ _ _ _ _ _ _ _ (reveal-is (node-reads _ _ _ (ready .context) _ (ready .inside) _ same) kind) _ _ _ _ (not-false _ (c .before .before .if1 .left)) (sym (c .before .may-read .ensures) ∙ not-true _ (c .if2 .taken)) (c .before .before .before .before .before .before .disclose-expression .ensures))
     (λ c κs. let (_, (kind-at-is, ready)) = c .before .before .before .before .before .before .before .before .before .before .before .before .before .before .before .pre in
     let same = c .before .before .before .before .before .before .before .before .node-at .ensures .same in
-    let less = revealed-below _ _ _ (ready .context) _ (ready .inside) _ same (kind-as _ _ _ same kind-at-is) in
+    let less = revealed-below (node-reads _ _ _ (ready .context) _ (ready .inside) _ same) (kind-as _ _ _ same kind-at-is) in
     (omega (arith, ready .inside, less), ready .context))
     (λ c κs. let (_, (kind-at-is, ready)) = c .before .before .before .before .before .before .before .before .before .before .before .before .before .before .before .before .before .pre in
     let same = c .before .before .before .before .before .before .before .before .before .before .node-at .ensures .same in
     let kind = kind-as _ _ _ same kind-at-is in
-    value-room _ _ _ _ _ _ _ _ (reveal-is _ _ _ (ready .context) _ (ready .inside) _ same kind) _ _ (ready .room) _ _ (c .before .before .before .before .before .before .before .before .disclose-expression .ensures) (not-false _ (c .before .before .before .before .if1 .left)) (sym (c .before .before .before .may-read .ensures) ∙ not-false _ (c .before .before .if2 .left)))
+    value-room _ _ _ _ _ _ _ _ (reveal-is (node-reads _ _ _ (ready .context) _ (ready .inside) _ same) kind) _ _ (ready .room) _ _ (c .before .before .before .before .before .before .before .before .disclose-expression .ensures) (not-false _ (c .before .before .before .before .if1 .left)) (sym (c .before .before .before .may-read .ensures) ∙ not-false _ (c .before .before .if2 .left)))
     (λ c. search needs)
     (λ c. let (_, (kind-at-is, ready)) = c .before .before .before .before .before .before .before .before .before .before .before .before .before .before .before .before .before .before .before .before .pre in
     let same = c .before .before .before .before .before .before .before .before .before .before .before .before .before .node-at .ensures .same in
     let kind = kind-as _ _ _ same kind-at-is in
-    reveal-disclosed _ _ _ _ _ _ _ _ (reveal-is _ _ _ (ready .context) _ (ready .inside) _ same kind) _ _ (ready .room) _ _ (c .before .before .before .before .before .before .before .before .before .before .before .disclose-expression .ensures) (not-false _ (c .before .before .before .before .before .before .before .if1 .left)) (sym (c .before .before .before .before .before .before .may-read .ensures) ∙ not-false _ (c .before .before .before .before .before .if2 .left)) _ _ _ (value-here _ _ _ _ _ _ _ (ready .called) (c .before .before .before .before .value-asked .ensures)) (c .before .before .append-value .ensures) refl)
+    reveal-disclosed _ _ _ _ _ _ _ _ (reveal-is (node-reads _ _ _ (ready .context) _ (ready .inside) _ same) kind) _ _ (ready .room) _ _ (c .before .before .before .before .before .before .before .before .before .before .before .disclose-expression .ensures) (not-false _ (c .before .before .before .before .before .before .before .if1 .left)) (sym (c .before .before .before .before .before .before .may-read .ensures) ∙ not-false _ (c .before .before .before .before .before .if2 .left)) _ _ _ (value-here _ _ _ _ _ _ _ (ready .called) (c .before .before .before .before .value-asked .ensures)) (c .before .before .append-value .ensures) refl)

@@ -5,7 +5,8 @@ use borrow.Author.Needs.{needs}
 use borrow.Author.Tests.{not-true, not-false}
 use native.Mathlib.Omega.{arith}
 use Rattle.definitions.specs.Basics.{isTrue}
-use Rattle.file_accepted.proofs.Statements.{still-is, sequence-is, conditional-is, steps-below, branches-below}
+use Rattle.theory_trees.proofs.ByKind.{still-is, sequence-is, conditional-is, steps-below, branches-below}
+use Rattle.file_accepted.proofs.Nodes.{node-reads}
 use Rattle.honest_values.proofs.ValuesByKind.{kind-as}
 use Rattle.disclose_expressions.proofs.ExpressionsByKind.{value-here}
 use Rattle.disclose_statements.proofs.StatementsByKind.{branch-in, branch-below, expression-ready, statement-ready, skip-disclosed}
@@ -82,14 +83,14 @@ pub +disclose-conditional+disclose-sequence+disclose-statement-spec : {M : Type 
     (λ c κs. let (_, (_, ready)) = c .before .before .before .before .before .before .pre in (ready .context .narrow, omega (arith, ready .context .long, ready .inside)))
     (λ c κs. let (falls-2, (kind-at-is, ready)) = c .before .before .before .before .before .before .before .before .pre in
     let same = c .before .node-at .ensures .same in let kind = kind-as _ _ _ same kind-at-is in
-    let less = branches-below _ _ _ (ready .context) _ (ready .inside) _ same kind in (omega (arith, ready .inside, less .0), ready .context))
+    let less = branches-below (node-reads _ _ _ (ready .context) _ (ready .inside) _ same) kind in (omega (arith, ready .inside, less .0), ready .context))
     (λ c κs. tt)
     (λ c κs. let start = c .before .before .before .before .before .before .before .before .before .before .before .before in
     let (falls-2, (kind-at-is, ready)) = start .pre in let same = c .before .before .before .before .before .node-at .ensures .same in
-    let kind = kind-as _ _ _ same kind-at-is in let less = branches-below _ _ _ (ready .context) _ (ready .inside) _ same kind in
+    let kind = kind-as _ _ _ same kind-at-is in let less = branches-below (node-reads _ _ _ (ready .context) _ (ready .inside) _ same) kind in
     let chosen = branch-in (start .args .file .now) (isTrue (c .before .before .before .value-asked .result)) _ (c .before .before .before .before .before .node-at .result .second) (c .before .before .before .before .before .node-at .result .third) (c .before .before .branch-of .ensures) in
     let known = ap isTrue (value-here _ _ _ _ _ _ _ (ready .called) (c .before .before .before .value-asked .ensures)) in
-    expression-ready _ _ _ _ _ _ _ _ _ _ _ _ ready (less .0) (condition-room _ _ _ _ _ _ _ _ _ _ (conditional-is _ _ _ (ready .context) _ (ready .inside) _ same kind) _ known chosen (start .args .out .now) _ (ready .room)))
+    expression-ready _ _ _ _ _ _ _ _ _ _ _ _ ready (less .0) (condition-room _ _ _ _ _ _ _ _ _ _ (conditional-is (node-reads _ _ _ (ready .context) _ (ready .inside) _ same) kind) _ known chosen (start .args .out .now) _ (ready .room)))
     (λ c. search needs)
     (λ c. search needs)
     (λ c. let start = c .before .before .before .before .before .before .before .before .before .before .before .before .before .before .before .before .before in
@@ -98,15 +99,15 @@ pub +disclose-conditional+disclose-sequence+disclose-statement-spec : {M : Type 
     let kind = kind-as _ _ _ same kind-at-is in
     let chosen = branch-in (start .args .file .now) (isTrue (c .before .before .before .before .before .before .before .before .value-asked .result)) _ (c .before .before .before .before .before .before .before .before .before .before .node-at .result .second) (c .before .before .before .before .before .before .before .before .before .before .node-at .result .third) (c .before .before .before .before .before .before .before .branch-of .ensures) in
     let known = ap isTrue (value-here _ _ _ _ _ _ _ (ready .called) (c .before .before .before .before .before .before .before .before .value-asked .ensures)) in
-    condition-stopped _ _ _ _ _ _ _ _ _ _ (conditional-is _ _ _ (ready .context) _ (ready .inside) _ same kind) _ known chosen _ _ _ _ _ (not-true _ (c .if1 .taken)) (c .before .before .before .before .disclose-expression .ensures))
+    condition-stopped _ _ _ _ _ _ _ _ _ _ (conditional-is (node-reads _ _ _ (ready .context) _ (ready .inside) _ same) kind) _ known chosen _ _ _ _ _ (not-true _ (c .if1 .taken)) (c .before .before .before .before .disclose-expression .ensures))
     (λ c κs. let start = c .before .before .before .before .before .before .before .before .before .before .before .before .before .before .before .before .before .before .before in
     let (falls-2, (kind-at-is, ready)) = start .pre in
     let same = c .before .before .before .before .before .before .before .before .before .before .before .before .node-at .ensures .same in
-    let kind = kind-as _ _ _ same kind-at-is in let less = branches-below _ _ _ (ready .context) _ (ready .inside) _ same kind in
+    let kind = kind-as _ _ _ same kind-at-is in let less = branches-below (node-reads _ _ _ (ready .context) _ (ready .inside) _ same) kind in
     let chosen = branch-in (start .args .file .now) (isTrue (c .before .before .before .before .before .before .before .before .before .before .value-asked .result)) _ (c .before .before .before .before .before .before .before .before .before .before .before .before .node-at .result .second) (c .before .before .before .before .before .before .before .before .before .before .before .before .node-at .result .third) (c .before .before .before .before .before .before .before .before .before .branch-of .ensures) in
     let known = ap isTrue (value-here _ _ _ _ _ _ _ (ready .called) (c .before .before .before .before .before .before .before .before .before .before .value-asked .ensures)) in
     let lower = branch-below _ (isTrue (c .before .before .before .before .before .before .before .before .before .before .value-asked .result)) _ (c .before .before .before .before .before .before .before .before .before .before .before .before .node-at .result .second) (c .before .before .before .before .before .before .before .before .before .before .before .before .node-at .result .third) (c .before .before .before .before .before .before .before .before .before .branch-of .ensures) (less .1 .0) (less .1 .1) in
-    (omega (arith, falls-2, lower), statement-ready _ _ _ _ _ _ _ _ _ _ _ _ _ ready lower (branch-room _ _ _ _ _ _ _ _ _ _ (conditional-is _ _ _ (ready .context) _ (ready .inside) _ same kind) _ known chosen _ _ (ready .room) _ _ (c .before .before .before .before .before .before .disclose-expression .ensures) (not-false _ (c .before .before .if1 .left)))))
+    (omega (arith, falls-2, lower), statement-ready _ _ _ _ _ _ _ _ _ _ _ _ _ ready lower (branch-room _ _ _ _ _ _ _ _ _ _ (conditional-is (node-reads _ _ _ (ready .context) _ (ready .inside) _ same) kind) _ known chosen _ _ (ready .room) _ _ (c .before .before .before .before .before .before .disclose-expression .ensures) (not-false _ (c .before .before .if1 .left)))))
     (λ c. search needs)
     (λ c. search needs)
     (λ c. let start = c .before .before .before .before .before .before .before .before .before .before .before .before .before .before .before .before .before .before .before .before .before .before .before .before in
@@ -115,29 +116,29 @@ pub +disclose-conditional+disclose-sequence+disclose-statement-spec : {M : Type 
     let kind = kind-as _ _ _ same kind-at-is in
     let chosen = branch-in (start .args .file .now) (isTrue (c .before .before .before .before .before .before .before .before .before .before .before .before .before .before .before .value-asked .result)) _ (c .before .before .before .before .before .before .before .before .before .before .before .before .before .before .before .before .before .node-at .result .second) (c .before .before .before .before .before .before .before .before .before .before .before .before .before .before .before .before .before .node-at .result .third) (c .before .before .before .before .before .before .before .before .before .before .before .before .before .before .branch-of .ensures) in
     let known = ap isTrue (value-here _ _ _ _ _ _ _ (ready .called) (c .before .before .before .before .before .before .before .before .before .before .before .before .before .before .before .value-asked .ensures)) in
-    conditional-disclosed _ _ _ _ _ _ _ _ _ _ (conditional-is _ _ _ (ready .context) _ (ready .inside) _ same kind) _ known chosen _ _ (ready .room) _ _ (c .before .before .before .before .before .before .before .before .before .before .before .disclose-expression .ensures) (not-false _ (c .before .before .before .before .before .before .before .if1 .left)) _ _ _ (c .before .before .before .before .disclose-statement .ensures)))
+    conditional-disclosed _ _ _ _ _ _ _ _ _ _ (conditional-is (node-reads _ _ _ (ready .context) _ (ready .inside) _ same) kind) _ known chosen _ _ (ready .room) _ _ (c .before .before .before .before .before .before .before .before .before .before .before .disclose-expression .ensures) (not-false _ (c .before .before .before .before .before .before .before .if1 .left)) _ _ _ (c .before .before .before .before .disclose-statement .ensures)))
     (λ t. disclose-sequence-lts.spec (disclose-sequence-claims t) (disclose-sequence-at t) disclose-sequence.Post
     (λ c κs. let (_, (_, ready)) = c .before .before .before .before .before .before .pre in (ready .context .narrow, omega (arith, ready .context .long, ready .inside)))
     (λ c κs. let start = c .before .before .before .before .before .before .before .before .before in let (falls-2, (kind-at-is, ready)) = start .pre in
     let same = c .before .before .node-at .ensures .same in let kind = kind-as _ _ _ same kind-at-is in
-    let less = steps-below _ _ _ (ready .context) _ (ready .inside) _ same kind in
-    (omega (arith, falls-2, less .0), statement-ready _ _ _ _ _ _ _ _ _ _ _ _ _ ready (less .0) (one-room _ _ _ _ _ _ _ _ (sequence-is _ _ _ (ready .context) _ (ready .inside) _ same kind) (start .args .out .now) _ (ready .room))))
+    let less = steps-below (node-reads _ _ _ (ready .context) _ (ready .inside) _ same) kind in
+    (omega (arith, falls-2, less .0), statement-ready _ _ _ _ _ _ _ _ _ _ _ _ _ ready (less .0) (one-room _ _ _ _ _ _ _ _ (sequence-is (node-reads _ _ _ (ready .context) _ (ready .inside) _ same) kind) (start .args .out .now) _ (ready .room))))
     (λ c. search needs)
     (λ c. search needs)
     (λ c. let (falls-2, (kind-at-is, ready)) = c .before .before .before .before .before .before .before .before .before .before .before .before .before .before .before .before .pre in
     let same = c .before .before .before .before .before .before .before .before .before .node-at .ensures .same in
     let kind = kind-as _ _ _ same kind-at-is in
-    first-stopped _ _ _ _ _ _ _ _ (sequence-is _ _ _ (ready .context) _ (ready .inside) _ same kind) _ _ _ _ _ (not-true _ (c .if1 .taken)) (c .before .before .before .before .before .before .disclose-statement .ensures))
+    first-stopped _ _ _ _ _ _ _ _ (sequence-is (node-reads _ _ _ (ready .context) _ (ready .inside) _ same) kind) _ _ _ _ _ (not-true _ (c .if1 .taken)) (c .before .before .before .before .before .before .disclose-statement .ensures))
     (λ c κs. let (falls-2, (kind-at-is, ready)) = c .before .before .before .before .before .before .before .before .before .before .before .before .before .before .before .before .before .before .pre in
     let same = c .before .before .before .before .before .before .before .before .before .before .before .node-at .ensures .same in
-    let kind = kind-as _ _ _ same kind-at-is in let less = steps-below _ _ _ (ready .context) _ (ready .inside) _ same kind in
-    (omega (arith, falls-2, less .1), statement-ready _ _ _ _ _ _ _ _ _ _ _ _ _ ready (less .1) (two-room _ _ _ _ _ _ _ _ (sequence-is _ _ _ (ready .context) _ (ready .inside) _ same kind) _ _ (ready .room) _ _ _ (c .before .before .before .before .before .before .before .before .disclose-statement .ensures) (not-false _ (c .before .before .if1 .left)))))
+    let kind = kind-as _ _ _ same kind-at-is in let less = steps-below (node-reads _ _ _ (ready .context) _ (ready .inside) _ same) kind in
+    (omega (arith, falls-2, less .1), statement-ready _ _ _ _ _ _ _ _ _ _ _ _ _ ready (less .1) (two-room _ _ _ _ _ _ _ _ (sequence-is (node-reads _ _ _ (ready .context) _ (ready .inside) _ same) kind) _ _ (ready .room) _ _ _ (c .before .before .before .before .before .before .before .before .disclose-statement .ensures) (not-false _ (c .before .before .if1 .left)))))
     (λ c. search needs)
     (λ c. search needs)
     (λ c. let (falls-2, (kind-at-is, ready)) = c .before .before .before .before .before .before .before .before .before .before .before .before .before .before .before .before .before .before .before .before .before .before .before .pre in
     let same = c .before .before .before .before .before .before .before .before .before .before .before .before .before .before .before .before .node-at .ensures .same in
     let kind = kind-as _ _ _ same kind-at-is in
-    sequence-disclosed _ _ _ _ _ _ _ _ (sequence-is _ _ _ (ready .context) _ (ready .inside) _ same kind) _ _ (ready .room) _ _ _ (c .before .before .before .before .before .before .before .before .before .before .before .before .before .disclose-statement .ensures) (not-false _ (c .before .before .before .before .before .before .before .if1 .left)) _ _ _ (c .before .before .before .before .disclose-statement2 .ensures)))
+    sequence-disclosed _ _ _ _ _ _ _ _ (sequence-is (node-reads _ _ _ (ready .context) _ (ready .inside) _ same) kind) _ _ (ready .room) _ _ _ (c .before .before .before .before .before .before .before .before .before .before .before .before .before .disclose-statement .ensures) (not-false _ (c .before .before .before .before .before .before .before .if1 .left)) _ _ _ (c .before .before .before .before .disclose-statement2 .ensures)))
     λ t. disclose-statement-lts.spec (disclose-statement-claims t) (disclose-statement-at t) disclose-statement.Post
     (λ c κs. let (_, ready) = c .before .before .before .before .before .before .pre in (ready .context .narrow, omega (arith, ready .context .long, ready .inside)))
     (λ c κs. let (falls-2, ready) = c .before .before .before .before .before .before .before .before .before .before .pre in
@@ -166,4 +167,4 @@ pub +disclose-conditional+disclose-sequence+disclose-statement-spec : {M : Type 
     (λ c. search needs)
     (λ c. c .before .before .before .before .disclose-conditional .ensures)
     (λ c. let (_, ready) = c .before .before .before .before .before .before .before .before .pre in let u = c .match .rest in
-    skip-disclosed _ _ _ _ _ _ (still-is _ _ _ (ready .context) _ (ready .inside) _ (c .before .node-at .ensures .same) (record { sequence = u .0 .0 .0 .0 .1; assignField = u .0 .0 .0 .1; assignEntry = u .0 .0 .1; require = u .0 .1; conditional = u .1 })) _ _ _ refl refl)
+    skip-disclosed _ _ _ _ _ _ (still-is (node-reads _ _ _ (ready .context) _ (ready .inside) _ (c .before .node-at .ensures .same)) (record { sequence = u .0 .0 .0 .0 .1; assignField = u .0 .0 .0 .1; assignEntry = u .0 .0 .1; require = u .0 .1; conditional = u .1 })) _ _ _ refl refl)

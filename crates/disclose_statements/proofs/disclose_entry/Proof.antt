@@ -4,7 +4,8 @@ use borrow.Author.Needs.{needs}
 use borrow.Author.Tests.{not-true, not-false}
 use Rattle.honest_values.proofs.ValuesByKind.{kind-as}
 use Rattle.disclose_expressions.proofs.ExpressionsByKind.{value-here}
-use Rattle.file_accepted.proofs.Statements.{assign-entry-is, key-and-value-below}
+use Rattle.theory_trees.proofs.ByKind.{assign-entry-is, key-and-value-below}
+use Rattle.file_accepted.proofs.Nodes.{node-reads}
 use Rattle.disclose_statements.proofs.StatementsByKind.{expression-ready, key-stopped, key-room, value-room, entry-disclosed}
 use Rattle.disclose_statements.proofs.disclose_entry.Statement.{statement}
 use Rattle.disclose_statements.proofs.disclose_entry.Tie as tie
@@ -15,24 +16,24 @@ disclose-entry-spec =
     (λ c κs. let (_, ready) = c .before .before .before .before .before .before .pre in (ready .context .narrow, omega (arith, ready .context .long, ready .inside)))
     (λ c κs. let start = c .before .before .before .before .before .before .before .before .before in let (kind-at-is, ready) = start .pre in
     let same = c .before .before .node-at .ensures .same in let kind = kind-as _ _ _ same kind-at-is in
-    let less = key-and-value-below _ _ _ (ready .context) _ (ready .inside) _ same kind in
-    expression-ready _ _ _ _ _ _ _ _ _ _ _ _ ready (less .0) (key-room _ _ _ _ _ _ _ _ _ (assign-entry-is _ _ _ (ready .context) _ (ready .inside) _ same kind) (start .args .out .now) _ (ready .room)))
+    let less = key-and-value-below (node-reads _ _ _ (ready .context) _ (ready .inside) _ same) kind in
+    expression-ready _ _ _ _ _ _ _ _ _ _ _ _ ready (less .0) (key-room _ _ _ _ _ _ _ _ _ (assign-entry-is (node-reads _ _ _ (ready .context) _ (ready .inside) _ same) kind) (start .args .out .now) _ (ready .room)))
     (λ c. search needs)
     (λ c. search needs)
     (λ c. let (kind-at-is, ready) = c .before .before .before .before .before .before .before .before .before .before .before .before .before .before .pre in
     let same = c .before .before .before .before .before .before .before .node-at .ensures .same in let kind = kind-as _ _ _ same kind-at-is in
-    key-stopped _ _ _ _ _ _ _ _ _ (assign-entry-is _ _ _ (ready .context) _ (ready .inside) _ same kind) _ _ _ _ _ (not-true _ (c .if1 .taken)) (c .before .before .before .before .disclose-expression .ensures))
+    key-stopped _ _ _ _ _ _ _ _ _ (assign-entry-is (node-reads _ _ _ (ready .context) _ (ready .inside) _ same) kind) _ _ _ _ _ (not-true _ (c .if1 .taken)) (c .before .before .before .before .disclose-expression .ensures))
     (λ c κs. let (kind-at-is, ready) = c .before .before .before .before .before .before .before .before .before .before .before .before .before .before .before .before .pre in
     let same = c .before .before .before .before .before .before .before .before .before .node-at .ensures .same in
-    let kind = kind-as _ _ _ same kind-at-is in let less = key-and-value-below _ _ _ (ready .context) _ (ready .inside) _ same kind in
-    expression-ready _ _ _ _ _ _ _ _ _ _ _ _ ready (less .1) (value-room _ _ _ _ _ _ _ _ _ (assign-entry-is _ _ _ (ready .context) _ (ready .inside) _ same kind) _ _ (ready .room) _ _ (c .before .before .before .before .before .before .disclose-expression .ensures) (not-false _ (c .before .before .if1 .left))))
+    let kind = kind-as _ _ _ same kind-at-is in let less = key-and-value-below (node-reads _ _ _ (ready .context) _ (ready .inside) _ same) kind in
+    expression-ready _ _ _ _ _ _ _ _ _ _ _ _ ready (less .1) (value-room _ _ _ _ _ _ _ _ _ (assign-entry-is (node-reads _ _ _ (ready .context) _ (ready .inside) _ same) kind) _ _ (ready .room) _ _ (c .before .before .before .before .before .before .disclose-expression .ensures) (not-false _ (c .before .before .if1 .left))))
     (λ c κs. let (kind-at-is, ready) = c .before .before .before .before .before .before .before .before .before .before .before .before .before .before .before .before .before .before .before .before .pre in
     let same = c .before .before .before .before .before .before .before .before .before .before .before .before .before .node-at .ensures .same in
-    let kind = kind-as _ _ _ same kind-at-is in let less = key-and-value-below _ _ _ (ready .context) _ (ready .inside) _ same kind in
+    let kind = kind-as _ _ _ same kind-at-is in let less = key-and-value-below (node-reads _ _ _ (ready .context) _ (ready .inside) _ same) kind in
     (omega (arith, ready .inside, less .0), ready .context))
     (λ c κs. let (kind-at-is, ready) = c .before .before .before .before .before .before .before .before .before .before .before .before .before .before .before .before .before .before .before .before .before .before .pre in
     let same = c .before .before .before .before .before .before .before .before .before .before .before .before .before .before .before .node-at .ensures .same in
-    let kind = kind-as _ _ _ same kind-at-is in let less = key-and-value-below _ _ _ (ready .context) _ (ready .inside) _ same kind in
+    let kind = kind-as _ _ _ same kind-at-is in let less = key-and-value-below (node-reads _ _ _ (ready .context) _ (ready .inside) _ same) kind in
     (omega (arith, ready .inside, less .1), ready .context))
     (λ c. search needs)
     (λ c κs. let (_, ready) = c .before .before .before .before .before .before .before .before .before .before .before .before .before .before .before .before .before .before .before .before .before .before .before .pre in
@@ -43,4 +44,4 @@ disclose-entry-spec =
     (λ c. let (kind-at-is, ready) = c .before .before .before .before .before .before .before .before .before .before .before .before .before .before .before .before .before .before .before .before .before .before .before .before .before .before .before .before .pre in
     let same = c .before .before .before .before .before .before .before .before .before .before .before .before .before .before .before .before .before .before .before .before .before .node-at .ensures .same in
     let kind = kind-as _ _ _ same kind-at-is in
-    entry-disclosed _ _ _ _ _ _ _ _ _ (assign-entry-is _ _ _ (ready .context) _ (ready .inside) _ same kind) _ _ (ready .room) _ _ (c .before .before .before .before .before .before .before .before .before .before .before .before .before .before .before .before .before .before .disclose-expression .ensures) (not-false _ (c .before .before .before .before .before .before .before .before .before .before .before .before .before .before .if1 .left)) _ _ _ _ _ _ (c .before .before .before .before .before .before .before .before .before .before .before .disclose-expression2 .ensures) (value-here _ _ _ _ _ _ _ (ready .called) (c .before .before .before .before .before .before .before .value-asked .ensures)) (value-here _ _ _ _ _ _ _ (ready .called) (c .before .before .before .before .before .value-asked2 .ensures)) (c .before .before .before .before .position .ensures) (c .before .before .put-number .ensures)))
+    entry-disclosed _ _ _ _ _ _ _ _ _ (assign-entry-is (node-reads _ _ _ (ready .context) _ (ready .inside) _ same) kind) _ _ (ready .room) _ _ (c .before .before .before .before .before .before .before .before .before .before .before .before .before .before .before .before .before .before .disclose-expression .ensures) (not-false _ (c .before .before .before .before .before .before .before .before .before .before .before .before .before .before .if1 .left)) _ _ _ _ _ _ (c .before .before .before .before .before .before .before .before .before .before .before .disclose-expression2 .ensures) (value-here _ _ _ _ _ _ _ (ready .called) (c .before .before .before .before .before .before .before .value-asked .ensures)) (value-here _ _ _ _ _ _ _ (ready .called) (c .before .before .before .before .before .value-asked2 .ensures)) (c .before .before .before .before .position .ensures) (c .before .before .put-number .ensures)))

@@ -3,7 +3,8 @@ use native.Mathlib.Omega.{arith}
 use borrow.Author.Needs.{needs}
 use Rattle.honest_values.proofs.ValuesByKind.{kind-as}
 use Rattle.disclose_expressions.proofs.ExpressionsByKind.{value-here}
-use Rattle.file_accepted.proofs.Statements.{assign-field-is, value-below}
+use Rattle.theory_trees.proofs.ByKind.{assign-field-is, value-below}
+use Rattle.file_accepted.proofs.Nodes.{node-reads}
 use Rattle.disclose_statements.proofs.StatementsByKind.{expression-ready, field-room, field-disclosed}
 use Rattle.disclose_statements.proofs.disclose_field.Statement.{statement}
 use Rattle.disclose_statements.proofs.disclose_field.Tie as tie
@@ -14,11 +15,11 @@ disclose-field-spec =
     (λ c κs. let (_, ready) = c .before .before .before .before .before .before .pre in (ready .context .narrow, omega (arith, ready .context .long, ready .inside)))
     (λ c κs. let start = c .before .before .before .before .before .before .before .before .before in let (kind-at-is, ready) = start .pre in
     let same = c .before .before .node-at .ensures .same in let kind = kind-as _ _ _ same kind-at-is in
-    let less = value-below _ _ _ (ready .context) _ (ready .inside) _ same kind in
-    expression-ready _ _ _ _ _ _ _ _ _ _ _ _ ready less (field-room _ _ _ _ _ _ _ _ (assign-field-is _ _ _ (ready .context) _ (ready .inside) _ same kind) (start .args .out .now) _ (ready .room)))
+    let less = value-below (node-reads _ _ _ (ready .context) _ (ready .inside) _ same) kind in
+    expression-ready _ _ _ _ _ _ _ _ _ _ _ _ ready less (field-room _ _ _ _ _ _ _ _ (assign-field-is (node-reads _ _ _ (ready .context) _ (ready .inside) _ same) kind) (start .args .out .now) _ (ready .room)))
     (λ c κs. let (kind-at-is, ready) = c .before .before .before .before .before .before .before .before .before .before .before .before .before .pre in
     let same = c .before .before .before .before .before .before .node-at .ensures .same in let kind = kind-as _ _ _ same kind-at-is in
-    let less = value-below _ _ _ (ready .context) _ (ready .inside) _ same kind in (omega (arith, ready .inside, less), ready .context))
+    let less = value-below (node-reads _ _ _ (ready .context) _ (ready .inside) _ same) kind in (omega (arith, ready .inside, less), ready .context))
     (λ c κs. let (_, ready) = c .before .before .before .before .before .before .before .before .before .before .before .before .before .before .pre in
     (ready .context .fewFields, omega arith))
     (λ c κs. search needs)
@@ -27,4 +28,4 @@ disclose-field-spec =
     (λ c. let (kind-at-is, ready) = c .before .before .before .before .before .before .before .before .before .before .before .before .before .before .before .before .before .before .before .pre in
     let same = c .before .before .before .before .before .before .before .before .before .before .before .before .node-at .ensures .same in
     let kind = kind-as _ _ _ same kind-at-is in
-    field-disclosed _ _ _ _ _ _ _ _ (assign-field-is _ _ _ (ready .context) _ (ready .inside) _ same kind) _ _ _ _ _ _ _ (c .before .before .before .before .before .before .before .before .before .disclose-expression .ensures) (value-here _ _ _ _ _ _ _ (ready .called) (c .before .before .before .before .before .value-asked .ensures)) (c .before .before .before .before .position .ensures) (c .before .before .put-number .ensures)))
+    field-disclosed _ _ _ _ _ _ _ _ (assign-field-is (node-reads _ _ _ (ready .context) _ (ready .inside) _ same) kind) _ _ _ _ _ _ _ (c .before .before .before .before .before .before .before .before .before .disclose-expression .ensures) (value-here _ _ _ _ _ _ _ (ready .called) (c .before .before .before .before .before .value-asked .ensures)) (c .before .before .before .before .position .ensures) (c .before .before .put-number .ensures)))

@@ -4,7 +4,8 @@ use native.Mathlib.Omega.{arith}
 use borrow.Author.Needs.{needs}
 use Rattle.honest_values.proofs.ValuesByKind.{kind-as}
 use Rattle.disclose_expressions.proofs.ExpressionsByKind.{value-here}
-use Rattle.file_accepted.proofs.Statements.{require-is, required-below}
+use Rattle.theory_trees.proofs.ByKind.{require-is, required-below}
+use Rattle.file_accepted.proofs.Nodes.{node-reads}
 use Rattle.disclose_statements.proofs.StatementsByKind.{expression-ready, require-room, require-disclosed}
 use Rattle.disclose_statements.proofs.disclose_require.Statement.{statement}
 use Rattle.disclose_statements.proofs.disclose_require.Tie as tie
@@ -15,13 +16,13 @@ disclose-require-spec =
     (λ c κs. let (_, ready) = c .before .before .before .before .before .before .pre in (ready .context .narrow, omega (arith, ready .context .long, ready .inside)))
     (λ c κs. let start = c .before .before .before .before .before .before .before .before in let (kind-at-is, ready) = start .pre in
     let same = c .before .node-at .ensures .same in let kind = kind-as _ _ _ same kind-at-is in
-    let less = required-below _ _ _ (ready .context) _ (ready .inside) _ same kind in
-    expression-ready _ _ _ _ _ _ _ _ _ _ _ _ ready less (require-room _ _ _ _ _ _ _ (require-is _ _ _ (ready .context) _ (ready .inside) _ same kind) (start .args .out .now) _ (ready .room)))
+    let less = required-below (node-reads _ _ _ (ready .context) _ (ready .inside) _ same) kind in
+    expression-ready _ _ _ _ _ _ _ _ _ _ _ _ ready less (require-room _ _ _ _ _ _ _ (require-is (node-reads _ _ _ (ready .context) _ (ready .inside) _ same) kind) (start .args .out .now) _ (ready .room)))
     (λ c κs. let (kind-at-is, ready) = c .before .before .before .before .before .before .before .before .before .before .before .pre in
     let same = c .before .before .before .before .node-at .ensures .same in let kind = kind-as _ _ _ same kind-at-is in
-    let less = required-below _ _ _ (ready .context) _ (ready .inside) _ same kind in (omega (arith, ready .inside, less), ready .context))
+    let less = required-below (node-reads _ _ _ (ready .context) _ (ready .inside) _ same) kind in (omega (arith, ready .inside, less), ready .context))
     (λ c κs. search needs)
     (λ c. search needs)
     (λ c. let (kind-at-is, ready) = c .before .before .before .before .before .before .before .before .before .before .before .before .before .pre in
     let same = c .before .before .before .before .before .before .node-at .ensures .same in let kind = kind-as _ _ _ same kind-at-is in
-    require-disclosed _ _ _ _ _ _ _ (require-is _ _ _ (ready .context) _ (ready .inside) _ same kind) _ _ _ _ _ _ (c .before .before .before .before .disclose-expression .ensures) (value-here _ _ _ _ _ _ _ (ready .called) (c .before .value-asked .ensures)) refl (c .holds .ensures)))
+    require-disclosed _ _ _ _ _ _ _ (require-is (node-reads _ _ _ (ready .context) _ (ready .inside) _ same) kind) _ _ _ _ _ _ (c .before .before .before .before .disclose-expression .ensures) (value-here _ _ _ _ _ _ _ (ready .called) (c .before .value-asked .ensures)) refl (c .holds .ensures)))

@@ -1,7 +1,6 @@
 -- The node that stands there, whose kind and arg are bytes.
 use mathlib.Core.Path.{ap}
 use native.Mathlib.Omega.{arith}
-use Prim.Native.Nat.{ℕ}
 use Rattle.definitions.specs.ContractFile.{NodeRecord}
 use borrow.Author.Needs.{needs}
 use Rattle.file_decoded.proofs.node_at.Statement.{statement}

@@ -3,7 +3,8 @@ use mathlib.Core.Path.{sym}
 use Prim.Native.Nat.{_+_, _*_}
 use borrow.Author.Needs.{needs}
 use native.Mathlib.Omega.{arith}
-use Rattle.file_accepted.proofs.Statements.{sequence-is, conditional-is, steps-below, branches-below}
+use Rattle.theory_trees.proofs.ByKind.{sequence-is, conditional-is, steps-below, branches-below}
+use Rattle.file_accepted.proofs.Nodes.{node-reads}
 use Rattle.honest_values.proofs.ValuesByKind.{kind-as}
 use Rattle.honest_statements.proofs.Putting.{space-guard, space-branch}
 use Rattle.honest_statements.proofs.Steps.{simple-as, one-space, two-space, sequence-honest, condition-room, branches-space, conditional-honest, then-space, else-space, branches-honest, branch-honest}
@@ -119,21 +120,21 @@ pub +branch-slots+branches-slots+conditional-slots+sequence-slots+statement-slot
     (startable .context .narrow, omega (arith, startable .context .long, startable .inside)))
     (λ c κs. let (_, (kind-at-is, startable)) = c .before .before .before .before .before .before .before .pre in
     let node-at-same = c .before .node-at .ensures .same in
-    let less = branches-below _ _ _ (startable .context) _ (startable .inside) _ node-at-same (kind-as _ _ _ node-at-same kind-at-is) in
+    let less = branches-below (node-reads _ _ _ (startable .context) _ (startable .inside) _ node-at-same) (kind-as _ _ _ node-at-same kind-at-is) in
     (omega (arith, startable .inside, less .0), startable .context))
     (λ c κs. tt)
     (λ c κs. let (falls-2, (kind-at-is, startable)) = c .before .before .before .before .before .before .before .before .before .before .before .pre in
     let node-at-same = c .before .before .before .before .before .node-at .ensures .same in
-    let less = branches-below _ _ _ (startable .context) _ (startable .inside) _ node-at-same (kind-as _ _ _ node-at-same kind-at-is) in
-    (omega (arith, falls-2, less .1 .0), record { inside = omega (arith, startable .inside, less .1 .0); context = startable .context; space = then-space _ _ _ _ _ _ _ _ _ _ (conditional-is _ _ _ (startable .context) _ (startable .inside) _ node-at-same (kind-as _ _ _ node-at-same kind-at-is)) _ _ (startable .space) _ _ (c .before .before .before .is-taken .ensures) (c .before .both .ensures) }))
+    let less = branches-below (node-reads _ _ _ (startable .context) _ (startable .inside) _ node-at-same) (kind-as _ _ _ node-at-same kind-at-is) in
+    (omega (arith, falls-2, less .1 .0), record { inside = omega (arith, startable .inside, less .1 .0); context = startable .context; space = then-space _ _ _ _ _ _ _ _ _ _ (conditional-is (node-reads _ _ _ (startable .context) _ (startable .inside) _ node-at-same) (kind-as _ _ _ node-at-same kind-at-is)) _ _ (startable .space) _ _ (c .before .before .before .is-taken .ensures) (c .before .both .ensures) }))
     (λ c κs. tt)
     (λ c κs. let (falls-2, (kind-at-is, startable)) = c .before .before .before .before .before .before .before .before .before .before .before .before .before .before .before .before .before .before .before .pre in
     let node-at-same = c .before .before .before .before .before .before .before .before .before .before .before .before .before .node-at .ensures .same in
     let is-taken = c .before .before .before .before .before .before .before .before .before .before .before .is-taken .ensures in
     let both = c .before .before .before .before .before .before .before .before .before .both .ensures in
     let branch-slots-2 = c .before .before .before .before .before .before .before .branch-slots .ensures in
-    let less = branches-below _ _ _ (startable .context) _ (startable .inside) _ node-at-same (kind-as _ _ _ node-at-same kind-at-is) in
-    (omega (arith, falls-2, less .1 .1), record { inside = omega (arith, startable .inside, less .1 .1); context = startable .context; space = else-space _ _ _ _ _ _ _ _ _ _ (conditional-is _ _ _ (startable .context) _ (startable .inside) _ node-at-same (kind-as _ _ _ node-at-same kind-at-is)) _ _ (startable .space) _ _ is-taken both _ _ _ branch-slots-2 _ (c .before .only .ensures) }))
+    let less = branches-below (node-reads _ _ _ (startable .context) _ (startable .inside) _ node-at-same) (kind-as _ _ _ node-at-same kind-at-is) in
+    (omega (arith, falls-2, less .1 .1), record { inside = omega (arith, startable .inside, less .1 .1); context = startable .context; space = else-space _ _ _ _ _ _ _ _ _ _ (conditional-is (node-reads _ _ _ (startable .context) _ (startable .inside) _ node-at-same) (kind-as _ _ _ node-at-same kind-at-is)) _ _ (startable .space) _ _ is-taken both _ _ _ branch-slots-2 _ (c .before .only .ensures) }))
     (λ c. search needs) (λ c. search needs)
     (λ c. let (_, (kind-at-is, startable)) = c .before .before .before .before .before .before .before .before .before .before .before .before .before .before .before .before .before .before .before .before .before .before .before .before .pre in
     let node-at-same = c .before .before .before .before .before .before .before .before .before .before .before .before .before .before .before .before .before .before .node-at .ensures .same in
@@ -141,39 +142,39 @@ pub +branch-slots+branches-slots+conditional-slots+sequence-slots+statement-slot
     let both = c .before .before .before .before .before .before .before .before .before .before .before .before .before .before .both .ensures in
     let branch-slots-2 = c .before .before .before .before .before .before .before .before .before .before .before .before .branch-slots .ensures in
     let only = c .before .before .before .before .before .before .only .ensures in
-    branches-honest _ _ _ _ _ _ _ _ _ _ (conditional-is _ _ _ (startable .context) _ (startable .inside) _ node-at-same (kind-as _ _ _ node-at-same kind-at-is)) _ _ (startable .space) _ _ is-taken both _ _ _ branch-slots-2 _ only _ _ _ (c .before .before .before .before .branch-slots2 .ensures)))
+    branches-honest _ _ _ _ _ _ _ _ _ _ (conditional-is (node-reads _ _ _ (startable .context) _ (startable .inside) _ node-at-same) (kind-as _ _ _ node-at-same kind-at-is)) _ _ (startable .space) _ _ is-taken both _ _ _ branch-slots-2 _ only _ _ _ (c .before .before .before .before .branch-slots2 .ensures)))
     (λ t. conditional-slots-lts.spec (conditional-slots-claims t) (conditional-slots-at t) conditional-slots.Post
     (λ c κs. let (_, (_, startable)) = c .before .before .before .before .before .pre in
     (startable .context .narrow, omega (arith, startable .context .long, startable .inside)))
     (λ c κs. let (_, (kind-at-is, startable)) = c .before .before .before .before .before .before .before .before .pre in
     let node-at-same = c .before .before .node-at .ensures .same in
-    let less = branches-below _ _ _ (startable .context) _ (startable .inside) _ node-at-same (kind-as _ _ _ node-at-same kind-at-is) in
-    record { inside = omega (arith, startable .inside, less .0); context = startable .context; room = condition-room _ _ _ _ _ _ _ _ _ _ (conditional-is _ _ _ (startable .context) _ (startable .inside) _ node-at-same (kind-as _ _ _ node-at-same kind-at-is)) _ _ (startable .space) })
+    let less = branches-below (node-reads _ _ _ (startable .context) _ (startable .inside) _ node-at-same) (kind-as _ _ _ node-at-same kind-at-is) in
+    record { inside = omega (arith, startable .inside, less .0); context = startable .context; room = condition-room _ _ _ _ _ _ _ _ _ _ (conditional-is (node-reads _ _ _ (startable .context) _ (startable .inside) _ node-at-same) (kind-as _ _ _ node-at-same kind-at-is)) _ _ (startable .space) })
     (λ c κs. let (falls-2, (kind-at-is, startable)) = c .before .before .before .before .before .before .before .before .before .before .before .before .before .pre in
     let node-at-same = c .before .before .before .before .before .before .before .node-at .ensures .same in
-    (omega (arith, falls-2), (kind-at-is, record { inside = startable .inside; context = startable .context; space = branches-space _ _ _ _ _ _ _ _ _ _ (conditional-is _ _ _ (startable .context) _ (startable .inside) _ node-at-same (kind-as _ _ _ node-at-same kind-at-is)) _ _ (startable .space) _ _ (c .before .before .before .before .body-slots .ensures) })))
+    (omega (arith, falls-2), (kind-at-is, record { inside = startable .inside; context = startable .context; space = branches-space _ _ _ _ _ _ _ _ _ _ (conditional-is (node-reads _ _ _ (startable .context) _ (startable .inside) _ node-at-same) (kind-as _ _ _ node-at-same kind-at-is)) _ _ (startable .space) _ _ (c .before .before .before .before .body-slots .ensures) })))
     (λ c. search needs) (λ c. search needs)
     (λ c. let (_, (kind-at-is, startable)) = c .before .before .before .before .before .before .before .before .before .before .before .before .before .before .before .before .before .before .pre in
     let node-at-same = c .before .before .before .before .before .before .before .before .before .before .before .before .node-at .ensures .same in
     let body-slots = c .before .before .before .before .before .before .before .before .before .body-slots .ensures in
-    conditional-honest _ _ _ _ _ _ _ _ _ _ (conditional-is _ _ _ (startable .context) _ (startable .inside) _ node-at-same (kind-as _ _ _ node-at-same kind-at-is)) _ _ (startable .space) _ _ body-slots _ _ _ (c .before .before .before .before .branches-slots .ensures)))
+    conditional-honest _ _ _ _ _ _ _ _ _ _ (conditional-is (node-reads _ _ _ (startable .context) _ (startable .inside) _ node-at-same) (kind-as _ _ _ node-at-same kind-at-is)) _ _ (startable .space) _ _ body-slots _ _ _ (c .before .before .before .before .branches-slots .ensures)))
     (λ t. sequence-slots-lts.spec (sequence-slots-claims t) (sequence-slots-at t) sequence-slots.Post
     (λ c κs. let (_, (_, startable)) = c .before .before .before .before .before .pre in
     (startable .context .narrow, omega (arith, startable .context .long, startable .inside)))
     (λ c κs. let (falls-2, (kind-at-is, startable)) = c .before .before .before .before .before .before .before .before .pre in
     let node-at-same = c .before .before .node-at .ensures .same in
-    let less = steps-below _ _ _ (startable .context) _ (startable .inside) _ node-at-same (kind-as _ _ _ node-at-same kind-at-is) in
-    (omega (arith, falls-2, less .0), record { inside = omega (arith, startable .inside, less .0); context = startable .context; space = one-space _ _ _ _ _ _ _ _ _ (sequence-is _ _ _ (startable .context) _ (startable .inside) _ node-at-same (kind-as _ _ _ node-at-same kind-at-is)) _ _ (startable .space) }))
+    let less = steps-below (node-reads _ _ _ (startable .context) _ (startable .inside) _ node-at-same) (kind-as _ _ _ node-at-same kind-at-is) in
+    (omega (arith, falls-2, less .0), record { inside = omega (arith, startable .inside, less .0); context = startable .context; space = one-space _ _ _ _ _ _ _ _ _ (sequence-is (node-reads _ _ _ (startable .context) _ (startable .inside) _ node-at-same) (kind-as _ _ _ node-at-same kind-at-is)) _ _ (startable .space) }))
     (λ c κs. let (falls-2, (kind-at-is, startable)) = c .before .before .before .before .before .before .before .before .before .before .before .before .before .before .before .pre in
     let node-at-same = c .before .before .before .before .before .before .before .before .before .node-at .ensures .same in
     let statement-slots-2 = c .before .before .before .before .before .before .statement-slots .ensures in
-    let less = steps-below _ _ _ (startable .context) _ (startable .inside) _ node-at-same (kind-as _ _ _ node-at-same kind-at-is) in
-    (omega (arith, falls-2, less .1), record { inside = omega (arith, startable .inside, less .1); context = startable .context; space = two-space _ _ _ _ _ _ _ _ _ (sequence-is _ _ _ (startable .context) _ (startable .inside) _ node-at-same (kind-as _ _ _ node-at-same kind-at-is)) _ _ (startable .space) _ _ _ statement-slots-2 }))
+    let less = steps-below (node-reads _ _ _ (startable .context) _ (startable .inside) _ node-at-same) (kind-as _ _ _ node-at-same kind-at-is) in
+    (omega (arith, falls-2, less .1), record { inside = omega (arith, startable .inside, less .1); context = startable .context; space = two-space _ _ _ _ _ _ _ _ _ (sequence-is (node-reads _ _ _ (startable .context) _ (startable .inside) _ node-at-same) (kind-as _ _ _ node-at-same kind-at-is)) _ _ (startable .space) _ _ _ statement-slots-2 }))
     (λ c. search needs) (λ c. search needs)
     (λ c. let (_, (kind-at-is, startable)) = c .before .before .before .before .before .before .before .before .before .before .before .before .before .before .before .before .before .before .before .before .pre in
     let node-at-same = c .before .before .before .before .before .before .before .before .before .before .before .before .before .before .node-at .ensures .same in
     let statement-slots-2 = c .before .before .before .before .before .before .before .before .before .before .before .statement-slots .ensures in
-    sequence-honest _ _ _ _ _ _ _ _ _ (sequence-is _ _ _ (startable .context) _ (startable .inside) _ node-at-same (kind-as _ _ _ node-at-same kind-at-is)) _ _ (startable .space) _ _ _ statement-slots-2 _ _ _ (c .before .before .before .before .statement-slots2 .ensures)))
+    sequence-honest _ _ _ _ _ _ _ _ _ (sequence-is (node-reads _ _ _ (startable .context) _ (startable .inside) _ node-at-same) (kind-as _ _ _ node-at-same kind-at-is)) _ _ (startable .space) _ _ _ statement-slots-2 _ _ _ (c .before .before .before .before .statement-slots2 .ensures)))
     λ t. statement-slots-lts.spec (statement-slots-claims t) (statement-slots-at t) statement-slots.Post
     (λ c κs. let (_, startable) = c .before .before .before .before .before .pre in
     (startable .context .narrow, omega (arith, startable .context .long, startable .inside)))

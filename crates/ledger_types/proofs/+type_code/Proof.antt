@@ -1,7 +1,8 @@
 -- `ledger_types::type_code` meets its contract, by recursion with the node number falling.
 use borrow.Author.Needs.{needs}
 use native.Mathlib.Omega.{arith}
-use Rattle.file_accepted.proofs.Nodes.{constant-is, field-is, entry-is, parameter-is, operator-is, negation-is, reveal-is, other-is, revealed-below}
+use Rattle.theory_trees.proofs.ByKind.{constant-is, field-is, entry-is, parameter-is, operator-is, negation-is, reveal-is, other-is, revealed-below}
+use Rattle.file_accepted.proofs.Nodes.{node-reads}
 use Rattle.ledger_types.proofs.TypesByKind.{constant-typed, me-typed, place-typed, entry-typed, argument-typed, operator-typed, negation-typed, reveal-typed}
 use Prim.Native.Nat.{ℕ, _<_}
 use borrow.Fn.Kinds.{In}
@@ -38,22 +39,22 @@ pub +type-code-spec : {M : Type 1} → statement M
     (λ c κs. let (_, (_, context)) = c .before .before .before .before .pre in (context .nearFunction, context .fewParameters))
     (λ c κs. search needs)
     (λ c κs. let s = c .before .before .before .before in
-    let less = revealed-below _ _ _ (s .pre .1 .1) _ (s .pre .1 .0) _ (c .before .node-at .ensures .same) (c .match .keys7) in
+    let less = revealed-below (node-reads _ _ _ (s .pre .1 .1) _ (s .pre .1 .0) _ (c .before .node-at .ensures .same)) (c .match .keys7) in
     (omega arith, (omega arith, s .pre .1 .1)))
     (λ c. let s = c .before .before .before .before in
-    constant-typed _ _ _ _ (constant-is _ _ _ (s .pre .1 .1) _ (s .pre .1 .0) _ (c .before .node-at .ensures .same) (c .match .keys1)))
+    constant-typed _ _ _ _ (constant-is (node-reads _ _ _ (s .pre .1 .1) _ (s .pre .1 .0) _ (c .before .node-at .ensures .same)) (c .match .keys1)))
     (λ c. let s = c .before .before .before .before .before in
-    place-typed _ _ _ _ (field-is _ _ _ (s .pre .1 .1) _ (s .pre .1 .0) _ (c .before .before .node-at .ensures .same) (c .before .match .keys2)) (c .field-type .ensures))
+    place-typed _ _ _ _ (field-is (node-reads _ _ _ (s .pre .1 .1) _ (s .pre .1 .0) _ (c .before .before .node-at .ensures .same)) (c .before .match .keys2)) (c .field-type .ensures))
     (λ c. let s = c .before .before .before .before .before in
-    entry-typed _ _ _ _ _ (entry-is _ _ _ (s .pre .1 .1) _ (s .pre .1 .0) _ (c .before .before .node-at .ensures .same) (c .before .match .keys3)) (c .field-type2 .ensures))
+    entry-typed _ _ _ _ _ (entry-is (node-reads _ _ _ (s .pre .1 .1) _ (s .pre .1 .0) _ (c .before .before .node-at .ensures .same)) (c .before .match .keys3)) (c .field-type2 .ensures))
     (λ c. let s = c .before .before .before .before .before in
-    argument-typed _ _ _ _ (parameter-is _ _ _ (s .pre .1 .1) _ (s .pre .1 .0) _ (c .before .before .node-at .ensures .same) (c .before .match .keys4)) (c .parameter-type .ensures))
+    argument-typed _ _ _ _ (parameter-is (node-reads _ _ _ (s .pre .1 .1) _ (s .pre .1 .0) _ (c .before .before .node-at .ensures .same)) (c .before .match .keys4)) (c .parameter-type .ensures))
     (λ c. let s = c .before .before .before .before .before in
-    operator-typed _ _ _ _ _ _ (operator-is _ _ _ (s .pre .1 .1) _ (s .pre .1 .0) _ (c .before .before .node-at .ensures .same) (c .before .match .keys5)) (c .operator-type .ensures))
+    operator-typed _ _ _ _ _ _ (operator-is (node-reads _ _ _ (s .pre .1 .1) _ (s .pre .1 .0) _ (c .before .before .node-at .ensures .same)) (c .before .match .keys5)) (c .operator-type .ensures))
     (λ c. let s = c .before .before .before .before in
-    negation-typed _ _ _ (negation-is _ _ _ (s .pre .1 .1) _ (s .pre .1 .0) _ (c .before .node-at .ensures .same) (c .match .keys6)))
+    negation-typed _ _ _ (negation-is (node-reads _ _ _ (s .pre .1 .1) _ (s .pre .1 .0) _ (c .before .node-at .ensures .same)) (c .match .keys6)))
     (λ c. let s = c .before .before .before .before .before in
-    reveal-typed _ _ _ _ _ (reveal-is _ _ _ (s .pre .1 .1) _ (s .pre .1 .0) _ (c .before .before .node-at .ensures .same) (c .before .match .keys7)) (c .type-code .ensures))
+    reveal-typed _ _ _ _ _ (reveal-is (node-reads _ _ _ (s .pre .1 .1) _ (s .pre .1 .0) _ (c .before .before .node-at .ensures .same)) (c .before .match .keys7)) (c .type-code .ensures))
     (λ c. let s = c .before .before .before .before in
     let u = c .match .rest in
-    me-typed _ _ (other-is _ _ _ (s .pre .1 .1) _ (s .pre .1 .0) _ (c .before .node-at .ensures .same) (record { constant = u .0 .0 .0 .0 .0 .0 .1; field = u .0 .0 .0 .0 .0 .1; entry = u .0 .0 .0 .0 .1; parameter = u .0 .0 .0 .1; operator = u .0 .0 .1; negation = u .0 .1; reveal = u .1 }))))
+    me-typed _ _ (other-is (node-reads _ _ _ (s .pre .1 .1) _ (s .pre .1 .0) _ (c .before .node-at .ensures .same)) (record { constant = u .0 .0 .0 .0 .0 .0 .1; field = u .0 .0 .0 .0 .0 .1; entry = u .0 .0 .0 .0 .1; parameter = u .0 .0 .0 .1; operator = u .0 .0 .1; negation = u .0 .1; reveal = u .1 }))))

@@ -1,8 +1,7 @@
 -- As many bytes are lent as are copied.
-use mathlib.Core.Path.{_≡_, sym, _∙_}
+use mathlib.Core.Path.{_≡_, _∙_}
 use native.Mathlib.Omega.{arith}
 use lib.ListN.{length, length-take}
-use lib.Seq.{length-take-le}
 use borrow.Author.Needs.{needs}
 use Rattle.program_reading.proofs.Beginnings.{fitting-still, begins-stored}
 use Rattle.program_reading.proofs.copy_start.Statement.{statement}

@@ -1,7 +1,8 @@
 -- `rewrite_owners::owner_code` meets its contract, by recursion with the node number falling.
 use borrow.Author.Needs.{needs}
 use native.Mathlib.Omega.{arith}
-use Rattle.file_accepted.proofs.Nodes.{constant-is, field-is, entry-is, parameter-is, operator-is, negation-is, reveal-is, other-is, key-below, operands-below, part-below}
+use Rattle.theory_trees.proofs.ByKind.{constant-is, field-is, entry-is, parameter-is, operator-is, negation-is, reveal-is, other-is, key-below, part-below, operands-below}
+use Rattle.file_accepted.proofs.Nodes.{node-reads}
 use Rattle.rewrite_owners.proofs.Names.{owned-constant, owned-me, owned-field, owned-entry, owned-parameter, owned-by-left, owned-by-right, owned-negation, owned-reveal}
 use Rattle.rewrite_owners.proofs.Targets.{target-listed}
 use Prim.Native.Nat.{ℕ, _<_}
@@ -40,38 +41,38 @@ pub +owner-code-spec : {M : Type 1} → statement M
     (λ c κs. search needs)
     (λ c κs. let (_, (_, context)) = c .before .before .before .before .pre in (c .before .node-at .ensures .smallArg, record { at = context .fieldListed }))
     (λ c κs. let (_, (n-bound, context)) = c .before .before .before .before .before .pre in
-    let less = key-below _ _ _ context _ n-bound _ (c .before .before .node-at .ensures .same) (c .before .match .keys3) in
+    let less = key-below (node-reads _ _ _ context _ n-bound _ (c .before .before .node-at .ensures .same)) (c .before .match .keys3) in
     (omega arith, context))
     (λ c κs. search needs)
     (λ c κs. let (_, (_, context)) = c .before .before .before .before .pre in (context .nearFunction, context .fewParameters))
     (λ c κs. let (_, (n-bound, context)) = c .before .before .before .before .pre in
-    let less = operands-below _ _ _ context _ n-bound _ (c .before .node-at .ensures .same) (c .match .keys5) in
+    let less = operands-below (node-reads _ _ _ context _ n-bound _ (c .before .node-at .ensures .same)) (c .match .keys5) in
     (omega arith, (omega arith, context)))
     (λ c κs. let (_, (n-bound, context)) = c .before .before .before .before .before .before .pre in
-    let less = operands-below _ _ _ context _ n-bound _ (c .before .before .before .node-at .ensures .same) (c .before .before .match .keys5) in
+    let less = operands-below (node-reads _ _ _ context _ n-bound _ (c .before .before .before .node-at .ensures .same)) (c .before .before .match .keys5) in
     (omega arith, (omega arith, context)))
     (λ c κs. search needs)
     (λ c κs. let (_, (n-bound, context)) = c .before .before .before .before .pre in
-    let less = part-below _ _ _ context _ n-bound _ (c .before .node-at .ensures .same) (c .match .keys6) in
+    let less = part-below (node-reads _ _ _ context _ n-bound _ (c .before .node-at .ensures .same)) (c .match .keys6) in
     (omega arith, (omega arith, context)))
     (λ c κs. search needs) (λ c. search needs)
     (λ c. let (_, (n-bound, context)) = c .before .before .before .before .pre in
-    owned-constant _ _ _ _ (constant-is _ _ _ context _ n-bound _ (c .before .node-at .ensures .same) (c .match .keys1)))
+    owned-constant _ _ _ _ (constant-is (node-reads _ _ _ context _ n-bound _ (c .before .node-at .ensures .same)) (c .match .keys1)))
     (λ c. let (_, (n-bound, context)) = c .before .before .before .before .before .before .pre in
-    owned-field _ _ _ _ _ (field-is _ _ _ context _ n-bound _ (c .before .before .before .node-at .ensures .same) (c .before .before .match .keys2)) (c .before .field-owner .ensures) (c .place-code .ensures))
+    owned-field _ _ _ _ _ (field-is (node-reads _ _ _ context _ n-bound _ (c .before .before .before .node-at .ensures .same)) (c .before .before .match .keys2)) (c .before .field-owner .ensures) (c .place-code .ensures))
     (λ c. let (_, (n-bound, context)) = c .before .before .before .before .before .before .before .pre in
-    owned-entry _ _ _ _ _ _ _ (entry-is _ _ _ context _ n-bound _ (c .before .before .before .before .node-at .ensures .same) (c .before .before .before .match .keys3)) (c .before .before .field-owner2 .ensures) (c .before .name-code .ensures) (c .place-code2 .ensures))
+    owned-entry _ _ _ _ _ _ _ (entry-is (node-reads _ _ _ context _ n-bound _ (c .before .before .before .before .node-at .ensures .same)) (c .before .before .before .match .keys3)) (c .before .before .field-owner2 .ensures) (c .before .name-code .ensures) (c .place-code2 .ensures))
     (λ c. let (_, (n-bound, context)) = c .before .before .before .before .before .pre in
-    owned-parameter _ _ _ _ (parameter-is _ _ _ context _ n-bound _ (c .before .before .node-at .ensures .same) (c .before .match .keys4)) (c .parameter-code .ensures))
+    owned-parameter _ _ _ _ (parameter-is (node-reads _ _ _ context _ n-bound _ (c .before .before .node-at .ensures .same)) (c .before .match .keys4)) (c .parameter-code .ensures))
     (λ c. let (_, (n-bound, context)) = c .before .before .before .before .before .before .before .before .pre in
-    owned-by-right _ _ _ _ _ _ (operator-is _ _ _ context _ n-bound _ (c .before .before .before .before .before .node-at .ensures .same) (c .before .before .before .before .match .keys5)) (c .before .before .before .owner-code .ensures) _ _ (c .before .before .if1 .taken) (c .before .owner-code2 .ensures) (c .parts-code .ensures))
+    owned-by-right _ _ _ _ _ _ (operator-is (node-reads _ _ _ context _ n-bound _ (c .before .before .before .before .before .node-at .ensures .same)) (c .before .before .before .before .match .keys5)) (c .before .before .before .owner-code .ensures) _ _ (c .before .before .if1 .taken) (c .before .owner-code2 .ensures) (c .parts-code .ensures))
     (λ c. let (_, (n-bound, context)) = c .before .before .before .before .before .before .pre in
-    owned-by-left _ _ _ _ _ _ (operator-is _ _ _ context _ n-bound _ (c .before .before .before .node-at .ensures .same) (c .before .before .match .keys5)) (c .before .owner-code .ensures) (c .if1 .left))
+    owned-by-left _ _ _ _ _ _ (operator-is (node-reads _ _ _ context _ n-bound _ (c .before .before .before .node-at .ensures .same)) (c .before .before .match .keys5)) (c .before .owner-code .ensures) (c .if1 .left))
     (λ c. let (_, (n-bound, context)) = c .before .before .before .before .before .before .pre in
-    owned-negation _ _ _ _ _ (negation-is _ _ _ context _ n-bound _ (c .before .before .before .node-at .ensures .same) (c .before .before .match .keys6)) (c .before .owner-code3 .ensures) (c .parts-code2 .ensures))
+    owned-negation _ _ _ _ _ (negation-is (node-reads _ _ _ context _ n-bound _ (c .before .before .before .node-at .ensures .same)) (c .before .before .match .keys6)) (c .before .owner-code3 .ensures) (c .parts-code2 .ensures))
     (λ c. let (_, (n-bound, context)) = c .before .before .before .before .before .pre in let node-at-same = c .before .before .node-at .ensures .same in
     let match-keys7 = c .before .match .keys7 in
-    owned-reveal _ _ _ _ (reveal-is _ _ _ context _ n-bound _ node-at-same match-keys7) (target-listed _ _ _ context _ n-bound _ node-at-same match-keys7))
+    owned-reveal _ _ _ _ (reveal-is (node-reads _ _ _ context _ n-bound _ node-at-same) match-keys7) (target-listed _ _ _ context _ n-bound _ node-at-same match-keys7))
     (λ c. let (_, (n-bound, context)) = c .before .before .before .before .pre in
     let u = c .match .rest in
-    owned-me _ _ (other-is _ _ _ context _ n-bound _ (c .before .node-at .ensures .same) (record { constant = u .0 .0 .0 .0 .0 .0 .1; field = u .0 .0 .0 .0 .0 .1; entry = u .0 .0 .0 .0 .1; parameter = u .0 .0 .0 .1; operator = u .0 .0 .1; negation = u .0 .1; reveal = u .1 }))))
+    owned-me _ _ (other-is (node-reads _ _ _ context _ n-bound _ (c .before .node-at .ensures .same)) (record { constant = u .0 .0 .0 .0 .0 .0 .1; field = u .0 .0 .0 .0 .0 .1; entry = u .0 .0 .0 .0 .1; parameter = u .0 .0 .0 .1; operator = u .0 .0 .1; negation = u .0 .1; reveal = u .1 }))))

@@ -1,6 +1,7 @@
 -- By the node's kind.
 use Rattle.rewrite_plans.proofs.PlansByKind.{read-place, read-operator, read-rest, read-field, read-entry, read-parameter}
-use Rattle.file_accepted.proofs.Nodes.{operator-is}
+use Rattle.theory_trees.proofs.ByKind.{operator-is}
+use Rattle.file_accepted.proofs.Nodes.{node-reads}
 use native.Mathlib.Omega.{arith}
 use borrow.Author.Needs.{needs}
 use Rattle.rewrite_plans.proofs.read_code.Statement.{statement}
@@ -21,6 +22,6 @@ read-code-spec =
     (λ c. let (n-bound, context) = c .before .before .before .before .before .pre in
     read-place _ _ _ (c .owner-code3 .ensures) (omega arith) (read-parameter _ _ _ context _ n-bound _ (c .before .before .node-at .ensures .same) (c .before .match .keys3)))
     (λ c. let (n-bound, context) = c .before .before .before .before .before .before .pre in
-    read-operator _ _ _ _ _ _ (operator-is _ _ _ context _ n-bound _ (c .before .before .before .node-at .ensures .same) (c .before .before .match .keys4)) (c .division-code .ensures))
+    read-operator _ _ _ _ _ _ (operator-is (node-reads _ _ _ context _ n-bound _ (c .before .before .before .node-at .ensures .same)) (c .before .before .match .keys4)) (c .division-code .ensures))
     (λ c. let (n-bound, context) = c .before .before .before .before .pre in
     let u = c .match .rest in read-rest _ _ _ context _ n-bound _ (c .before .node-at .ensures .same) (u .0 .0 .0 .1) (u .0 .0 .1) (u .0 .1) (u .1)))

@@ -1,6 +1,6 @@
 -- The least fault and the column so far, with those of the functions ahead.
-use mathlib.Core.Path.{_≡_, ap, sym, _∙_}
-use Prim.Native.Nat.{_+_, _*_, _-_, _/_, _≤_, min}
+use mathlib.Core.Path.{_∙_}
+use Prim.Native.Nat.{_+_, _*_, _-_, _≤_}
 use native.Mathlib.Omega.{arith}
 use lib.ListN.{length}
 use Rattle.file_decoded.specs.Slices.{numberAt, parametersFrom}

@@ -2,7 +2,9 @@
 use native.Mathlib.Omega.{arith}
 use borrow.Author.Needs.{needs}
 use Prim.Native.Nat.{ℕ, _<_}
-use Rattle.rules_scopes.proofs.ByKind.{key-below, left-below, right-below, negated-below, revealed-below, field-there, mapping-there, target-listed, target-there}
+use Rattle.theory_trees.proofs.ByKind.{key-below, operands-below, part-below, revealed-below}
+use Rattle.rules_scopes.proofs.Nodes.{node-reads}
+use Rattle.rules_scopes.proofs.Named.{field-there, mapping-there, target-listed, target-there}
 use Rattle.rules_expressions.proofs.Judging as kinds
 use borrow.Fn.Kinds.{In}
 use borrow.Fn.PlainCycle.{Measures, is, falls, and}
@@ -79,7 +81,7 @@ pub +judge-spec : {M : Type 1} → statement M
     (λ c κs. let s = c .before .before .before .before .before .before .before .before .before in let ready = s .pre .1 .1 in let inside = s .pre .1 .0 in let there = field-there _ _ (ready .bodies) _ inside _ (c .before .before .before .read-node .ensures) (c .before .before .match .keys2) in
     (omega (arith, there, ready .declared .few), kinds.place-class _ _ _ (s .args .classes .now) ready _ _ 0 (c .field-from .ensures) (omega (arith, kinds.enough _ _ _ (s .args .classes .now) ready))))
     (λ c κs. let s = c .before .before .before .before .before .before .before .before .before .before in omega (arith, s .pre .1 .0, s .pre .1 .2))
-    (λ c κs. let s = c .before .before .before .before .before .before .before .before in let ready = s .pre .1 .1 in let inside = s .pre .1 .0 in let less = key-below _ _ (ready .bodies) _ inside _ (c .before .before .read-node .ensures) (c .before .match .keys3) in
+    (λ c κs. let s = c .before .before .before .before .before .before .before .before in let ready = s .pre .1 .1 in let inside = s .pre .1 .0 in let less = key-below (node-reads _ _ (ready .bodies) _ inside _ (c .before .before .read-node .ensures)) (c .before .match .keys3) in
     (omega (arith, s .pre .0, less), (omega (arith, inside, less), ready, s .pre .1 .2)))
     (λ c κs. let s = c .before .before .before .before .before .before .before .before .before .before .before .before in let ready = s .pre .1 .1 in let inside = s .pre .1 .0 in (ready .declared, mapping-there _ _ (ready .bodies) _ inside _ (c .before .before .before .before .before .before .read-node .ensures) (c .before .before .before .before .before .match .keys3)))
     (λ c κs. let s = c .before .before .before .before .before .before .before .before .before .before .before .before .before in let ready = s .pre .1 .1 in let inside = s .pre .1 .0 in kinds.place-class _ _ _ (s .args .classes .now) ready _ _ _ (c .field-from2 .ensures) (c .before .before .before .before .judge .ensures .judged .nameListed))
@@ -87,18 +89,18 @@ pub +judge-spec : {M : Type 1} → statement M
     (λ c κs. c .before .before .before .before .before .before .before .pre .1 .1 .given)
     (λ c κs. let s = c .before .before .before .before .before .before .before .before .before in let ready = s .pre .1 .1 in let inside = s .pre .1 .0 in (c .before .parameter-from .ensures .present, kinds.enough _ _ _ (s .args .classes .now) ready))
     (λ c κs. let s = c .before .before .before .before .before .before .before .before .before .before in omega (arith, s .pre .1 .0, s .pre .1 .2))
-    (λ c κs. let s = c .before .before .before .before .before .before .before .before in let ready = s .pre .1 .1 in let inside = s .pre .1 .0 in let less = left-below _ _ (ready .bodies) _ inside _ (c .before .before .read-node .ensures) (c .before .match .keys5) in
+    (λ c κs. let s = c .before .before .before .before .before .before .before .before in let ready = s .pre .1 .1 in let inside = s .pre .1 .0 in let less = operands-below (node-reads _ _ (ready .bodies) _ inside _ (c .before .before .read-node .ensures)) (c .before .match .keys5) .0 in
     (omega (arith, s .pre .0, less), (omega (arith, inside, less), ready, s .pre .1 .2)))
     (λ c κs. let s = c .before .before .before .before .before .before .before .before .before .before .before .before in let ready = s .pre .1 .1 in let inside = s .pre .1 .0 in let read = c .before .before .before .before .before .before in
-    let less = right-below _ _ (ready .bodies) _ inside _ (read .read-node .ensures) (c .before .before .before .before .before .match .keys5) in
+    let less = operands-below (node-reads _ _ (ready .bodies) _ inside _ (read .read-node .ensures)) (c .before .before .before .before .before .match .keys5) .1 in
     (omega (arith, s .pre .0, less), (omega (arith, inside, less), ready, omega (arith, s .pre .1 .2, kinds.marked-long (c .before .before .before .judge2 .ensures)))))
     (λ c κs. let s = c .before .before .before .before .before .before .before .before .before .before .before .before .before .before .before .before in let ready = s .pre .1 .1 in let inside = s .pre .1 .0 in (kinds.owner-class _ _ _ (s .args .classes .now) ready (c .before .before .before .before .before .before .before .judge2 .ensures), kinds.owner-class _ _ _ (s .args .classes .now) ready (c .before .before .before .judge3 .ensures)))
     (λ c κs. let s = c .before .before .before .before .before .before .before .before .before .before .before .before .before .before .before .before .before in omega (arith, s .pre .1 .0, s .pre .1 .2, kinds.marked-long (c .before .before .before .before .before .before .before .before .judge2 .ensures), kinds.marked-long (c .before .before .before .before .judge3 .ensures)))
-    (λ c κs. let s = c .before .before .before .before .before .before .before .before in let ready = s .pre .1 .1 in let inside = s .pre .1 .0 in let less = negated-below _ _ (ready .bodies) _ inside _ (c .before .before .read-node .ensures) (c .before .match .keys6) in
+    (λ c κs. let s = c .before .before .before .before .before .before .before .before in let ready = s .pre .1 .1 in let inside = s .pre .1 .0 in let less = part-below (node-reads _ _ (ready .bodies) _ inside _ (c .before .before .read-node .ensures)) (c .before .match .keys6) in
     (omega (arith, s .pre .0, less), (omega (arith, inside, less), ready, s .pre .1 .2)))
     (λ c κs. let s = c .before .before .before .before .before .before .before .before .before .before .before .before in let ready = s .pre .1 .1 in let inside = s .pre .1 .0 in kinds.owner-class _ _ _ (s .args .classes .now) ready (c .before .before .before .judge4 .ensures))
     (λ c κs. let s = c .before .before .before .before .before .before .before .before .before .before .before .before .before in omega (arith, s .pre .1 .0, s .pre .1 .2, kinds.marked-long (c .before .before .before .before .judge4 .ensures)))
-    (λ c κs. let s = c .before .before .before .before .before .before .before .before in let ready = s .pre .1 .1 in let inside = s .pre .1 .0 in let less = revealed-below _ _ (ready .bodies) _ inside _ (c .before .before .read-node .ensures) (c .before .match .keys7) in
+    (λ c κs. let s = c .before .before .before .before .before .before .before .before in let ready = s .pre .1 .1 in let inside = s .pre .1 .0 in let less = revealed-below (node-reads _ _ (ready .bodies) _ inside _ (c .before .before .read-node .ensures)) (c .before .match .keys7) in
     (omega (arith, s .pre .0, less), (omega (arith, inside, less), ready, s .pre .1 .2)))
     (λ c κs. let s = c .before .before .before .before .before .before .before .before .before .before .before in let ready = s .pre .1 .1 in let inside = s .pre .1 .0 in target-listed _ _ (ready .bodies) _ inside _ (c .before .before .before .before .before .read-node .ensures) (c .before .before .before .before .match .keys7))
     (λ c κs. let s = c .before .before .before .before .before .before .before .before .before .before .before .before in let ready = s .pre .1 .1 in let inside = s .pre .1 .0 in (ready .declared, ready .given, rw (c .target-number .ensures) (target-there _ _ (ready .bodies) _ inside _ (c .before .before .before .before .before .before .read-node .ensures) (c .before .before .before .before .before .match .keys7))))

@@ -1,5 +1,5 @@
 use native.Mathlib.Omega.{arith}
-use Rattle.rules_scopes.proofs.ByKind.{field-there}
+use Rattle.rules_scopes.proofs.Named.{field-there}
 use Rattle.rules_learning.proofs.Names as kinds
 use borrow.Author.Needs.{needs}
 use Rattle.rules_learning.proofs.name_of.Statement.{statement}

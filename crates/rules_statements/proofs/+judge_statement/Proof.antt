@@ -1,5 +1,7 @@
 -- By the number of its node: each kind from what its parts give.
-use Rattle.rules_scopes.proofs.Statements.{one-below, two-below, put-below, key-below, value-below, required-below, condition-below, then-below, else-below, put-there, entry-there}
+use Rattle.theory_trees.proofs.ByKind.{steps-below, value-below, key-and-value-below, required-below, branches-below}
+use Rattle.rules_scopes.proofs.Nodes.{node-reads}
+use Rattle.rules_scopes.proofs.Named.{put-there, entry-there}
 use Rattle.rules_statements.proofs.Judged as judged
 use Rattle.rules_statements.proofs.Judged.{column-long, under-long, classed-as, ready-as}
 use Rattle.rules_branches.proofs.Arrays.{array-long, array-front}
@@ -8,7 +10,6 @@ use native.Mathlib.Omega.{arith}
 use mathlib.Core.Path.{_≡_, refl, ap, sym, _∙_}
 use mathlib.Core.List.{_++_}
 use lib.ListN.{length, take, drop}
-use lib.Seq.{length-take-le}
 use Prim.Native.Nat.{ℕ, _<_, _≤_}
 use borrow.Fn.Kinds.{In}
 use borrow.Fn.PlainCycle.{Measures, is, falls, and}
@@ -64,41 +65,41 @@ pub +judge-statement-spec : {M : Type 1} → statement M
     (λ c κs. let read = c .before .before .before in
     let s = read .before .before .before .before .before .before in
     let (_, (inside, ready, classed, room)) = s .pre in
-    let less = one-below _ _ (ready .bodies) _ inside _ (read .read-node .ensures) (c .before .before .match .keys1) in
+    let less = steps-below (node-reads _ _ (ready .bodies) _ inside _ (read .read-node .ensures)) (c .before .before .match .keys1) .0 in
     (omega (arith, s .pre .0, less), (omega (arith, inside, less), ready, classed, room)))
     (λ c κs. let read = c .before .before .before .before .before .before .before .before .before .before in
     let s = read .before .before .before .before .before .before in
     let (_, (inside, ready, classed, room)) = s .pre in
-    let less = two-below _ _ (ready .bodies) _ inside _ (read .read-node .ensures) (c .before .before .before .before .before .before .before .before .before .match .keys1) in
+    let less = steps-below (node-reads _ _ (ready .bodies) _ inside _ (read .read-node .ensures)) (c .before .before .before .before .before .before .before .before .before .match .keys1) .1 in
     let one = c .before .before .before .before .before .before .judge-statement .ensures in
     (omega (arith, s .pre .0, less), (omega (arith, inside, less), rw (one .checked .learnt .long) ready, one .checked .learnt .classed, omega (arith, room, column-long one))))
     (λ c κs. search needs)
     (λ c κs. let read = c .before .before .before in
     let s = read .before .before .before .before .before .before in
     let (_, (inside, ready, _, room)) = s .pre in
-    let less = put-below _ _ (ready .bodies) _ inside _ (read .read-node .ensures) (c .before .before .match .keys2) in
+    let less = value-below (node-reads _ _ (ready .bodies) _ inside _ (read .read-node .ensures)) (c .before .before .match .keys2) in
     (omega (arith, inside, less), put-there _ _ (ready .bodies) _ inside _ (read .read-node .ensures) (c .before .before .match .keys2), ready, room))
     (λ c κs. let read = c .before .before .before in
     let s = read .before .before .before .before .before .before in
     let (_, (inside, ready, _, room)) = s .pre in
-    let less = key-below _ _ (ready .bodies) _ inside _ (read .read-node .ensures) (c .before .before .match .keys3) in
-    let later = value-below _ _ (ready .bodies) _ inside _ (read .read-node .ensures) (c .before .before .match .keys3) in
+    let less = key-and-value-below (node-reads _ _ (ready .bodies) _ inside _ (read .read-node .ensures)) (c .before .before .match .keys3) .0 in
+    let later = key-and-value-below (node-reads _ _ (ready .bodies) _ inside _ (read .read-node .ensures)) (c .before .before .match .keys3) .1 in
     (omega (arith, inside, less), omega (arith, inside, later), entry-there _ _ (ready .bodies) _ inside _ (read .read-node .ensures) (c .before .before .match .keys3), ready, room))
     (λ c κs. let read = c .before .before .before in
     let s = read .before .before .before .before .before .before in
     let (_, (inside, ready, classed, room)) = s .pre in
-    let less = required-below _ _ (ready .bodies) _ inside _ (read .read-node .ensures) (c .before .before .match .keys4) in
+    let less = required-below (node-reads _ _ (ready .bodies) _ inside _ (read .read-node .ensures)) (c .before .before .match .keys4) in
     (omega (arith, inside, less), ready, classed, room))
     (λ c κs. let s = c .before .before .before .before .before .before .before .before in s .pre .1 .2 .few)
     (λ c κs. let read = c .before .before .before .before .before in
     let s = read .before .before .before .before .before .before in
     let (_, (inside, ready, classed, room)) = s .pre in
-    let less = condition-below _ _ (ready .bodies) _ inside _ (read .read-node .ensures) (c .before .before .before .before .match .keys5) in
+    let less = branches-below (node-reads _ _ (ready .bodies) _ inside _ (read .read-node .ensures)) (c .before .before .before .before .match .keys5) .0 in
     (omega (arith, inside, less), ready, classed, room))
     (λ c κs. let read = c .before .before .before .before .before .before .before .before .before .before .before .before in
     let s = read .before .before .before .before .before .before in
     let (_, (inside, ready, classed, room)) = s .pre in
-    let less = then-below _ _ (ready .bodies) _ inside _ (read .read-node .ensures) (c .before .before .before .before .before .before .before .before .before .before .before .match .keys5) in
+    let less = branches-below (node-reads _ _ (ready .bodies) _ inside _ (read .read-node .ensures)) (c .before .before .before .before .before .before .before .before .before .before .before .match .keys5) .1 .0 in
     let met = c .before .before .before .before .before .before .condition-met2 .ensures in
     let marks = under-long (s .args .fields .now) (s .args .parameters .now) (s .args .nodes .now) (read .read-node .result .first) (s .args .owners .now) _ (met .1 .0) in
     let learnt = met .1 .1 in
@@ -118,7 +119,7 @@ pub +judge-statement-spec : {M : Type 1} → statement M
     let kept = c .before .before .before .before .before .before .before .before .before .before .before .before .before .before .before .before .kept .ensures in
     let met = c .before .before .before .before .before .before .before .before .before .before .before .before .before .condition-met2 .ensures in
     let marks = under-long (s .args .fields .now) (s .args .parameters .now) (s .args .nodes .now) (read .read-node .result .first) (s .args .owners .now) _ (met .1 .0) in
-    let less = else-below _ _ (ready .bodies) _ inside _ (read .read-node .ensures) (c .before .before .before .before .before .before .before .before .before .before .before .before .before .before .before .before .before .before .match .keys5) in
+    let less = branches-below (node-reads _ _ (ready .bodies) _ inside _ (read .read-node .ensures)) (c .before .before .before .before .before .before .before .before .before .before .before .before .before .before .before .before .before .before .match .keys5) .1 .1 in
     let later = column-long (c .before .before .before .before .before .before .judge-statement3 .ensures) in
     (omega (arith, s .pre .0, less), (omega (arith, inside, less), ready-as (kept .1) ready, classed-as (kept .1) classed, omega (arith, room, marks, later))))
     (λ c. let read = c .before .before .before .before .before .before .before .before .before .before .before .before .before .before .before .before .before .before .before .before .before .before .before .before .before in

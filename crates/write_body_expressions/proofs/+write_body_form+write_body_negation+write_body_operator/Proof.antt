@@ -3,7 +3,8 @@ use mathlib.Core.Path.{sym, _∙_}
 use Prim.Native.Nat.{_+_, _*_}
 use native.Mathlib.Omega.{arith}
 use Rattle.theory_laws.proofs.Records.{kind-as}
-use Rattle.file_accepted.proofs.Nodes.{key-below, operands-below, part-below}
+use Rattle.theory_trees.proofs.ByKind.{key-below, part-below, operands-below}
+use Rattle.file_accepted.proofs.Nodes.{node-reads}
 use Rattle.write_nodes.proofs.TreeNodes.{room-as, room-any, room-one, room-left, room-right, room-above-one, room-above-two, numbered-as, numbered-leaf, numbered-one, numbered-two}
 use Rattle.write_body_expressions.proofs.BodyNodes.{constant-body, field-body, entry-body, parameter-body, reveal-body, other-body, entry-count, operator-body, operator-count, supplied-operator-body, negation-body, negation-count, supplied-negation-body}
 use Prim.Native.Nat.{ℕ, _<_}
@@ -93,7 +94,7 @@ pub +write-body-form+write-body-negation+write-body-operator-spec : {M : Type 1}
     (λ c κs. let (_, (_, (_, (_, room)))) = c .before .before .before .before .before .before .before .pre in room-any _ _ _ _ room)
     (λ c κs. let (_, (n-bound, (context, (i-bound, room)))) = c .before .before .before .before .before .before .before .pre in
     let node-at-same = c .before .before .before .node-at .ensures .same in let match-keys3 = c .before .match .keys3 in
-    let less = key-below _ _ _ context _ n-bound _ node-at-same match-keys3 in
+    let less = key-below (node-reads _ _ _ context _ n-bound _ node-at-same) match-keys3 in
     let count = entry-count _ _ _ context _ n-bound _ node-at-same match-keys3 in
     (omega arith, (omega arith, (context, (omega (arith, i-bound), room-one _ _ _ _ _ _ (room-as _ _ _ _ _ (entry-body _ _ _ context _ n-bound _ node-at-same _ match-keys3) room))))))
     (λ c κs. let (_, (n-bound, (context, (_, room)))) = c .before .before .before .before .before .before .before .before .before .before .before .pre in
@@ -149,7 +150,7 @@ pub +write-body-form+write-body-negation+write-body-operator-spec : {M : Type 1}
     (λ c κs. let (_, (kind-at-is, (n-bound, (context, (i-bound, room))))) = c .before .before .before .before .before .before .before .pre in
     let node-at-same = c .before .before .before .node-at .ensures .same in let is-public = c .before .before .is-public .ensures in
     let if1-taken = c .before .if1 .taken in
-    let less = part-below _ _ _ context _ n-bound _ node-at-same (kind-as _ _ 7 (sym node-at-same) kind-at-is) in
+    let less = part-below (node-reads _ _ _ context _ n-bound _ node-at-same) (kind-as _ _ 7 (sym node-at-same) kind-at-is) in
     let count = negation-count _ _ _ context _ n-bound _ node-at-same _ is-public if1-taken (kind-as _ _ 7 (sym node-at-same) kind-at-is) in
     (omega arith, (omega arith, (context, (omega (arith, i-bound), room-one _ _ _ _ _ _ (room-as _ _ _ _ _ (negation-body _ _ _ context _ n-bound _ node-at-same _ is-public if1-taken _ (kind-as _ _ 7 (sym node-at-same) kind-at-is)) room))))))
     (λ c κs. let (_, (kind-at-is, (n-bound, (context, (_, room))))) = c .before .before .before .before .before .before .before .before .before .before .before .pre in
@@ -177,7 +178,7 @@ pub +write-body-form+write-body-negation+write-body-operator-spec : {M : Type 1}
     (λ c κs. let (_, (_, (n-bound, (context, _)))) = c .before .before .before .before .before .pre in (n-bound, context))
     (λ c κs. let (_, (kind-at-is, (n-bound, (context, (i-bound, _))))) = c .before .before .before .before .before .before .before .pre in
     let node-at-same = c .before .before .before .node-at .ensures .same in
-    let less = operands-below _ _ _ context _ n-bound _ node-at-same (kind-as _ _ 6 (sym node-at-same) kind-at-is) in
+    let less = operands-below (node-reads _ _ _ context _ n-bound _ node-at-same) (kind-as _ _ 6 (sym node-at-same) kind-at-is) in
     let count = operator-count _ _ _ context _ n-bound _ node-at-same _ (c .before .is-public .ensures) (c .if1 .taken) (kind-as _ _ 6 (sym node-at-same) kind-at-is) in
     (omega arith, (context, omega (arith, i-bound))))
     (λ c. let (_, (kind-at-is, (n-bound, (context, (i-bound, _))))) = c .before .before .before .before .before .before .before .before .pre in
@@ -187,7 +188,7 @@ pub +write-body-form+write-body-negation+write-body-operator-spec : {M : Type 1}
     (λ c κs. let (_, (kind-at-is, (n-bound, (context, (i-bound, room))))) = c .before .before .before .before .before .before .before .before .before .pre in
     let node-at-same = c .before .before .before .before .before .node-at .ensures .same in
     let is-public = c .before .before .before .is-public .ensures in let if1-taken = c .before .before .if1 .taken in
-    let less = operands-below _ _ _ context _ n-bound _ node-at-same (kind-as _ _ 6 (sym node-at-same) kind-at-is) in
+    let less = operands-below (node-reads _ _ _ context _ n-bound _ node-at-same) (kind-as _ _ 6 (sym node-at-same) kind-at-is) in
     let count = operator-count _ _ _ context _ n-bound _ node-at-same _ is-public if1-taken (kind-as _ _ 6 (sym node-at-same) kind-at-is) in
     (omega arith, (omega arith, (context, (omega (arith, i-bound), room-left _ _ _ _ _ _ _ (room-as _ _ _ _ _ (operator-body _ _ _ context _ n-bound _ node-at-same _ is-public if1-taken _ (kind-as _ _ 6 (sym node-at-same) kind-at-is) _ (c .before .body-count .ensures)) room))))))
     (λ c. let (_, (kind-at-is, (n-bound, (context, (_, room))))) = c .before .before .before .before .before .before .before .before .before .before .before .before .pre in
@@ -214,7 +215,7 @@ pub +write-body-form+write-body-negation+write-body-operator-spec : {M : Type 1}
     let is-public = c .before .before .before .before .before .before .before .is-public .ensures in
     let if1-taken = c .before .before .before .before .before .before .if1 .taken in
     let body-count = c .before .before .before .before .before .body-count .ensures in
-    let less = operands-below _ _ _ context _ n-bound _ node-at-same (kind-as _ _ 6 (sym node-at-same) kind-at-is) in
+    let less = operands-below (node-reads _ _ _ context _ n-bound _ node-at-same) (kind-as _ _ 6 (sym node-at-same) kind-at-is) in
     let count = operator-count _ _ _ context _ n-bound _ node-at-same _ is-public if1-taken (kind-as _ _ 6 (sym node-at-same) kind-at-is) in
     (omega arith, (omega arith, (context, (omega (arith, i-bound, body-count), room-right _ _ _ _ _ _ _ (room-as _ _ _ _ _ (operator-body _ _ _ context _ n-bound _ node-at-same _ is-public if1-taken _ (kind-as _ _ 6 (sym node-at-same) kind-at-is) _ body-count) room) _ _ (c .before .before .before .write-body-form .ensures))))))
     (λ c κs. let (_, (kind-at-is, (n-bound, (context, (_, room))))) = c .before .before .before .before .before .before .before .before .before .before .before .before .before .before .before .before .before .pre in

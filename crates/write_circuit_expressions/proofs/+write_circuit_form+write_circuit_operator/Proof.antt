@@ -3,7 +3,8 @@ use mathlib.Core.Path.{refl, sym, _∙_}
 use Prim.Native.Nat.{_+_, _*_}
 use native.Mathlib.Omega.{arith}
 use Rattle.theory_laws.proofs.Records.{kind-as}
-use Rattle.file_accepted.proofs.Nodes.{Unlisted, key-below, operands-below, part-below, revealed-below}
+use Rattle.theory_trees.proofs.ByKind.{key-below, part-below, revealed-below, operands-below, Unlisted}
+use Rattle.file_accepted.proofs.Nodes.{node-reads}
 use Rattle.write_nodes.proofs.TreeNodes.{room-as, room-any, room-one, room-left, room-right, room-above-one, room-above-two, numbered-as, numbered-one, numbered-two}
 use Rattle.write_circuit_expressions.proofs.CircuitNodes.{constant-circuit, field-circuit, entry-circuit, parameter-circuit, division-circuit, operator-circuit, negation-circuit, reveal-circuit, other-circuit, constant-variables, field-variables, parameter-variables, other-variables, entry-variables, division-variables, operator-variables, negation-variables, reveal-variables}
 use Prim.Native.Nat.{ℕ, _<_}
@@ -95,7 +96,7 @@ pub +write-circuit-form+write-circuit-operator-spec : {M : Type 1} → statement
     (omega (arith, i-bound), room-any _ _ _ _ room))
     (λ c κs. let (_, (n-bound, (context, (i-bound, _)))) = c .before .before .before .before .before .before .pre in
     let node-at-same = c .before .before .node-at .ensures .same in
-    let less = key-below _ _ _ context _ n-bound _ node-at-same (c .match .keys3) in
+    let less = key-below (node-reads _ _ _ context _ n-bound _ node-at-same) (c .match .keys3) in
     let count = entry-variables _ _ _ context _ n-bound _ node-at-same (c .match .keys3) in
     (omega arith, (context, omega (arith, i-bound))))
     (λ c. let (_, (n-bound, (context, (i-bound, _)))) = c .before .before .before .before .before .before .before .pre in
@@ -113,7 +114,7 @@ pub +write-circuit-form+write-circuit-operator-spec : {M : Type 1} → statement
     (omega arith, (kind-as _ _ 6 (c .before .before .before .node-at .ensures .same) (c .before .match .keys5), (n-bound, (context, (i-bound, room))))))
     (λ c κs. let (_, (n-bound, (context, (i-bound, room)))) = c .before .before .before .before .before .before .before .pre in
     let node-at-same = c .before .before .before .node-at .ensures .same in let match-keys6 = c .before .match .keys6 in
-    let less = part-below _ _ _ context _ n-bound _ node-at-same match-keys6 in
+    let less = part-below (node-reads _ _ _ context _ n-bound _ node-at-same) match-keys6 in
     let count = negation-variables _ _ _ context _ n-bound _ node-at-same match-keys6 in
     (omega arith, (omega arith, (context, (omega (arith, i-bound), room-one _ _ _ _ _ _ (room-as _ _ _ _ _ (negation-circuit _ _ _ context _ n-bound _ node-at-same _ match-keys6) room))))))
     (λ c κs. let (_, (n-bound, (context, (_, room)))) = c .before .before .before .before .before .before .before .before .before .before .before .pre in
@@ -122,7 +123,7 @@ pub +write-circuit-form+write-circuit-operator-spec : {M : Type 1} → statement
     room-above-one _ _ _ _ _ _ (room-as _ _ _ _ _ (negation-circuit _ _ _ context _ n-bound _ node-at-same _ match-keys6) room) _ _ (c .before .before .before .write-circuit-form .ensures .form))
     (λ c κs. let (_, (n-bound, (context, (i-bound, room)))) = c .before .before .before .before .before .before .before .pre in
     let node-at-same = c .before .before .before .node-at .ensures .same in let match-keys7 = c .before .match .keys7 in
-    let less = revealed-below _ _ _ context _ n-bound _ node-at-same match-keys7 in
+    let less = revealed-below (node-reads _ _ _ context _ n-bound _ node-at-same) match-keys7 in
     let count = reveal-variables _ _ _ context _ n-bound _ node-at-same match-keys7 in
     (omega arith, (omega arith, (context, (omega (arith, i-bound), room-as _ _ _ _ _ (reveal-circuit _ _ _ context _ n-bound _ node-at-same _ match-keys7) room)))))
     (λ c κs. let (_, (_, (_, (_, room)))) = c .before .before .before .before .before .before .before .pre in room-any _ _ _ _ room)
@@ -184,7 +185,7 @@ pub +write-circuit-form+write-circuit-operator-spec : {M : Type 1} → statement
     (λ c κs. let (_, (_, (n-bound, (context, _)))) = c .before .before .before .before .before .pre in (n-bound, context))
     (λ c κs. let (_, (kind-at-is, (n-bound, (context, (i-bound, _))))) = c .before .before .before .before .before .before .before .pre in
     let node-at-same = c .before .before .before .node-at .ensures .same in
-    let less = operands-below _ _ _ context _ n-bound _ node-at-same (kind-as _ _ 6 (sym node-at-same) kind-at-is) in
+    let less = operands-below (node-reads _ _ _ context _ n-bound _ node-at-same) (kind-as _ _ 6 (sym node-at-same) kind-at-is) in
     let count = division-variables _ _ _ context _ n-bound _ node-at-same _ (c .before .is-public-division .ensures) (c .if1 .taken) (kind-as _ _ 6 (sym node-at-same) kind-at-is) in
     (omega arith, (context, omega (arith, i-bound))))
     (λ c. let (_, (kind-at-is, (n-bound, (context, (i-bound, _))))) = c .before .before .before .before .before .before .before .before .pre in
@@ -193,7 +194,7 @@ pub +write-circuit-form+write-circuit-operator-spec : {M : Type 1} → statement
     omega (arith, i-bound, c .body-count .ensures))
     (λ c κs. let (_, (kind-at-is, (n-bound, (context, (i-bound, _))))) = c .before .before .before .before .before .before .before .before .pre in
     let node-at-same = c .before .before .before .before .node-at .ensures .same in
-    let less = operands-below _ _ _ context _ n-bound _ node-at-same (kind-as _ _ 6 (sym node-at-same) kind-at-is) in
+    let less = operands-below (node-reads _ _ _ context _ n-bound _ node-at-same) (kind-as _ _ 6 (sym node-at-same) kind-at-is) in
     let count = division-variables _ _ _ context _ n-bound _ node-at-same _ (c .before .before .is-public-division .ensures) (c .before .if1 .taken) (kind-as _ _ 6 (sym node-at-same) kind-at-is) in
     (omega arith, (context, omega (arith, i-bound))))
     (λ c. let (_, (kind-at-is, (n-bound, (context, (i-bound, _))))) = c .before .before .before .before .before .before .before .before .before .pre in
@@ -207,7 +208,7 @@ pub +write-circuit-form+write-circuit-operator-spec : {M : Type 1} → statement
     (λ c κs. let (_, (kind-at-is, (n-bound, (context, (i-bound, room))))) = c .before .before .before .before .before .before .before .before .pre in
     let node-at-same = c .before .before .before .before .node-at .ensures .same in
     let is-public-division = c .before .before .is-public-division .ensures in let if1-left = c .before .if1 .left in
-    let less = operands-below _ _ _ context _ n-bound _ node-at-same (kind-as _ _ 6 (sym node-at-same) kind-at-is) in
+    let less = operands-below (node-reads _ _ _ context _ n-bound _ node-at-same) (kind-as _ _ 6 (sym node-at-same) kind-at-is) in
     let count = operator-variables _ _ _ context _ n-bound _ node-at-same _ is-public-division if1-left (kind-as _ _ 6 (sym node-at-same) kind-at-is) in
     (omega arith, (omega arith, (context, (omega (arith, i-bound), room-left _ _ _ _ _ _ _ (room-as _ _ _ _ _ (operator-circuit _ _ _ context _ n-bound _ node-at-same _ is-public-division if1-left _ (kind-as _ _ 6 (sym node-at-same) kind-at-is) _ refl) room))))))
     (λ c. let (_, (kind-at-is, (n-bound, (context, (_, room))))) = c .before .before .before .before .before .before .before .before .before .before .before .before .pre in
@@ -234,7 +235,7 @@ pub +write-circuit-form+write-circuit-operator-spec : {M : Type 1} → statement
     let is-public-division = c .before .before .before .before .before .before .before .before .is-public-division .ensures in
     let if1-left = c .before .before .before .before .before .before .before .if1 .left in
     let left = c .before .before .before .before .before .write-circuit-form .ensures in
-    let less = operands-below _ _ _ context _ n-bound _ node-at-same (kind-as _ _ 6 (sym node-at-same) kind-at-is) in
+    let less = operands-below (node-reads _ _ _ context _ n-bound _ node-at-same) (kind-as _ _ 6 (sym node-at-same) kind-at-is) in
     let count = operator-variables _ _ _ context _ n-bound _ node-at-same _ is-public-division if1-left (kind-as _ _ 6 (sym node-at-same) kind-at-is) in
     (omega arith, (omega arith, (context, (omega (arith, i-bound, left .next), room-right _ _ _ _ _ _ _ (room-as _ _ _ _ _ (operator-circuit _ _ _ context _ n-bound _ node-at-same _ is-public-division if1-left _ (kind-as _ _ 6 (sym node-at-same) kind-at-is) _ (left .next)) room) _ _ (left .form))))))
     (λ c κs. let (_, (kind-at-is, (n-bound, (context, (_, room))))) = c .before .before .before .before .before .before .before .before .before .before .before .before .before .before .before .before .before .before .pre in

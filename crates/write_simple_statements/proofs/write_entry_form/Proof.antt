@@ -1,7 +1,8 @@
 use mathlib.Core.Path.{sym, _∙_}
 use native.Mathlib.Omega.{arith}
 use Rattle.theory_laws.proofs.Records.{kind-as}
-use Rattle.file_accepted.proofs.Statements.{key-and-value-below}
+use Rattle.theory_trees.proofs.ByKind.{key-and-value-below}
+use Rattle.file_accepted.proofs.Nodes.{node-reads}
 use Rattle.write_nodes.proofs.TreeNodes.{room-as, room-left, room-right, room-above-two, numbered-as, numbered-two}
 use Rattle.write_simple_statements.proofs.Nodes.{entry-form, entry-count}
 use Rattle.write_simple_statements.proofs.write_entry_form.Statement.{statement}
@@ -16,7 +17,7 @@ write-entry-form-spec =
     (c .before .node-at .ensures .smallArg, record { at = context .fieldListed }))
     (λ c κs. let (kind-at-is, (n-bound, (context, (i-bound, _)))) = c .before .before .before .before .before .before .pre in
     let node-at-same = c .before .before .node-at .ensures .same in
-    let less = key-and-value-below _ _ _ context _ n-bound _ node-at-same (kind-as _ _ 19 (sym node-at-same) kind-at-is) in
+    let less = key-and-value-below (node-reads _ _ _ context _ n-bound _ node-at-same) (kind-as _ _ 19 (sym node-at-same) kind-at-is) in
     let h = entry-count _ _ _ context _ n-bound _ node-at-same _ (c .is-private-place .ensures) (kind-as _ _ 19 (sym node-at-same) kind-at-is) in
     (omega arith, (context, omega (arith, i-bound))))
     (λ c. let (kind-at-is, (n-bound, (context, (i-bound, _)))) = c .before .before .before .before .before .before .before .pre in
@@ -26,7 +27,7 @@ write-entry-form-spec =
     (λ c κs. let (kind-at-is, (n-bound, (context, (i-bound, room)))) = c .before .before .before .before .before .before .before .before .pre in
     let node-at-same = c .before .before .before .before .node-at .ensures .same in
     let is-private-place = c .before .before .is-private-place .ensures in
-    let less = key-and-value-below _ _ _ context _ n-bound _ node-at-same (kind-as _ _ 19 (sym node-at-same) kind-at-is) in
+    let less = key-and-value-below (node-reads _ _ _ context _ n-bound _ node-at-same) (kind-as _ _ 19 (sym node-at-same) kind-at-is) in
     let h = entry-count _ _ _ context _ n-bound _ node-at-same _ is-private-place (kind-as _ _ 19 (sym node-at-same) kind-at-is) in
     (omega arith, (context, (omega (arith, i-bound), room-left _ _ _ _ _ _ _ (room-as _ _ _ _ _ (entry-form _ _ _ context _ n-bound _ node-at-same _ is-private-place _ (kind-as _ _ 19 (sym node-at-same) kind-at-is) _ (c .before .body-count .ensures)) room)))))
     (λ c. let (kind-at-is, (n-bound, (context, (_, room)))) = c .before .before .before .before .before .before .before .before .before .before .before .pre in
@@ -49,7 +50,7 @@ write-entry-form-spec =
     let node-at-same = c .before .before .before .before .before .before .before .before .node-at .ensures .same in
     let is-private-place = c .before .before .before .before .before .before .is-private-place .ensures in
     let body-count = c .before .before .before .before .before .body-count .ensures in
-    let less = key-and-value-below _ _ _ context _ n-bound _ node-at-same (kind-as _ _ 19 (sym node-at-same) kind-at-is) in
+    let less = key-and-value-below (node-reads _ _ _ context _ n-bound _ node-at-same) (kind-as _ _ 19 (sym node-at-same) kind-at-is) in
     let h = entry-count _ _ _ context _ n-bound _ node-at-same _ is-private-place (kind-as _ _ 19 (sym node-at-same) kind-at-is) in
     (omega arith, (context, (omega (arith, i-bound, body-count), room-right _ _ _ _ _ _ _ (room-as _ _ _ _ _ (entry-form _ _ _ context _ n-bound _ node-at-same _ is-private-place _ (kind-as _ _ 19 (sym node-at-same) kind-at-is) _ body-count) room) _ _ (c .before .before .before .write-body-form .ensures)))))
     (λ c κs. let (kind-at-is, (n-bound, (context, (_, room)))) = c .before .before .before .before .before .before .before .before .before .before .before .before .before .before .before .before .pre in

@@ -1,7 +1,8 @@
 use mathlib.Core.Path.{sym, _∙_}
 use native.Mathlib.Omega.{arith}
 use Rattle.theory_laws.proofs.Records.{kind-as}
-use Rattle.file_accepted.proofs.Statements.{value-below}
+use Rattle.theory_trees.proofs.ByKind.{value-below}
+use Rattle.file_accepted.proofs.Nodes.{node-reads}
 use Rattle.write_nodes.proofs.TreeNodes.{room-as, room-one, room-above-one, numbered-as, numbered-one}
 use Rattle.write_simple_statements.proofs.Nodes.{field-form, field-count}
 use Rattle.write_simple_statements.proofs.write_field_form.Statement.{statement}
@@ -16,7 +17,7 @@ write-field-form-spec =
     (c .before .node-at .ensures .smallArg, record { at = context .fieldListed }))
     (λ c κs. let (kind-at-is, (n-bound, (context, (i-bound, room)))) = c .before .before .before .before .before .before .before .pre in
     let node-at-same = c .before .before .before .node-at .ensures .same in let is-private-place = c .before .is-private-place .ensures in
-    let less = value-below _ _ _ context _ n-bound _ node-at-same (kind-as _ _ 18 (sym node-at-same) kind-at-is) in
+    let less = value-below (node-reads _ _ _ context _ n-bound _ node-at-same) (kind-as _ _ 18 (sym node-at-same) kind-at-is) in
     let h = field-count _ _ _ context _ n-bound _ node-at-same _ is-private-place (kind-as _ _ 18 (sym node-at-same) kind-at-is) in
     (omega arith, (context, (omega (arith, i-bound), room-one _ _ _ _ _ _ (room-as _ _ _ _ _ (field-form _ _ _ context _ n-bound _ node-at-same _ is-private-place _ (kind-as _ _ 18 (sym node-at-same) kind-at-is)) room)))))
     (λ c κs. let (kind-at-is, (n-bound, (context, (_, room)))) = c .before .before .before .before .before .before .before .before .before .before .before .pre in

@@ -1,7 +1,8 @@
 use mathlib.Core.Path.{sym, _∙_}
 use native.Mathlib.Omega.{arith}
 use Rattle.theory_laws.proofs.Records.{kind-as}
-use Rattle.file_accepted.proofs.Statements.{required-below}
+use Rattle.theory_trees.proofs.ByKind.{required-below}
+use Rattle.file_accepted.proofs.Nodes.{node-reads}
 use Rattle.write_nodes.proofs.TreeNodes.{room-as, room-one, room-above-one, numbered-as, numbered-one}
 use Rattle.write_simple_statements.proofs.Nodes.{require-form, require-count}
 use Rattle.write_simple_statements.proofs.write_require_form.Statement.{statement}
@@ -12,7 +13,7 @@ write-require-form-spec =
     tie.close
     (tie.spec (λ c κs. let (_, (_, (context, _))) = c .before .before .before .pre in (context .narrow, omega (arith, context .long))) (λ c κs. let (kind-at-is, (n-bound, (context, (i-bound, room)))) = c .before .before .before .before .before .pre in
     let node-at-same = c .before .node-at .ensures .same in
-    let less = required-below _ _ _ context _ n-bound _ node-at-same (kind-as _ _ 20 (sym node-at-same) kind-at-is) in
+    let less = required-below (node-reads _ _ _ context _ n-bound _ node-at-same) (kind-as _ _ 20 (sym node-at-same) kind-at-is) in
     let h = require-count _ _ _ context _ n-bound _ node-at-same (kind-as _ _ 20 (sym node-at-same) kind-at-is) in
     (omega arith, (context, (omega (arith, i-bound), room-one _ _ _ _ _ _ (room-as _ _ _ _ _ (require-form _ _ _ context _ n-bound _ node-at-same _ (kind-as _ _ 20 (sym node-at-same) kind-at-is)) room))))) (λ c κs. let (kind-at-is, (n-bound, (context, (_, room)))) = c .before .before .before .before .before .before .before .before .before .pre in
     let node-at-same = c .before .before .before .before .before .node-at .ensures .same in
