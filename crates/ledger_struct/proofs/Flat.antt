@@ -7,8 +7,8 @@ use native.Mathlib.Numerals.{add-one}
 use native.Mathlib.Omega.{arith}
 use borrow.Author.Tests.{leb-true, leb-false}
 use lib.Dec.{leb}
-use lib.ListN.{length, getD, set, take, replicate, length-map, List·getD-map}
-use lib.Seq.{take-suc, take-suc-set, take-all}
+use lib.ListN.{length, getD, set, take, drop, replicate, length-map, take-append-drop, List·getD-map}
+use lib.Seq.{take-suc, take-suc-set, take-all, take-append-le, length-take-le}
 use Rattle.definitions.specs.Ledger as ledger
 use Rattle.theory_laws.proofs.Lists.{map-append}
 use Rattle.ledger_contents.specs.declared.Content.{Content}
@@ -92,3 +92,29 @@ place-next n contents content h =
 
 pub unmapped : {X Y : Type 0} (f : X → Y) (l : List X) (n : ℕ) → length (map f l) ≡ n → length l ≡ n
 unmapped f l n e = sym (length-map l f) ∙ e
+
+-- The first eight of some places, one by one.
+abbrev eight : List Place → Place → List Place
+eight places d =
+    getD places 0 d ∷ getD places 1 d ∷ getD places 2 d ∷ getD places 3 d
+    ∷ getD places 4 d ∷ getD places 5 d ∷ getD places 6 d ∷ getD places 7 d ∷ []
+
+eight-of : (places : List Place) (d : Place) → 8 ≤ length places → take 8 places ≡ eight places d
+eight-of (a ∷ b ∷ c ∷ e ∷ f ∷ g ∷ h ∷ i ∷ more) d long = refl
+eight-of ([]) d long = absurd (omega arith)
+eight-of (a ∷ []) d long = absurd (omega arith)
+eight-of (a ∷ b ∷ []) d long = absurd (omega arith)
+eight-of (a ∷ b ∷ c ∷ []) d long = absurd (omega arith)
+eight-of (a ∷ b ∷ c ∷ e ∷ []) d long = absurd (omega arith)
+eight-of (a ∷ b ∷ c ∷ e ∷ f ∷ []) d long = absurd (omega arith)
+eight-of (a ∷ b ∷ c ∷ e ∷ f ∷ g ∷ []) d long = absurd (omega arith)
+eight-of (a ∷ b ∷ c ∷ e ∷ f ∷ g ∷ h ∷ []) d long = absurd (omega arith)
+
+-- They stand at the front of other places: as many of both are the same.
+pub front-same : (places : List Place) (d : Place) (rest : List Place) (n : ℕ) → 8 ≤ length places → n ≤ 8
+    → map contentOfPlace (take n (eight places d ++ rest)) ≡ map contentOfPlace (take n places)
+front-same places d rest n long few =
+    let all : n ≤ length (take 8 places) = omega (arith, length-take-le 8 places long) in
+    let front : take n (take 8 places) ≡ take n places =
+    sym (take-append-le n (take 8 places) (drop 8 places) all) ∙ ap (take n) (take-append-drop 8 places) in
+    ap (map contentOfPlace) (take-append-le n (eight places d) rest few ∙ ap (take n) (sym (eight-of places d long)) ∙ front)

@@ -37,6 +37,21 @@ pub fn at_most(count: usize, room: usize) -> usize
     if count < room { count } else { room }
 }
 
+// The contents of places as flat numbers.
+pub fn flatten(places: [Place; 1024], count: usize, flat: &mut [u32])
+    requires { ⌜ length (now flat) ≡ 5 * min count 1024 ⌝ }
+    ensures { λ _. ⌜ contentsOf (now (flat .exit)) ≡ contentsIn count places ⌝ }
+{
+    let many = at_most(count, 1024);
+    let mut i: usize = 0;
+    while i < many {
+        let place = places[i];
+        let content = place.content;
+        ledger_contents::put_content(flat, i, content);
+        i += 1;
+    }
+}
+
 // Places that hold the contents of flat numbers; those behind hold plain 0.
 pub fn filled(flat: &[u32]) -> [Place; 1024]
     requires { ⌜ length (now flat) / 5 ≤ 1024 ⌝ }
@@ -55,7 +70,34 @@ pub fn filled(flat: &[u32]) -> [Place; 1024]
     places
 }
 
+// The eight places of parameters at the front of as many as there can be variables, so that one loop serves all.
+pub fn among_many(places: [Place; 8]) -> [Place; 1024]
+    ensures { λ r. ⌜ ((n : ℕ) → n ≤ 8 → contentsIn n r ≡ contentsIn n places) ⌝ }
+{
+    let zero = Place {
+        content: Content::Plain(0),
+    };
+    let mut many = [zero; 1024];
+    many[0] = places[0];
+    many[1] = places[1];
+    many[2] = places[2];
+    many[3] = places[3];
+    many[4] = places[4];
+    many[5] = places[5];
+    many[6] = places[6];
+    many[7] = places[7];
+    many
+}
+
 // The same for the eight places of parameters.
+pub fn flatten_eight(places: [Place; 8], count: usize, flat: &mut [u32])
+    requires { ⌜ length (now flat) ≡ 5 * min count 8 ⌝ }
+    ensures { λ _. ⌜ contentsOf (now (flat .exit)) ≡ contentsIn count places ⌝ }
+{
+    let many = among_many(places);
+    flatten(many, at_most(count, 8), flat);
+}
+
 pub fn filled_eight(flat: &[u32]) -> [Place; 8]
     requires { ⌜ length (now flat) / 5 ≤ 8 ⌝ }
     ensures { λ r. ⌜ r ≡ placesFor 8 (contentsOf (now (flat .entry))) ⌝ }
@@ -73,45 +115,27 @@ pub fn filled_eight(flat: &[u32]) -> [Place; 8]
     places
 }
 
-// The ledger's own contents as flat numbers. Each is a loop of its own, since an array that is passed by value is copied.
+// The ledger's own contents as flat numbers.
 pub fn flat_parameters(l: Ledger, flat: &mut [u32])
     requires { ⌜ length (now flat) ≡ 5 * min (l .«parameter_count») 8 ⌝ }
     ensures { λ _. ⌜ contentsOf (now (flat .exit)) ≡ (ledgerOf l) .parameters ⌝ }
 {
-    let many = at_most(l.parameter_count, 8);
-    let mut i: usize = 0;
-    while i < many {
-        let place = l.parameters[i];
-        let content = place.content;
-        ledger_contents::put_content(flat, i, content);
-        i += 1;
-    }
+    let parameters = l.parameters;
+    flatten_eight(parameters, l.parameter_count, flat);
 }
 
 pub fn flat_variables(l: Ledger, flat: &mut [u32])
     requires { ⌜ length (now flat) ≡ 5 * min (l .«variable_count») 1024 ⌝ }
     ensures { λ _. ⌜ contentsOf (now (flat .exit)) ≡ (ledgerOf l) .variables ⌝ }
 {
-    let many = at_most(l.variable_count, 1024);
-    let mut i: usize = 0;
-    while i < many {
-        let place = l.variables[i];
-        let content = place.content;
-        ledger_contents::put_content(flat, i, content);
-        i += 1;
-    }
+    let variables = l.variables;
+    flatten(variables, l.variable_count, flat);
 }
 
 pub fn flat_places(l: Ledger, flat: &mut [u32])
     requires { ⌜ length (now flat) ≡ 5 * min (l .«place_count») 1024 ⌝ }
     ensures { λ _. ⌜ contentsOf (now (flat .exit)) ≡ (ledgerOf l) .places ⌝ }
 {
-    let many = at_most(l.place_count, 1024);
-    let mut i: usize = 0;
-    while i < many {
-        let place = l.places[i];
-        let content = place.content;
-        ledger_contents::put_content(flat, i, content);
-        i += 1;
-    }
+    let places = l.places;
+    flatten(places, l.place_count, flat);
 }

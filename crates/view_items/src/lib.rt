@@ -28,12 +28,6 @@ pub fn put_eight(places: [Place; 8], count: usize, party: u8, out: &mut [u8], at
     requires { ⌜ at + 10 * min count 8 ≤ length (now out) ⌝ }
     ensures { λ _. ⌜ now (out .exit) ≡ stored (now (out .entry)) at (shown party (contentsIn count places)) ⌝ }
 {
-    let many = ledger_struct::at_most(count, 8);
-    let mut i: usize = 0;
-    while i < many {
-        let place = places[i];
-        let content = place.content;
-        put_content(out, at + 10 * i, party, content);
-        i += 1;
-    }
+    let many = ledger_struct::among_many(places);
+    put_items(many, ledger_struct::at_most(count, 8), party, out, at);
 }

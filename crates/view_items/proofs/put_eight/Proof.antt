@@ -1,36 +1,28 @@
--- Each turn shows one place more.
-use mathlib.Core.Path.{_≡_, refl, _∙_}
-use Prim.Native.Nat.{_≤_, _-_, _+_, _*_}
+-- The eight among many, as many as counted.
+use mathlib.Core.Path.{_≡_, ap, _∙_}
+use mathlib.Core.List.{map}
 use native.Mathlib.Omega.{arith}
-use lib.ListN.{length, drop}
+use lib.ListN.{length}
 use borrow.Author.Needs.{needs}
 use Rattle.memory_buffer.specs.Buffer.{stored}
-use Rattle.ledger_struct.specs.Ledgers.{contentsIn}
-use Rattle.ledger_struct.proofs.Flat.{unmapped}
+use Rattle.ledger_contents.specs.Contents.{contentOfPlace}
+use Rattle.ledger_struct.proofs.Flat.{unmapped, take-many}
 use Rattle.view_item.specs.Items.{shown}
-use Rattle.view_items.proofs.Shown.{items-start, items-next, items-done}
 use Rattle.view_items.proofs.put_eight.Statement.{statement}
 use Rattle.view_items.proofs.put_eight.Tie as tie
 
-abbrev Inv-loop : tie.InvT-loop
-Inv-loop count party out₀ at places many i₀ out i =
-    (i ≤ many) × ((length out ≡ length out₀)
-    × (stored out (at + 10 * i) (shown party (drop i (contentsIn count places))) ≡ stored out₀ at (shown party (contentsIn count places))))
-
-abbrev μ-loop : tie.MeasureT-loop
-μ-loop count party out₀ at places many i₀ out i = many - i
-
-long : (c : tie.Start Inv-loop μ-loop) → length (c .args .t1) ≡ 8
+long : (c : tie.Start) → length (c .args .places) ≡ 8
 long c = search (unmapped, needs)
 
 pub put-eight-spec : {M : Type 1} → statement M
 put-eight-spec =
-    tie.close (tie.spec Inv-loop μ-loop
-    (λ c κs. search needs) (λ c. (omega arith, (refl, items-start _ _ _ _))) (λ c. search needs) (λ c. search needs) (λ c. search needs)
-    (λ c. search needs) (λ c κs. search needs) (λ c. search needs) (λ c. search needs)
-    (λ c. let put-content = c .before .before .put-content in let k = c .before .before .before .before .before .before in
-    let s = k .before .before .before in let n = long s in let (_, (kept, left)) = k .loop .inv in
-    let next = items-next (s .args .party) (s .args .count) (s .args .t1) (k .loop .i) (s .args .at) _ (k .loop .out) _ _ (omega arith) (omega arith) (omega arith) (put-content .ensures) left in (omega arith, (put-content .kept .0 ∙ kept, next)))
-    (λ c. let (_, (out-length, _)) = c .before .loop .inv in out-length)
-    (λ c. let (_, (_, stored-is)) = c .before .loop .inv in let s = c .before .before .before .before in let n = long s in
-    items-done (s .args .party) (s .args .count) (s .args .t1) (c .before .loop .i) _ _ _ (omega arith) stored-is))
+    tie.close (tie.spec
+    (λ c κs. search needs) (λ c κs. search needs) (λ c κs. search needs) (λ c. search needs)
+    (λ c. let many = c .before .before .before .before .at-most in
+    let start = c .before .before .before .before .before .before .before in
+    let args = start .args in
+    let n = long start in
+    let same =
+    c .before .before .before .before .before .among-many .ensures (many .result) (omega arith)
+    ∙ ap (map contentOfPlace) (take-many (args .count) (many .result) (args .places) (omega arith)) in
+    c .before .before .put-items .ensures ∙ ap (λ contents. stored (args .out .now) (args .at) (shown (args .party) contents)) same))
