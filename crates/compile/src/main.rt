@@ -7,6 +7,7 @@ use program_input::read_rest;
 use program_input::short_contract_room;
 use program_output::deliver;
 use program_output::print_refused;
+use write_extents::is_short_file;
 use write_extents::is_tiny;
 use write_output::Answer;
 use write_output::short_written_room;
@@ -64,7 +65,7 @@ fn answer_any(file: &[u8]) {
 fn answer(file: &[u8]) {
     if is_tiny(file.len()) {
         answer_tiny(file);
-    } else if file.len() <= 512 {
+    } else if is_short_file(file.len()) {
         answer_short(file);
     } else {
         answer_any(file);

@@ -7,7 +7,6 @@ pub mod Files
 pub mod LedgerCases
 pub mod Marked
 pub mod NumberCases
-pub mod Products
 pub mod TotalCases
 pub mod ViewCases
 pub mod WrittenCases

@@ -1,7 +1,4 @@
 // 01, The contract file: "Operators: 0 +, 1 −, 2 ×, 3 /, 4 %, 5 <, 6 ≤, 7 ==, 8 !=, 9 and, 10 or.", worked out on numbers of 32 bits.
-use definitions::difference;
-use definitions::product;
-use definitions::sum;
 use file_kinds::AND;
 use file_kinds::DIVIDED;
 use file_kinds::EQUAL;
@@ -16,7 +13,7 @@ ghost use mathlib.Core.Path.{_≡_};
 ghost use mathlib.Core.Bool.{_&&_, _||_};
 ghost use Prim.Native.Nat.{_/_, _%_};
 ghost use Rattle.definitions.specs.Basics.{bit, isTrue};
-ghost use Rattle.definitions.specs.ContractFile.{operatorOf};
+ghost use Rattle.definitions.specs.ContractFile.{plus, minus, times, operatorOf};
 ghost use Rattle.definitions.specs.Original.{operate, negate};
 
 // A bool's number.
@@ -24,6 +21,27 @@ pub fn bit_of(b: bool) -> u32
     ensures { λ r. ⌜ r ≡ bit b ⌝ }
 {
     if b { 1 } else { 0 }
+}
+
+// "Uint arithmetic is modulo 4,294,967,296." The language's own wrapping sum. A wrong program that this rules out: a sum that saturates.
+pub fn sum(left: u32, right: u32) -> u32
+    ensures { λ r. ⌜ r ≡ operate plus left right ⌝ }
+{
+    std::num::wrapping_add_u32(left, right)
+}
+
+// The language's own wrapping difference, so that 0 - 1 is the largest uint.
+pub fn difference(left: u32, right: u32) -> u32
+    ensures { λ r. ⌜ r ≡ operate minus left right ⌝ }
+{
+    std::num::wrapping_sub_u32(left, right)
+}
+
+// The product is made over 64 bits, where it cannot wrap.
+pub fn product(left: u32, right: u32) -> u32
+    ensures { λ r. ⌜ r ≡ operate times left right ⌝ }
+{
+    (left as u64 * right as u64 % 4294967296) as u32
 }
 
 // What has no quotient gives 0: the call that divides by 0 fails, and its numbers are given up.

@@ -7,7 +7,7 @@ ghost use lib.ListN.{length};
 ghost use Rattle.definitions.specs.ContractFile.{node};
 ghost use Rattle.file_decoded.specs.Slices.{nodeFrom};
 
-pub struct Read {
+pub struct NodeNumbers {
     pub kind: u16,
     pub arg: u16,
     pub first: usize,
@@ -16,7 +16,7 @@ pub struct Read {
 }
 
 // Node n's numbers.
-pub fn read_node(nodes: &[u16], n: usize) -> Read
+pub fn read_node(nodes: &[u16], n: usize) -> NodeNumbers
     requires { ⌜ (n < length (now nodes) / 5) × (length (now nodes) ≤ 2560) ⌝ }
     ensures { λ r. ⌜ node (r .kind) (r .arg) (r .first) (r .second) (r .third) ≡ nodeFrom (now (nodes .entry)) (5 * n) ⌝ }
 {
@@ -26,7 +26,7 @@ pub fn read_node(nodes: &[u16], n: usize) -> Read
     let first = number_from(nodes, at + 2);
     let second = number_from(nodes, at + 3);
     let third = number_from(nodes, at + 4);
-    Read {
+    NodeNumbers {
         kind: kind,
         arg: arg,
         first: first,

@@ -17,6 +17,13 @@ pub fn is_short(nodes: usize) -> bool
     nodes <= 64
 }
 
+// Whether a file of so many bytes has at most 64 nodes whatever it holds.
+pub fn is_short_file(length: usize) -> bool
+    ensures { λ r. ⌜ r ≡ leb length 512 ⌝ }
+{
+    length <= 512
+}
+
 // Whether a file of so many bytes, of which there are at most 18 times as many when it is written, is written in the least memory.
 pub fn is_tiny(length: usize) -> bool
     ensures { λ r. ⌜ r ≡ leb length 112 ⌝ }

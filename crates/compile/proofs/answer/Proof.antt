@@ -1,4 +1,4 @@
--- The file's length tells whether it is tiny.
+-- The file's length tells which room suffices.
 use mathlib.Core.Path.{sym, _∙_}
 use borrow.Author.Tests.{leb-true}
 use borrow.Author.Needs.{needs}
@@ -10,4 +10,6 @@ answer-spec =
     tie.close (tie.spec
     (λ c κs. search needs)
     (λ c κs. leb-true _ 112 (sym (c .before .is-tiny .ensures) ∙ c .if1 .taken))
-    (λ c κs. search needs) (λ c κs. search needs) (λ c. search needs) (λ c. search needs) (λ c. search needs))
+    (λ c κs. search needs)
+    (λ c κs. leb-true _ 512 (sym (c .before .is-short-file .ensures) ∙ c .if2 .taken))
+    (λ c κs. search needs) (λ c. search needs) (λ c. search needs) (λ c. search needs))

@@ -1,8 +1,0 @@
--- `definitions::product` meets its contract: 64 bits hold the product.
-use Rattle.definitions.proofs.Products.{product-fits}
-use borrow.Author.Needs.{needs}
-use Rattle.definitions.proofs.product.Statement.{statement}
-use Rattle.definitions.proofs.product.Tie as tie
-
-pub product-spec : {M : Type 1} → statement M
-product-spec = tie.close (tie.spec (λ c. record { fits = product-fits 32 (search needs) (search needs) }) (λ c. search needs) (λ c. search needs))
