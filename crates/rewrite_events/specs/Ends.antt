@@ -5,7 +5,8 @@ use mathlib.Core.Option.{none}
 use Rattle.definitions.specs.ContractFile.{Statement, Scope, fieldAt}
 use Rattle.definitions.specs.Owners.{nameOf, placeOwner}
 use Rattle.definitions.specs.Rewriting.{Guard}
-use Rattle.rewrite_events.specs.Events.{Event, suppliedEvent, claimedEvent, readEvent, guardEvent, endEvent, Events, noEvents, inTurn, bodyEvents, placeEvents}
+use Rattle.rewrite_events.specs.Events.{Event, suppliedEvent, claimedEvent, readEvent, guardEvent, endEvent}
+use Rattle.rewrite_events.specs.Events.{Events, noEvents, inTurn, bodyEvents, placeEvents}
 
 abbrev pub isSimple : Statement → Bool
 isSimple Statement.skip = true
