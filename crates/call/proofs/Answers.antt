@@ -1,9 +1,5 @@
 -- The ledger of a refused and of an accepted call.
-use mathlib.Core.Path.{_≡_, ap, sym, _∙_}
-use mathlib.Core.Bool.{Bool, false, cond}
-use mathlib.Core.List.{List}
-use Prim.Native.Nat.{ℕ}
-use borrow.Author.Tests.{eq-eqb, ne-eqb}
+use Rattle.kit.specs.Names.{_≡_, ap, sym, _∙_, Bool, false, cond, List, ℕ, eq-eqb, ne-eqb}
 use Rattle.definitions.specs.Basics.{isZero}
 use Rattle.definitions.specs.Ledger as ledger
 use Rattle.definitions.specs.Ledger.{callNumber, callWith, honestParametersOf, honestVariablesOf, ledgerAfterCall}

@@ -1,8 +1,5 @@
 -- What the struct after a call means, and that from deployment on the whole struct is told by its ledger.
-use mathlib.Core.Path.{_≡_, refl, ap, sym, _∙_}
-use mathlib.Core.Bool.{Bool, true, false, cond}
-use mathlib.Core.List.{List, [], map}
-use Prim.Native.Nat.{ℕ}
+use Rattle.kit.specs.Names.{_≡_, refl, ap, sym, _∙_, Bool, true, false, cond, List, [], map, ℕ}
 use Rattle.definitions.specs.Basics.{isZero}
 use Rattle.definitions.specs.Ledger as ledger
 use Rattle.definitions.specs.ContractFile.{contractIn, scopeOf}

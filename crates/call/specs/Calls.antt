@@ -1,8 +1,5 @@
 -- 01, Runs and views: what a call gives.
-use mathlib.Core.Path.{_≡_}
-use mathlib.Core.Bool.{cond}
-use mathlib.Core.List.{List}
-use Prim.Native.Nat.{ℕ}
+use Rattle.kit.specs.Names.{_≡_, cond, List, ℕ}
 use Rattle.definitions.specs.Basics.{isZero}
 use Rattle.definitions.specs.Ledger.{callNumber, ledgerAfterCall}
 use Rattle.ledger_struct.specs.declared.Ledger as code

@@ -1,11 +1,6 @@
 -- Number 18 of a call by its tests: a ledger that is not well formed, a caller above 15, a function that is not there.
-use mathlib.Core.Path.{_≡_, refl, ap, sym, _∙_}
-use mathlib.Core.Bool.{Bool, true, false, _||_, not}
-use mathlib.Core.List.{List}
-use Prim.Native.Nat.{ℕ, _<_, _≤_}
-use borrow.Author.Tests.{lt-ltb, le-ltb, leb-false}
-use lib.Dec.{leb, ltb}
-use lib.ListN.{length}
+use Rattle.kit.specs.Names.{_≡_, refl, ap, sym, _∙_, Bool, true, false, _||_, not, List, ℕ, _<_, _≤_, leb, ltb, length, lt-ltb, le-ltb}
+use Rattle.kit.specs.Names.{leb-false}
 use Rattle.definitions.specs.ContractFile.{functionCount, contractIn}
 use Rattle.definitions.specs.Ledger as ledger
 use Rattle.definitions.specs.Ledger.{isWellFormed, notCallable}

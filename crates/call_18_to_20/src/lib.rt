@@ -3,7 +3,7 @@ use call_18_callable::is_not_callable;
 use call_19_arguments::are_arguments_off;
 use call_numbers::number_19_or_20;
 use ledger_struct::Ledger;
-ghost use mathlib.Core.Path.{_≡_};
+ghost use Rattle.kit.specs.Names.{_≡_};
 ghost use Rattle.definitions.specs.Ledger.{callNumber};
 ghost use Rattle.ledger_struct.specs.Ledgers.{ledgerOf};
 

@@ -1,8 +1,5 @@
 -- Number 19's test on a function's place and on a file that are known by equations.
-use mathlib.Core.Path.{_≡_, ap, _∙_}
-use mathlib.Core.Bool.{Bool}
-use mathlib.Core.List.{List}
-use Prim.Native.Nat.{ℕ}
+use Rattle.kit.specs.Names.{_≡_, ap, _∙_, Bool, List, ℕ}
 use Rattle.file_accepted.specs.Context.{parametersIn}
 use Rattle.file_accepted.specs.Functions.{functionStart}
 use Rattle.ledger_numbers.specs.Arguments.{argumentsOffFor}

@@ -3,7 +3,7 @@ use file_functions::function_start;
 use ledger_numbers::arguments_off;
 use ledger_struct::Ledger;
 use ledger_struct::at_most;
-ghost use mathlib.Core.Path.{_≡_};
+ghost use Rattle.kit.specs.Names.{_≡_};
 ghost use Rattle.file_accepted.specs.Context.{parametersIn};
 ghost use Rattle.file_accepted.specs.Functions.{functionStart};
 ghost use Rattle.ledger_struct.specs.Ledgers.{ledgerOf};

@@ -1,9 +1,5 @@
 -- The parts of the honest call: what is put from the original is what the call with given values is handed.
-use mathlib.Core.Path.{_≡_, ap, ap₂, sym, _∙_}
-use mathlib.Core.List.{List, map}
-use Prim.Native.Nat.{ℕ, suc, _*_, _<_, _≤_}
-use native.Mathlib.Omega.{arith}
-use lib.ListN.{length, take}
+use Rattle.kit.specs.Names.{_≡_, ap, ap₂, sym, _∙_, List, map, ℕ, suc, _*_, _<_, _≤_, arith, length, take}
 use Rattle.definitions.specs.ContractFile.{Function, byteAt, functionCount}
 use Rattle.definitions.specs.Numbers.{checkNumber}
 use Rattle.definitions.specs.Original.{addressIn}

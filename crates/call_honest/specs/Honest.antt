@@ -1,8 +1,5 @@
 -- 01, Runs and views: what the original works out for a call, as code holds it before it is handed to the call with given values.
-use mathlib.Core.Path.{_≡_}
-use mathlib.Core.List.{List, map}
-use Prim.Native.Nat.{ℕ, _*_, _≤_}
-use lib.ListN.{length, take}
+use Rattle.kit.specs.Names.{_≡_, List, map, ℕ, _*_, _≤_, length, take}
 use Rattle.definitions.specs.Original.{addressIn}
 use Rattle.definitions.specs.Ledger.{Ledger, openedNumber, callNumber}
 use Rattle.file_accepted.specs.Context.{nodesIn, scopeIn, Source}

@@ -1,10 +1,5 @@
 -- The ledgers after a call, put together part by part.
-use mathlib.Core.Path.{_≡_, refl, ap}
-use mathlib.Core.Bool.{Bool, true, false}
-use mathlib.Core.List.{List, [], _∷_}
-use Prim.Native.Nat.{ℕ, zero, suc, _+_, _*_, _/_, _<_, _≤_}
-use native.Mathlib.Omega.{arith}
-use lib.ListN.{length, take}
+use Rattle.kit.specs.Names.{_≡_, refl, ap, Bool, true, false, List, [], _∷_, ℕ, zero, suc, _+_, _*_, _/_, _<_, _≤_, arith, length, take}
 use Rattle.definitions.specs.Ledger.{Ledger}
 use Rattle.ledger_struct.specs.declared.Ledger as code
 use Rattle.ledger_struct.specs.Ledgers.{ledgerOf}

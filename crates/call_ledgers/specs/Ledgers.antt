@@ -1,7 +1,5 @@
 -- 01, Runs and views: the ledger after a call, from what its walk leaves.
-use mathlib.Core.List.{List, []}
-use Prim.Native.Nat.{ℕ, suc, _<_, _≤_, _/_}
-use lib.ListN.{length}
+use Rattle.kit.specs.Names.{List, [], ℕ, suc, _<_, _≤_, _/_, length}
 use Rattle.definitions.specs.Ledger.{Content, Ledger, State}
 
 -- The walk completed, and this is its end.

@@ -1,8 +1,5 @@
 // 01, Runs and views: the tests of a call that ask numbers alone, of numbers 18 to 20; the call that its serials carry.
-ghost use mathlib.Core.Path.{_≡_};
-ghost use mathlib.Core.List.{[], _∷_};
-ghost use Prim.Native.Nat.{suc, _<_};
-ghost use lib.Dec.{leb, ltb};
+ghost use Rattle.kit.specs.Names.{_≡_, [], _∷_, suc, _<_, leb, ltb};
 ghost use Rattle.definitions.specs.Basics.{firstThatHolds};
 
 // "18. .. or a caller is above 15"

@@ -1,8 +1,5 @@
 -- A call with given parameters and supplied values, as code makes it of the function that begins at a place of the ledger's file.
-use mathlib.Core.Path.{_≡_, refl, ap, sym, _∙_}
-use mathlib.Core.Bool.{Bool, true, false, cond}
-use mathlib.Core.List.{List, map}
-use Prim.Native.Nat.{ℕ, _<_}
+use Rattle.kit.specs.Names.{_≡_, refl, ap, sym, _∙_, Bool, true, false, cond, List, map, ℕ, _<_}
 use Rattle.definitions.specs.ContractFile.{Name, Function, functionAt, functionCount, contractOf, contractIn}
 use Rattle.definitions.specs.Rewriting.{rewriteFunction}
 use Rattle.definitions.specs.Original.{addressIn}

@@ -1,9 +1,5 @@
 -- What a call that can be made gives its parts: room for the function, for the addresses and for what a failed call shows.
-use mathlib.Core.Path.{_≡_}
-use mathlib.Core.List.{List}
-use Prim.Native.Nat.{ℕ, _*_}
-use native.Mathlib.Omega.{arith}
-use lib.ListN.{length}
+use Rattle.kit.specs.Names.{_≡_, List, ℕ, _*_, arith, length}
 use Rattle.definitions.specs.ContractFile.{byteAt}
 use Rattle.definitions.specs.Ledger.{Ledger}
 use Rattle.file_accepted.specs.Functions.{functionStart}

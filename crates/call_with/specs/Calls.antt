@@ -1,9 +1,5 @@
 -- 01, Runs and views: what a call with given values may rely on, and its walk.
-use mathlib.Core.Path.{_≡_}
-use mathlib.Core.Bool.{Bool}
-use mathlib.Core.List.{List}
-use Prim.Native.Nat.{ℕ, _*_, _<_}
-use lib.ListN.{length}
+use Rattle.kit.specs.Names.{_≡_, Bool, List, ℕ, _*_, _<_, length}
 use Rattle.definitions.specs.ContractFile.{byteAt, functionCount}
 use Rattle.definitions.specs.Numbers.{checkNumber}
 use Rattle.definitions.specs.Ledger.{Ledger, State, stateAfter, walkCompletes}

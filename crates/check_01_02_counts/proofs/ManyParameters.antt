@@ -1,12 +1,6 @@
 -- The loop over the functions that asks for too many parameters.
-use mathlib.Core.Path.{_≡_, refl, ap, sym, _∙_}
-use mathlib.Core.Bool.{Bool, true, false, _||_}
-use mathlib.Core.List.{List, [], _∷_}
-use Prim.Native.Nat.{ℕ, zero, suc, _+_, _-_, _<_, _≤_}
-use native.Mathlib.Omega.{arith}
-use lib.Dec.{eqb, ltb}
-use lib.ListN.{length}
-use borrow.Author.Tests.{lt-ltb, le-ltb}
+use Rattle.kit.specs.Names.{_≡_, refl, ap, sym, _∙_, Bool, true, false, _||_, List, [], _∷_, ℕ, zero, suc, _+_, _-_, _<_, _≤_, arith, eqb}
+use Rattle.kit.specs.Names.{ltb, length, lt-ltb, le-ltb}
 use Rattle.definitions.specs.Basics.{any}
 use Rattle.definitions.specs.ContractFile.{FunctionRecord, byteAt, functionEnd, functionRecord, functionRecords}
 use Rattle.definitions.specs.Reading.{functionsRead}

@@ -2,10 +2,7 @@
 use file_bytes::Layout;
 use file_bytes::byte_at;
 use file_bytes::function_end;
-ghost use mathlib.Core.Path.{_≡_};
-ghost use Prim.Native.Nat.{_+_, _*_, _≤_};
-ghost use lib.Dec.{ltb};
-ghost use lib.ListN.{length};
+ghost use Rattle.kit.specs.Names.{_≡_, _+_, _*_, _≤_, ltb, length};
 ghost use Rattle.definitions.specs.Basics.{any};
 ghost use Rattle.definitions.specs.ContractFile.{functionRecords};
 ghost use Rattle.definitions.specs.Numbers.{endsWrongly, countOffLimits};

@@ -1,10 +1,5 @@
 -- The loops that ask for what is outside the tables and for what names nothing: what is left to ask has the same answer.
-use mathlib.Core.Path.{_≡_, ap, sym, _∙_}
-use mathlib.Core.Bool.{Bool, true, false, not, _||_}
-use mathlib.Core.List.{List}
-use Prim.Native.Nat.{ℕ, _+_, _-_, _<_, _≤_}
-use lib.Dec.{leb}
-use borrow.Author.Tests.{le-leb, lt-leb}
+use Rattle.kit.specs.Names.{_≡_, ap, sym, _∙_, Bool, true, false, not, _||_, List, ℕ, _+_, _-_, _<_, _≤_, leb, le-leb, lt-leb}
 use Rattle.definitions.specs.Basics.{any, anyNumbered}
 use Rattle.definitions.specs.ContractFile.{fieldOf, fieldOwnerOfCode}
 use Rattle.definitions.specs.Numbers.{nodeInTables, fieldOfDeclaredOwner}

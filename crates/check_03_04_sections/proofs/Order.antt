@@ -1,9 +1,5 @@
 -- The first of the sentences 3 and 4 that holds, of the nodes and of all sections.
-use mathlib.Core.Path.{_≡_, refl, sym, _∙_}
-use mathlib.Core.Bool.{Bool, true, false, cond, _||_, or-true, or-false}
-use mathlib.Core.List.{List, [], _∷_}
-use Prim.Native.Nat.{ℕ, _/_}
-use lib.ListN.{length}
+use Rattle.kit.specs.Names.{_≡_, refl, sym, _∙_, Bool, true, false, cond, _||_, or-true, or-false, List, [], _∷_, ℕ, _/_, length}
 use Rattle.definitions.specs.Basics.{any, anyNumbered, firstThatHolds}
 use Rattle.definitions.specs.ContractFile.{FieldRecord, FunctionRecord, Sections}
 use Rattle.definitions.specs.Numbers.{outsideTables, namesNothing}

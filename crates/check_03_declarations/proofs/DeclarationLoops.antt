@@ -1,9 +1,5 @@
 -- The loops over fields, parameters and functions that ask for what is outside the tables.
-use mathlib.Core.Path.{_≡_, _∙_}
-use mathlib.Core.Bool.{Bool, true, false, not}
-use mathlib.Core.List.{List}
-use Prim.Native.Nat.{ℕ, _+_, _*_, _-_, _<_, _≤_}
-use native.Mathlib.Omega.{arith}
+use Rattle.kit.specs.Names.{_≡_, _∙_, Bool, true, false, not, List, ℕ, _+_, _*_, _-_, _<_, _≤_, arith}
 use Rattle.definitions.specs.Basics.{any}
 use Rattle.definitions.specs.Numbers.{fieldInTables, parameterInTables}
 use Rattle.file_decoded.specs.Slices.{numberAt, fieldFrom, fieldsFrom, parameterFrom, parametersFrom, functionFrom, functionsFrom}

@@ -1,5 +1,5 @@
 -- 01, number 3: a field, a parameter and a function that are outside the tables.
-use mathlib.Core.Bool.{Bool, not}
+use Rattle.kit.specs.Names.{Bool, not}
 use Rattle.definitions.specs.Basics.{any}
 use Rattle.definitions.specs.ContractFile.{FieldRecord, ParameterRecord, FunctionRecord}
 use Rattle.definitions.specs.Numbers.{fieldInTables, parameterInTables}

@@ -1,9 +1,5 @@
 -- A node against the tables by its kind's number.
-use mathlib.Core.Path.{_≡_, ap, sym, _∙_}
-use mathlib.Core.Bool.{Bool, false}
-use mathlib.Core.Logic.{_⊎_, inl, inr, ⊎-elim}
-use Prim.Native.Nat.{ℕ}
-use borrow.Author.Tests.{ne-eqb}
+use Rattle.kit.specs.Names.{_≡_, ap, sym, _∙_, Bool, false, _⊎_, inl, inr, ⊎-elim, ℕ, ne-eqb}
 use Rattle.definitions.specs.ContractFile.{NodeRecord, kindOf}
 use Rattle.definitions.specs.Numbers.{kindInTables, nodeInTables}
 

@@ -1,5 +1,5 @@
 -- 01, number 3: a node that is outside the tables.
-use mathlib.Core.Bool.{Bool, not}
+use Rattle.kit.specs.Names.{Bool, not}
 use Rattle.definitions.specs.ContractFile.{NodeRecord}
 use Rattle.definitions.specs.Numbers.{nodeInTables}
 

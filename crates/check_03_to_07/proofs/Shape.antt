@@ -1,8 +1,5 @@
 -- Numbers 3 and 4 come before 5 to 7; of sections of number 0 neither of the first two holds.
-use mathlib.Core.Path.{_≡_, refl, sym, _∙_}
-use mathlib.Core.Bool.{Bool, true, false}
-use mathlib.Core.List.{List, [], _∷_}
-use Prim.Native.Nat.{ℕ}
+use Rattle.kit.specs.Names.{_≡_, refl, sym, _∙_, Bool, true, false, List, [], _∷_, ℕ}
 use Rattle.definitions.specs.Basics.{firstThatHolds}
 use Rattle.definitions.specs.ContractFile.{Sections}
 use Rattle.definitions.specs.Numbers.{outsideTables, namesNothing, usedOtherThanOnce, tooDeep, wrongSort}

@@ -1,6 +1,5 @@
 -- 01, Numbers: the sentences 3 to 7, which are told of a file's sections.
-use mathlib.Core.List.{List, [], _∷_}
-use Prim.Native.Nat.{ℕ}
+use Rattle.kit.specs.Names.{List, [], _∷_, ℕ}
 use Rattle.definitions.specs.Basics.{firstThatHolds}
 use Rattle.definitions.specs.ContractFile.{Sections}
 use Rattle.definitions.specs.Numbers.{outsideTables, namesNothing, usedOtherThanOnce, tooDeep, wrongSort}

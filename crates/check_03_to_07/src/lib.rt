@@ -1,7 +1,7 @@
 // Numbers 3 to 7 of a contract that is decoded: the first of their sentences that holds.
 use check_03_04_sections::tables_and_names;
 use check_05_to_07::uses_depth_sorts;
-ghost use mathlib.Core.Path.{_≡_};
+ghost use Rattle.kit.specs.Names.{_≡_};
 ghost use Rattle.file_decoded.specs.Slices.{sectionsFrom};
 ghost use Rattle.check_03_to_07.specs.Shape.{sectionsNumber, Held};
 

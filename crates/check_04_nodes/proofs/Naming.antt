@@ -1,12 +1,6 @@
 -- The fields that a node names and the children that it has, by its kind's number.
-use mathlib.Core.Path.{_≡_, refl, ap, sym, _∙_}
-use mathlib.Core.Bool.{Bool, true, false}
-use mathlib.Core.List.{List, [], _∷_}
-use Prim.Native.Nat.{ℕ, zero, suc, _-_, _<_, _≤_}
-use native.Mathlib.Omega.{arith}
-use lib.Dec.{eqb, leb, ltb}
-use lib.ListN.{getD}
-use borrow.Author.Tests.{eqb-true, eq-eqb, ne-eqb, leb-true}
+use Rattle.kit.specs.Names.{_≡_, refl, ap, sym, _∙_, Bool, true, false, List, [], _∷_, ℕ, zero, suc, _-_, _<_, _≤_, arith, eqb, leb, ltb}
+use Rattle.kit.specs.Names.{getD, eqb-true, eq-eqb, ne-eqb, leb-true}
 use Rattle.definitions.specs.Basics.{any}
 use Rattle.definitions.specs.ContractFile.{NodeRecord, isFinalCode, ownerOfCode, fieldOwnerOfCode, Kind, constantKind, meKind, fieldKind, entryKind, parameterKind, operatorKind, negationKind, revealKind, skipKind, sequenceKind, assignFieldKind, assignEntryKind, requireKind, conditionalKind, noKind, kindOf, nodeOf, nodeOfKind, fieldsNamed, fieldOfOwner}
 use Rattle.definitions.specs.Numbers.{fieldOfDeclaredOwner}

@@ -1,7 +1,5 @@
 -- 01, number 4: a field's owner code, a function's root and a node that name nothing.
-use mathlib.Core.Bool.{Bool, _||_}
-use Prim.Native.Nat.{ℕ}
-use lib.Dec.{leb}
+use Rattle.kit.specs.Names.{Bool, _||_, ℕ, leb}
 use Rattle.definitions.specs.Basics.{any}
 use Rattle.definitions.specs.ContractFile.{FieldRecord, FunctionRecord, NodeRecord, fieldOf, Kind, constantKind, meKind, fieldKind}
 use Rattle.definitions.specs.ContractFile.{entryKind, parameterKind, operatorKind, negationKind, revealKind, skipKind, sequenceKind}

@@ -1,10 +1,5 @@
 -- The first of the sentences 5 to 7 that holds.
-use mathlib.Core.Path.{_≡_, _∙_}
-use mathlib.Core.Bool.{Bool, cond, _||_, or-comm}
-use mathlib.Core.List.{List, [], _∷_, map}
-use Prim.Native.Nat.{ℕ, _/_, _≤_}
-use native.Mathlib.Omega.{arith}
-use lib.ListN.{length}
+use Rattle.kit.specs.Names.{_≡_, _∙_, Bool, cond, _||_, or-comm, List, [], _∷_, map, ℕ, _/_, _≤_, arith, length}
 use Rattle.definitions.specs.Basics.{any, flatMap, firstThatHolds}
 use Rattle.definitions.specs.ContractFile.{FunctionRecord, Sections}
 use Rattle.definitions.specs.Numbers.{usedOtherThanOnce, tooDeep, wrongSort}

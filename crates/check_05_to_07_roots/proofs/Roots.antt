@@ -1,8 +1,5 @@
 -- The loop over the roots.
-use mathlib.Core.Path.{_≡_, ap, _∙_}
-use mathlib.Core.Bool.{Bool, cond, _||_}
-use mathlib.Core.List.{List, [], _∷_}
-use Prim.Native.Nat.{ℕ, _+_, _-_, _<_, _≤_}
+use Rattle.kit.specs.Names.{_≡_, ap, _∙_, Bool, cond, _||_, List, [], _∷_, ℕ, _+_, _-_, _<_, _≤_}
 use Rattle.definitions.specs.Basics.{any, firstThatHolds}
 use Rattle.definitions.specs.ContractFile.{FunctionRecord}
 use Rattle.file_children.proofs.Loops.{noted-next, noted-done}

@@ -1,13 +1,6 @@
 -- The loops that count uses: what is left to count leads to the same counts.
-use mathlib.Core.Path.{_≡_, refl, ap, sym, _∙_}
-use mathlib.Core.Bool.{Bool, true, false, not, _||_}
-use mathlib.Core.List.{List, [], _∷_, _++_, map}
-use Prim.Native.Nat.{ℕ, zero, suc, _+_, _*_, _-_, _<_, _≤_}
-use native.Mathlib.Numerals.{add-one}
-use native.Mathlib.Omega.{arith}
-use lib.Dec.{eqb}
-use lib.ListN.{length, getD, take, replicate, getD-replicate}
-use borrow.Author.Tests.{eq-eqb, ne-eqb}
+use Rattle.kit.specs.Names.{_≡_, refl, ap, sym, _∙_, Bool, true, false, not, _||_, List, [], _∷_, _++_, map, ℕ, zero, suc, _+_, _*_, _-_}
+use Rattle.kit.specs.Names.{_<_, _≤_, arith, add-one, eqb, length, getD, take, replicate, getD-replicate, eq-eqb, ne-eqb}
 use Rattle.definitions.specs.Basics.{anyNumbered, countIf, flatMap}
 use Rattle.definitions.specs.ContractFile.{NodeRecord, Sections, nodeOf, children}
 use Rattle.definitions.specs.Numbers.{usesOf, usedOtherThanOnce}

@@ -1,13 +1,6 @@
 -- Counts of uses: one more, none, and one after the other.
-use mathlib.Core.Path.{_≡_, refl, _∙_}
-use mathlib.Core.Bool.{Bool, true, false, cond}
-use mathlib.Core.List.{List, [], _∷_, _++_}
-use Prim.Native.Nat.{ℕ, _+_, _<_, _≤_}
-use native.Mathlib.Omega.{arith}
-use lib.Dec.{eqb}
-use lib.ListN.{length, getD, set, length-set}
-use lib.Seq.{getD-set-same, getD-set-other}
-use borrow.Author.Tests.{eqb-true, eqb-false}
+use Rattle.kit.specs.Names.{_≡_, refl, _∙_, Bool, true, false, cond, List, [], _∷_, _++_, ℕ, _+_, _<_, _≤_, arith, eqb, length, getD, set}
+use Rattle.kit.specs.Names.{length-set, getD-set-same, getD-set-other, eqb-true, eqb-false}
 use Rattle.definitions.specs.Basics.{countIf}
 use Rattle.definitions.specs.ContractFile.{NodeRecord, nodeOf, children}
 use Rattle.theory_laws.proofs.Lists.{count-append, count-length}

@@ -1,10 +1,5 @@
 -- 01, number 5: counts of uses, one for each node that there can be.
-use mathlib.Core.Path.{_≡_}
-use mathlib.Core.Bool.{Bool, false, not, _||_}
-use mathlib.Core.List.{List}
-use Prim.Native.Nat.{ℕ, zero, suc, _+_, _<_, _≤_}
-use lib.Dec.{eqb}
-use lib.ListN.{length, getD}
+use Rattle.kit.specs.Names.{_≡_, Bool, false, not, _||_, List, ℕ, zero, suc, _+_, _<_, _≤_, eqb, length, getD}
 use Rattle.definitions.specs.Basics.{countIf}
 use Rattle.definitions.specs.ContractFile.{FunctionRecord, NodeRecord, nodeOf, children}
 

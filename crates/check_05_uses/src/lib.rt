@@ -1,8 +1,6 @@
 // Number 5: "A node is used other than once, as a root or a child."
 use file_bytes::Node;
-ghost use mathlib.Core.Path.{_≡_};
-ghost use mathlib.Core.List.{[], _∷_};
-ghost use Prim.Native.Nat.{_≤_};
+ghost use Rattle.kit.specs.Names.{_≡_, [], _∷_, _≤_};
 ghost use Rattle.definitions.specs.ContractFile.{nodeOf, children};
 ghost use Rattle.file_bytes.specs.Node.{recordOf};
 ghost use Rattle.file_children.specs.Children.{childCount};

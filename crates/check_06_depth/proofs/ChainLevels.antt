@@ -1,14 +1,6 @@
 -- Chains of nodes whose children are below them: levels that are enough give the same length.
-use mathlib.Core.Path.{_≡_, refl, ap, sym, _∙_}
-use mathlib.Core.Bool.{Bool, true, false}
-use mathlib.Core.List.{List, [], _∷_, map}
-use Prim.Native.Nat.{ℕ, zero, suc, _+_, _<_, _≤_}
-use native.Mathlib.Nat.{max-le}
-use native.Mathlib.Omega.{arith}
-use lib.Dec.{eqb, leb}
-use lib.ListN.{length, set, length-set}
-use lib.Seq.{getD-set-same, getD-set-other}
-use borrow.Author.Tests.{eqb-true, eqb-false, leb-false}
+use Rattle.kit.specs.Names.{_≡_, refl, ap, sym, _∙_, Bool, true, false, List, [], _∷_, map, ℕ, zero, suc, _+_, _<_, _≤_, arith, max-le, eqb}
+use Rattle.kit.specs.Names.{leb, length, set, length-set, getD-set-same, getD-set-other, eqb-true, eqb-false, leb-false}
 use Rattle.definitions.specs.Basics.{any, largest}
 use Rattle.definitions.specs.ContractFile.{Node, nodeAt, children, chainLength}
 use Rattle.file_children.proofs.Truth.{either-false}

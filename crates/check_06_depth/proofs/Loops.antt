@@ -1,12 +1,6 @@
 -- A node's chain by how many children it has, and the loop that notes depths.
-use mathlib.Core.Path.{_≡_, refl, ap, sym, _∙_}
-use mathlib.Core.Bool.{Bool, true, false}
-use mathlib.Core.List.{List, [], _∷_, map}
-use Prim.Native.Nat.{ℕ, suc, _+_, _*_, _<_, _≤_, max}
-use native.Mathlib.Omega.{arith}
-use lib.Dec.{leb, ltb}
-use lib.ListN.{length, set, replicate, length-map, List·getD-eq-default}
-use borrow.Author.Tests.{lt-leb, ltb-true, ltb-false}
+use Rattle.kit.specs.Names.{_≡_, refl, ap, sym, _∙_, Bool, true, false, List, [], _∷_, map, ℕ, suc, _+_, _*_, _<_, _≤_, max, arith, leb}
+use Rattle.kit.specs.Names.{ltb, length, set, replicate, length-map, List·getD-eq-default, lt-leb, ltb-true, ltb-false}
 use Rattle.definitions.specs.Basics.{all, any, largest}
 use Rattle.definitions.specs.ContractFile.{NodeRecord, FunctionRecord, Sections, Node as Form, unknownNode, nodeOf, nodeAt, children, expressionParts, statementParts, chainLength}
 use Rattle.definitions.specs.Numbers.{namesNothing, tooDeep}

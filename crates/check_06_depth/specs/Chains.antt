@@ -1,10 +1,5 @@
 -- 01, number 6: the depths of nodes, one for each node that there can be.
-use mathlib.Core.Path.{_≡_}
-use mathlib.Core.Bool.{Bool, false}
-use mathlib.Core.List.{List}
-use Prim.Native.Nat.{ℕ, suc, _<_, _≤_}
-use lib.Dec.{leb, ltb}
-use lib.ListN.{length, getD}
+use Rattle.kit.specs.Names.{_≡_, Bool, false, List, ℕ, suc, _<_, _≤_, leb, ltb, length, getD}
 use Rattle.definitions.specs.Basics.{any}
 use Rattle.definitions.specs.ContractFile.{FunctionRecord, Node, nodeAt, children, chainLength}
 

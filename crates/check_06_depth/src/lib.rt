@@ -1,8 +1,6 @@
 // Number 6: "A chain from root to leaf has more than 64 nodes."
 use file_bytes::Node;
-ghost use mathlib.Core.Path.{_≡_};
-ghost use mathlib.Core.List.{map};
-ghost use Prim.Native.Nat.{suc, _≤_, max};
+ghost use Rattle.kit.specs.Names.{_≡_, map, suc, _≤_, max};
 ghost use Rattle.definitions.specs.Basics.{largest};
 ghost use Rattle.definitions.specs.ContractFile.{nodeOf, children};
 ghost use Rattle.file_bytes.specs.Node.{recordOf};

@@ -1,12 +1,6 @@
 -- The sort of a node that is looked up, a node's children by its kind, and the loop over the nodes.
-use mathlib.Core.Path.{_≡_, refl, ap, sym, _∙_}
-use mathlib.Core.Bool.{Bool, true, false, not, _&&_, _||_}
-use mathlib.Core.List.{List}
-use Prim.Native.Nat.{ℕ, _+_, _*_, _-_, _/_, _<_, _≤_}
-use native.Mathlib.Omega.{arith}
-use lib.Dec.{ltb}
-use lib.ListN.{length}
-use borrow.Author.Tests.{lt-ltb, le-ltb}
+use Rattle.kit.specs.Names.{_≡_, refl, ap, sym, _∙_, Bool, true, false, not, _&&_, _||_, List, ℕ, _+_, _*_, _-_, _/_, _<_, _≤_, arith, ltb}
+use Rattle.kit.specs.Names.{length, lt-ltb, le-ltb}
 use Rattle.definitions.specs.Basics.{any}
 use Rattle.definitions.specs.ContractFile.{NodeRecord, Kind, constantKind, meKind, fieldKind, entryKind, parameterKind, operatorKind, negationKind, revealKind, skipKind, sequenceKind, assignFieldKind, assignEntryKind, requireKind, conditionalKind, noKind, kindOf, Node, nodeOf, nodeOfKind, nodeAt, isExpression, isStatement, expressionParts, statementParts}
 use Rattle.definitions.specs.Numbers.{wrongSort}

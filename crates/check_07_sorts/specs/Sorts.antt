@@ -1,8 +1,5 @@
 -- 01, number 7: roots and children of another sort than is due.
-use mathlib.Core.Bool.{Bool, cond, not, _||_}
-use mathlib.Core.List.{List, map}
-use Prim.Native.Nat.{ℕ, _/_}
-use lib.ListN.{length}
+use Rattle.kit.specs.Names.{Bool, cond, not, _||_, List, map, ℕ, _/_, length}
 use Rattle.definitions.specs.Basics.{any}
 use Rattle.definitions.specs.ContractFile.{FunctionRecord, Node, nodeOf, nodeAt, isExpression, isStatement, expressionParts, statementParts}
 use Rattle.file_decoded.specs.Slices.{nodesFrom}

@@ -4,7 +4,7 @@ use file_children::expression_count;
 use file_children::is_expression_kind;
 use file_children::is_statement_kind;
 use file_decoded::number_from;
-ghost use mathlib.Core.Path.{_≡_};
+ghost use Rattle.kit.specs.Names.{_≡_};
 ghost use Rattle.definitions.specs.ContractFile.{nodeOf};
 ghost use Rattle.file_bytes.specs.Node.{recordOf};
 ghost use Rattle.file_children.specs.Children.{childCount};

@@ -1,13 +1,6 @@
 -- Numbers 1 and 2 bound the sections, so that the rooms hold them.
-use mathlib.Core.Path.{_≡_, ap, sym, _∙_}
-use mathlib.Core.Bool.{false, _||_}
-use mathlib.Core.List.{List}
-use Prim.Native.Nat.{ℕ, zero, suc, _+_, _*_, _-_, _≤_}
-use native.Mathlib.Omega.{arith}
-use borrow.Author.Tests.{ltb-false, eqb-true, not-false}
-use lib.Dec.{eqb, ltb}
-use lib.ListN.{length, take}
-use lib.Seq.{length-take-le}
+use Rattle.kit.specs.Names.{_≡_, ap, sym, _∙_, false, _||_, List, ℕ, zero, suc, _+_, _*_, _-_, _≤_, arith, eqb, ltb, length, take}
+use Rattle.kit.specs.Names.{length-take-le, ltb-false, eqb-true, not-false}
 use Rattle.definitions.specs.Basics.{any}
 use Rattle.definitions.specs.ContractFile.{byteAt, functionEnd, functionsEnd, functionRecord, functionRecords, fileEnd}
 use Rattle.definitions.specs.Reading.{functionsPassed, nodesBegin, functionsRead}

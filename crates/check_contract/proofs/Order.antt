@@ -1,11 +1,5 @@
 -- Numbers 1 and 2 first, then 3 to 7 of the decoded sections, then 8 to 15.
-use mathlib.Core.Path.{_≡_, refl, ap, sym, _∙_}
-use mathlib.Core.Bool.{Bool, true, false, _||_}
-use mathlib.Core.List.{List, [], _∷_}
-use Prim.Native.Nat.{ℕ, zero, suc, _<_}
-use native.Mathlib.Omega.{arith}
-use lib.Dec.{ltb}
-use lib.ListN.{length}
+use Rattle.kit.specs.Names.{_≡_, refl, ap, sym, _∙_, Bool, true, false, _||_, List, [], _∷_, ℕ, zero, suc, _<_, arith, ltb, length}
 use Rattle.definitions.specs.Basics.{any, isZero, firstThatHolds}
 use Rattle.definitions.specs.ContractFile.{Sections, sectionsOf, contractOf, fieldCount, functionCount, nodeCount}
 use Rattle.definitions.specs.Numbers.{endsWrongly, countOffLimits, outsideTables, namesNothing, usedOtherThanOnce, tooDeep, wrongSort, contractSentences, checkNumber, orElse}

@@ -1,10 +1,5 @@
 -- The decoded nodes are a source, and stand at the front of the room.
-use mathlib.Core.Path.{_≡_, refl, ap, _∙_}
-use mathlib.Core.List.{List, _++_}
-use Prim.Native.Nat.{ℕ, _+_, _*_}
-use native.Mathlib.Omega.{arith}
-use lib.ListN.{length, take}
-use lib.Seq.{take-at}
+use Rattle.kit.specs.Names.{_≡_, refl, ap, _∙_, List, _++_, ℕ, _+_, _*_, arith, length, take, take-at}
 use Rattle.definitions.specs.ContractFile.{Sections, nodeCount}
 use Rattle.file_bytes.specs.declared.Layout.{Layout}
 use Rattle.file_bytes.specs.Layout.{IsLayout}

@@ -1,10 +1,5 @@
 -- 01, Numbers: the sentences 3 to 15, which are told of a file's sections; and the slices that a file is decoded into.
-use mathlib.Core.Path.{_≡_}
-use mathlib.Core.Bool.{false}
-use mathlib.Core.List.{List, _∷_}
-use Prim.Native.Nat.{ℕ, _*_, _/_, _≤_}
-use lib.Dec.{ltb}
-use lib.ListN.{length}
+use Rattle.kit.specs.Names.{_≡_, false, List, _∷_, ℕ, _*_, _/_, _≤_, ltb, length}
 use Rattle.definitions.specs.Basics.{any, firstThatHolds}
 use Rattle.definitions.specs.ContractFile.{Sections, contractOf}
 use Rattle.definitions.specs.Numbers.{endsWrongly, countOffLimits, outsideTables, namesNothing, usedOtherThanOnce, tooDeep, wrongSort}

@@ -1,8 +1,5 @@
 -- What the test of a number tells of the number.
-use mathlib.Core.Path.{_≡_, sym, _∙_}
-use mathlib.Core.Bool.{Bool, true, false, not}
-use Prim.Native.Nat.{ℕ}
-use borrow.Author.Tests.{eqb-true, eqb-false, not-true, not-false}
+use Rattle.kit.specs.Names.{_≡_, sym, _∙_, Bool, true, false, not, ℕ, eqb-true, eqb-false, not-true, not-false}
 use Rattle.definitions.specs.Basics.{isZero}
 
 module _ (number : ℕ) (refused : Bool) (tested : refused ≡ not (isZero number)) where

@@ -1,6 +1,5 @@
 // 01, Numbers: "0 means accepted": what every entry asks of a number before it goes on.
-ghost use mathlib.Core.Path.{_≡_};
-ghost use mathlib.Core.Bool.{not};
+ghost use Rattle.kit.specs.Names.{_≡_, not};
 ghost use Rattle.definitions.specs.Basics.{isZero};
 
 // Whether a number refuses. Wrong programs that this rules out: one that makes a call, or writes, reports or passes a file, that a number

@@ -1,13 +1,6 @@
 -- Where sections lie in a file that ends right, and the part that is handed back.
-use mathlib.Core.Path.{_≡_, refl, sym, _∙_}
-use mathlib.Core.Bool.{Bool, true, false}
-use mathlib.Core.List.{List, [], _∷_}
-use Prim.Native.Nat.{ℕ, zero, suc, _+_, _-_, _≤_}
-use native.Mathlib.Omega.{arith}
-use lib.Dec.{eqb, ltb}
-use lib.ListN.{length, take, drop, length-drop}
-use lib.Seq.{slice, take-all}
-use borrow.Author.Tests.{eqb-true, ltb-false, not-false, ne-eqb}
+use Rattle.kit.specs.Names.{_≡_, refl, sym, _∙_, Bool, true, false, List, [], _∷_, ℕ, zero, suc, _+_, _-_, _≤_, arith, eqb, ltb, length}
+use Rattle.kit.specs.Names.{take, drop, length-drop, slice, take-all, eqb-true, ltb-false, not-false, ne-eqb}
 use Rattle.definitions.specs.Basics.{firstThatHolds}
 use Rattle.definitions.specs.ContractFile.{functionEnd, functionsAt, functionCount, functionsEnd, fileEnd, sectionPart}
 use Rattle.definitions.specs.Reading.{functionsPassed, nodesBegin, partRead}

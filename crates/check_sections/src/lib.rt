@@ -2,7 +2,7 @@
 use check_01_02_counts::count_off_limits;
 use check_01_02_counts::ends_wrongly;
 use file_bytes::read_layout;
-ghost use mathlib.Core.Path.{_≡_};
+ghost use Rattle.kit.specs.Names.{_≡_};
 ghost use Rattle.definitions.specs.Numbers.{sectionNumber, sectionAnswer};
 
 // The number given for a request of section n.

@@ -1,12 +1,6 @@
 -- A file of number 0 is short enough for a ledger: "0 to 64" fields, "1 to 16" functions of at most 8 parameters, at most 512 nodes.
-use mathlib.Core.Path.{_≡_, ap, sym, _∙_}
-use mathlib.Core.Bool.{Bool, false, _||_}
-use mathlib.Core.List.{List}
-use Prim.Native.Nat.{ℕ, zero, suc, _+_, _*_, _≤_}
-use native.Mathlib.Omega.{arith}
-use borrow.Author.Tests.{eqb-true, ltb-false, not-false}
-use lib.Dec.{eqb, ltb}
-use lib.ListN.{length}
+use Rattle.kit.specs.Names.{_≡_, ap, sym, _∙_, Bool, false, _||_, List, ℕ, zero, suc, _+_, _*_, _≤_, arith, eqb, ltb, length, eqb-true}
+use Rattle.kit.specs.Names.{ltb-false, not-false}
 use Rattle.definitions.specs.Basics.{any, isZero}
 use Rattle.definitions.specs.ContractFile.{FunctionRecord, byteAt, fieldCount, functionCount, functionsAt, functionEnd, functionsEnd, nodeCount, fileEnd, parameterRecords, functionRecord, functionRecords, sectionsOf}
 use Rattle.definitions.specs.Reading.{functionsPassed, nodesBegin, functionsRead}

@@ -1,8 +1,5 @@
 -- What a deployment hands back.
-use mathlib.Core.Path.{_≡_}
-use mathlib.Core.Bool.{cond}
-use mathlib.Core.List.{List, []}
-use Prim.Native.Nat.{ℕ}
+use Rattle.kit.specs.Names.{_≡_, cond, List, [], ℕ}
 use Rattle.definitions.specs.Basics.{isZero}
 use Rattle.definitions.specs.Ledger as ledger
 use Rattle.definitions.specs.Ledger.{deployNumber, deployed}

@@ -1,14 +1,6 @@
 -- Number 17 by counting finals and looking at each address, and the file's own number before it.
-use mathlib.Core.Path.{_≡_, refl, _∙_}
-use mathlib.Core.Bool.{Bool, true, false, _||_, cond, not}
-use mathlib.Core.List.{List, _∷_}
-use Prim.Native.Nat.{ℕ, zero, suc, _+_, _<_, _≤_}
-use native.Mathlib.Numerals.{add-one}
-use native.Mathlib.Omega.{arith}
-use borrow.Author.Tests.{eq-eqb, ne-eqb, lt-ltb, le-ltb}
-use lib.Dec.{eqb, ltb}
-use lib.ListN.{length, getD, drop, drop-of-length-le}
-use lib.Seq.{drop-cons}
+use Rattle.kit.specs.Names.{_≡_, refl, _∙_, Bool, true, false, _||_, cond, not, List, _∷_, ℕ, zero, suc, _+_, _<_, _≤_, arith, add-one, eqb}
+use Rattle.kit.specs.Names.{ltb, length, getD, drop, drop-of-length-le, drop-cons, eq-eqb, ne-eqb, lt-ltb, le-ltb}
 use Rattle.definitions.specs.Basics.{any, countIf, firstThatHolds}
 use Rattle.definitions.specs.ContractFile.{Field, fieldAt, isFinal, contractIn}
 use Rattle.definitions.specs.Numbers.{checkNumber, orElse}

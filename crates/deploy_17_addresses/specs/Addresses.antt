@@ -1,6 +1,5 @@
 -- 01, Numbers: number 17 by itself, before the file's own number is asked.
-use mathlib.Core.List.{List, [], _∷_}
-use Prim.Native.Nat.{ℕ}
+use Rattle.kit.specs.Names.{List, [], _∷_, ℕ}
 use Rattle.definitions.specs.Basics.{firstThatHolds}
 use Rattle.definitions.specs.ContractFile.{contractIn}
 use Rattle.definitions.specs.Ledger.{finalsOff}

@@ -1,11 +1,8 @@
 // "17. Deployment gives other than one address, 0 to 15, for each final."
 use file_kinds::FINAL;
-ghost use mathlib.Core.Path.{_≡_};
-ghost use mathlib.Core.Bool.{cond};
-ghost use Prim.Native.Nat.{_<_, _≤_};
+ghost use Rattle.kit.specs.Names.{_≡_, cond, _<_, _≤_, ltb};
 ghost use Rattle.definitions.specs.Basics.{any, countIf};
 ghost use Rattle.definitions.specs.ContractFile.{fieldAt, isFinal, fieldCount};
-ghost use lib.Dec.{ltb};
 ghost use Rattle.file_accepted.specs.Context.{fieldsIn};
 ghost use Rattle.deploy_17_addresses.specs.Addresses.{addressesNumber};
 

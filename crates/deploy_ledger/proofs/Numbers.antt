@@ -1,15 +1,7 @@
 -- The numbers of all places at deployment, field by field.
-use mathlib.Core.Path.{_≡_, refl, ap, sym, _∙_}
-use mathlib.Core.Bool.{Bool, true, false}
-use mathlib.Core.List.{List, [], _∷_, _++_}
-use Prim.Native.Nat.{ℕ, zero, suc, _+_, _*_, _-_, _<_, _≤_}
-use native.Mathlib.Numerals.{add-one}
-use native.Mathlib.Nat.{add-zero}
-use native.Mathlib.Omega.{arith}
-use borrow.Author.Tests.{ne-eqb}
-use lib.Dec.{eqb}
-use lib.ListN.{length, getD, set, drop, replicate, length-append, length-replicate, drop-of-length-le}
-use lib.Seq.{drop-cons, drop-drop, getD-drop}
+use Rattle.kit.specs.Names.{_≡_, refl, ap, sym, _∙_, Bool, true, false, List, [], _∷_, _++_, ℕ, zero, suc, _+_, _*_, _-_, _<_, _≤_, arith}
+use Rattle.kit.specs.Names.{add-one, add-zero, eqb, length, getD, set, drop, replicate, length-append, length-replicate, drop-of-length-le}
+use Rattle.kit.specs.Names.{drop-cons, drop-drop, getD-drop, ne-eqb}
 use Rattle.memory_buffer.specs.Buffer.{stored}
 use Rattle.memory_buffer.proofs.Storing.{stored-one, stored-then, stored-nothing}
 use Rattle.definitions.specs.ContractFile.{Field, fieldAt, isFinal, byteAt, fieldCount, shapeOf, fieldOf}

@@ -1,11 +1,6 @@
 -- The numbers at deployment are one a place and bytes, and the parts of the deployed ledger.
-use mathlib.Core.Path.{_≡_, refl, ap, sym, _∙_}
-use mathlib.Core.Bool.{Bool, true, false, cond}
-use mathlib.Core.List.{List, [], _∷_, _++_, map, zipWith}
-use Prim.Native.Nat.{ℕ, zero, suc, _+_, _<_, _≤_}
-use native.Mathlib.Omega.{arith}
-use lib.ListN.{length, getD, drop, replicate, length-append, length-map, length-replicate}
-use lib.Seq.{getD-drop}
+use Rattle.kit.specs.Names.{_≡_, refl, ap, sym, _∙_, Bool, true, false, cond, List, [], _∷_, _++_, map, zipWith, ℕ, zero, suc, _+_, _<_}
+use Rattle.kit.specs.Names.{_≤_, arith, length, getD, drop, replicate, length-append, length-map, length-replicate, getD-drop}
 use Rattle.theory_laws.proofs.Lists.{numbers-length}
 use Rattle.definitions.specs.ContractFile.{Field, Shape, plainField, finalField, mapping, isFinal, isMapping, contractOf, fieldCount, contractIn}
 use Rattle.definitions.specs.Original.{numbersFrom, placeCount, perPlace, placeReaders, deployedNumbers}

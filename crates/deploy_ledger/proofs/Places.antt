@@ -1,11 +1,7 @@
 -- The contents of all places at deployment, field by field and key by key.
-use mathlib.Core.Path.{_≡_, refl, ap, sym, _∙_, subst}
-use mathlib.Core.List.{List, [], _∷_, _++_, map, zipWith, append-nil, append-assoc}
-use Prim.Native.Nat.{ℕ, suc, _+_, _-_, _<_, _≤_}
-use native.Mathlib.Numerals.{add-one}
-use native.Mathlib.Omega.{arith}
-use lib.ListN.{length, getD, set, take, drop, replicate, length-append, length-map, length-drop, drop-of-length-le}
-use lib.Seq.{drop-cons, drop-drop, take-suc-set, append-snoc, length-take-le}
+use Rattle.kit.specs.Names.{_≡_, refl, ap, sym, _∙_, subst, List, [], _∷_, _++_, map, zipWith, append-nil, append-assoc, ℕ, suc, _+_, _-_}
+use Rattle.kit.specs.Names.{_<_, _≤_, arith, add-one, length, getD, set, take, drop, replicate, length-append, length-map, length-drop}
+use Rattle.kit.specs.Names.{drop-of-length-le, drop-cons, drop-drop, take-suc-set, append-snoc, length-take-le}
 use Rattle.definitions.specs.ContractFile.{Field, FieldOwner, toEveryone, toKey, toFinal, fieldAt}
 use Rattle.definitions.specs.Original as original
 use Rattle.definitions.specs.Original.{numbersFrom, placeCount, perPlace, placeReader, finalAddress}

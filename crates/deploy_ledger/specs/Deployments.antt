@@ -1,8 +1,5 @@
 -- What the parts of a deployment write.
-use mathlib.Core.Path.{_≡_}
-use mathlib.Core.List.{List, _++_, map, zipWith}
-use Prim.Native.Nat.{ℕ, _+_, _<_, _≤_}
-use lib.ListN.{length, getD, drop}
+use Rattle.kit.specs.Names.{_≡_, List, _++_, map, zipWith, ℕ, _+_, _<_, _≤_, length, getD, drop}
 use Rattle.memory_buffer.specs.Buffer.{stored}
 use Rattle.definitions.specs.ContractFile.{Field, fieldAt, fieldCount}
 use Rattle.definitions.specs.Original.{Reader, numbersFrom, placeReader, placeReaders, finalAddress}

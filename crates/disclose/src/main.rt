@@ -10,8 +10,7 @@ use program_input::script_room;
 use program_input::short_script_room;
 use program_output::print;
 use program_output::print_refused;
-ghost use mathlib.Core.Path.{_≡_};
-ghost use lib.ListN.{length};
+ghost use Rattle.kit.specs.Names.{_≡_, length};
 
 // A call discloses at most as many values as a file has nodes.
 fn value_room() -> [u32; 512]

@@ -1,6 +1,5 @@
 // 01, Runs and views: "of an if the condition and the taken branch; a false require fails the call": what a condition's value decides.
-ghost use mathlib.Core.Path.{_≡_};
-ghost use mathlib.Core.Bool.{cond, _&&_};
+ghost use Rattle.kit.specs.Names.{_≡_, cond, _&&_};
 ghost use Rattle.definitions.specs.Basics.{isTrue};
 
 // The branch of an if that is taken.

@@ -1,9 +1,5 @@
 -- What the body of a called function discloses is what the call would disclose, and no more values than a file has nodes.
-use mathlib.Core.Path.{_≡_, refl, ap, sym, _∙_}
-use mathlib.Core.List.{List, [], _∷_, map}
-use Prim.Native.Nat.{ℕ, zero, suc, _<_, _≤_}
-use native.Mathlib.Omega.{arith}
-use lib.ListN.{length}
+use Rattle.kit.specs.Names.{_≡_, refl, ap, sym, _∙_, List, [], _∷_, map, ℕ, zero, suc, _<_, _≤_, arith, length}
 use Rattle.definitions.specs.ContractFile.{Name, meName, Field, Function, functionAt, sectionsOf, contractOf}
 use Rattle.definitions.specs.Original.{addressIn, disclosedBy, originalDiscloses, callAddress}
 use Rattle.definitions.specs.Ledger.{Ledger, openedNumber, callNumber}

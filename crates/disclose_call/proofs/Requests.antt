@@ -1,12 +1,6 @@
 -- The cases of a request for a call's disclosures.
-use mathlib.Core.Path.{_≡_, refl, ap, sym, _∙_}
-use mathlib.Core.Bool.{Bool, true, false, cond, _||_}
-use mathlib.Core.List.{List, [], _∷_, _++_}
-use Prim.Native.Nat.{ℕ, _≤_}
-use native.Mathlib.Nat.{zero-add}
-use borrow.Author.Tests.{ne-eqb, le-ltb}
-use lib.Dec.{eqb, ltb}
-use lib.ListN.{length, take, drop}
+use Rattle.kit.specs.Names.{_≡_, refl, ap, sym, _∙_, Bool, true, false, cond, _||_, List, [], _∷_, _++_, ℕ, _≤_, zero-add, eqb, ltb, length}
+use Rattle.kit.specs.Names.{take, drop, ne-eqb, le-ltb}
 use Rattle.definitions.specs.Basics.{firstThatHolds}
 use Rattle.definitions.specs.Numbers.{orElse}
 use Rattle.definitions.specs.Ledger as ledger

@@ -1,8 +1,5 @@
 -- 01, Runs and views: what a request for a call's disclosures gives.
-use mathlib.Core.Path.{_≡_}
-use mathlib.Core.List.{List}
-use Prim.Native.Nat.{ℕ, _<_, _≤_}
-use lib.ListN.{length}
+use Rattle.kit.specs.Names.{_≡_, List, ℕ, _<_, _≤_, length}
 use Rattle.definitions.specs.ContractFile.{nodeCount}
 use Rattle.definitions.specs.Numbers.{checkNumber}
 use Rattle.definitions.specs.Original.{addressIn, disclosedBy}

@@ -1,12 +1,6 @@
 -- What an expression discloses by its kind, as code learns it from what its parts disclose.
-use mathlib.Core.Path.{_≡_, refl, ap, sym, _∙_}
-use mathlib.Core.Bool.{Bool, true, false, cond, _&&_}
-use mathlib.Core.List.{List, [], _∷_, _++_}
-use Prim.Native.Nat.{ℕ, _+_, _<_, _≤_}
-use native.Mathlib.Omega.{arith}
-use borrow.Author.Tests.{eqb-true, eqb-false}
-use lib.Dec.{eqb}
-use lib.ListN.{length}
+use Rattle.kit.specs.Names.{_≡_, refl, ap, sym, _∙_, Bool, true, false, cond, _&&_, List, [], _∷_, _++_, ℕ, _+_, _<_, _≤_, arith, eqb}
+use Rattle.kit.specs.Names.{length, eqb-true, eqb-false}
 use Rattle.definitions.specs.ContractFile.{meName, Owner, Operator, Expression, NodeRecord, nodeCount}
 use Rattle.definitions.specs.Original.{isWorkedOut, operates, mayRead, readerOf, disclosed}
 use Rattle.theory_trees.specs.Trees.{expressionIn}

@@ -1,10 +1,5 @@
 -- Values appended in turn, where what comes second is appended only if what comes first went through.
-use mathlib.Core.Path.{_≡_, ap, _∙_}
-use mathlib.Core.Bool.{Bool, true, false, cond}
-use mathlib.Core.List.{List, [], _++_, append-nil}
-use Prim.Native.Nat.{ℕ, _+_, _≤_}
-use native.Mathlib.Omega.{arith}
-use lib.ListN.{length, length-append}
+use Rattle.kit.specs.Names.{_≡_, ap, _∙_, Bool, true, false, cond, List, [], _++_, append-nil, ℕ, _+_, _≤_, arith, length, length-append}
 use Rattle.memory_append.specs.Append.{Appended}
 use Rattle.memory_append.proofs.Appending.{appended-then, room-then}
 

@@ -1,6 +1,5 @@
 -- Cases that pin what a line is: "0 7 4294967295", and a refused call's.
-use mathlib.Core.Path.{_≡_, refl}
-use mathlib.Core.List.{[], _∷_}
+use Rattle.kit.specs.Names.{_≡_, refl, [], _∷_}
 use Rattle.definitions.specs.Basics.{flatMap}
 use Rattle.definitions.specs.Report.{digits}
 use Rattle.disclose_lines.specs.Lines.{disclosedLine}

@@ -1,11 +1,6 @@
 -- Values in decimal, each after a space, appended one after another.
-use mathlib.Core.Path.{_≡_}
-use mathlib.Core.List.{List, [], _∷_, _++_}
-use Prim.Native.Nat.{ℕ, _+_, _*_, _<_, _≤_}
-use native.Mathlib.Numerals.{add-one}
-use native.Mathlib.Omega.{arith}
-use lib.ListN.{length, getD, drop, drop-of-length-le, length-append}
-use lib.Seq.{drop-cons}
+use Rattle.kit.specs.Names.{_≡_, List, [], _∷_, _++_, ℕ, _+_, _*_, _<_, _≤_, arith, add-one, length, getD, drop, drop-of-length-le}
+use Rattle.kit.specs.Names.{length-append, drop-cons}
 use Rattle.definitions.specs.Basics.{flatMap}
 use Rattle.memory_append.specs.Append.{Appended, Appending}
 use Rattle.memory_append.proofs.Appending.{appending-start, appending-next, appending-done}

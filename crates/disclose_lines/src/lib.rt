@@ -1,8 +1,7 @@
 // The lines that `disclose` prints: a number in decimal, each disclosed value in decimal after a space, a line feed.
 use memory_append::append_byte;
 use report_text::append_digits;
-ghost use Prim.Native.Nat.{_+_, _*_, _≤_};
-ghost use lib.ListN.{length};
+ghost use Rattle.kit.specs.Names.{_+_, _*_, _≤_, length};
 ghost use Rattle.definitions.specs.Basics.{flatMap};
 ghost use Rattle.memory_append.specs.Append.{Appended};
 ghost use Rattle.disclose_lines.specs.Lines.{spacedValue, disclosedLine, LineWritten};

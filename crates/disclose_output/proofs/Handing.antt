@@ -1,11 +1,6 @@
 -- Disclosed values copied into the lent output, or not begun.
-use mathlib.Core.Path.{_≡_, refl, sym, _∙_}
-use mathlib.Core.List.{List, _++_}
-use Prim.Native.Nat.{ℕ, _+_, _<_, _≤_}
-use native.Mathlib.Nat.{zero-add}
-use native.Mathlib.Omega.{arith}
-use borrow.Author.Tests.{lt-ltb, le-ltb}
-use lib.ListN.{length, getD, set, take, drop}
+use Rattle.kit.specs.Names.{_≡_, refl, sym, _∙_, List, _++_, ℕ, _+_, _<_, _≤_, arith, zero-add, length, getD, set, take, drop, lt-ltb}
+use Rattle.kit.specs.Names.{le-ltb}
 use Rattle.memory_buffer.specs.Buffer.{stored}
 use Rattle.memory_buffer.proofs.Storing.{stored-one}
 use Rattle.memory_append.proofs.Appending.{copied-next}

@@ -1,11 +1,5 @@
 -- What the number that refuses before all else tells of the call's number and of the party.
-use mathlib.Core.Path.{_≡_, refl, sym, _∙_}
-use mathlib.Core.Bool.{Bool, true, false, _||_}
-use mathlib.Core.List.{[], _∷_}
-use Prim.Native.Nat.{ℕ, zero, suc, _≤_}
-use native.Mathlib.Omega.{arith}
-use borrow.Author.Tests.{ltb-false}
-use lib.Dec.{ltb}
+use Rattle.kit.specs.Names.{_≡_, refl, sym, _∙_, Bool, true, false, _||_, [], _∷_, ℕ, zero, suc, _≤_, arith, ltb, ltb-false}
 use Rattle.definitions.specs.Basics.{firstThatHolds}
 use Rattle.definitions.specs.Numbers.{orElse}
 

@@ -1,10 +1,5 @@
 -- 01, Runs and views: disclosed values in the lent output.
-use mathlib.Core.Path.{_≡_}
-use mathlib.Core.Bool.{cond}
-use mathlib.Core.List.{List, _++_}
-use Prim.Native.Nat.{ℕ}
-use lib.Dec.{ltb}
-use lib.ListN.{length, drop}
+use Rattle.kit.specs.Names.{_≡_, cond, List, _++_, ℕ, ltb, length, drop}
 use Rattle.memory_answer.specs.declared.Answer.{Answer}
 
 -- Values are handed over where there is room for them.

@@ -1,11 +1,7 @@
 // 01, Runs and views: number 21 of a request for a call's disclosures, "its party is above 15, or its output is too short", behind the
 // call's own number; the disclosed values handed over where they fit.
 use memory_answer::Answer;
-ghost use mathlib.Core.Path.{_≡_};
-ghost use mathlib.Core.List.{[], _∷_};
-ghost use Prim.Native.Nat.{_≤_};
-ghost use lib.Dec.{ltb};
-ghost use lib.ListN.{length};
+ghost use Rattle.kit.specs.Names.{_≡_, [], _∷_, _≤_, ltb, length};
 ghost use Rattle.definitions.specs.Basics.{firstThatHolds};
 ghost use Rattle.definitions.specs.Numbers.{orElse};
 ghost use Rattle.memory_buffer.specs.Buffer.{stored};

@@ -1,9 +1,5 @@
 -- Whether a party may read, by the code that a reveal names.
-use mathlib.Core.Path.{_≡_, ap, sym, _∙_}
-use mathlib.Core.Bool.{Bool, true}
-use mathlib.Core.List.{List}
-use Prim.Native.Nat.{ℕ}
-use lib.Dec.{eqb}
+use Rattle.kit.specs.Names.{_≡_, ap, sym, _∙_, Bool, true, List, ℕ, eqb}
 use Rattle.definitions.specs.ContractFile.{ownerOfCode}
 use Rattle.definitions.specs.Original.{only, mayRead, readerOf}
 use Rattle.ledger_circuits.specs.Circuits.{addressFrom}

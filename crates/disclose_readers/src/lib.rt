@@ -1,7 +1,7 @@
 // 01, Runs and views: "Each reveal to all or to the party's address": whether a party is told what a reveal shows.
 use file_kinds::EVERYONE_CODE;
 use walk_claims::address_of;
-ghost use mathlib.Core.Path.{_≡_};
+ghost use Rattle.kit.specs.Names.{_≡_};
 ghost use Rattle.definitions.specs.ContractFile.{ownerOfCode};
 ghost use Rattle.definitions.specs.Original.{mayRead, readerOf};
 ghost use Rattle.ledger_circuits.specs.Circuits.{addressFrom};

@@ -1,9 +1,5 @@
 -- Each reveal discloses at most one value, so a statement discloses no more values than it has nodes.
-use mathlib.Core.Bool.{Bool, true, false, cond, _&&_}
-use mathlib.Core.List.{List, [], _∷_, _++_}
-use Prim.Native.Nat.{ℕ, _+_, _≤_}
-use native.Mathlib.Omega.{arith}
-use lib.ListN.{length, length-append}
+use Rattle.kit.specs.Names.{Bool, true, false, cond, _&&_, List, [], _∷_, _++_, ℕ, _+_, _≤_, arith, length, length-append}
 use Rattle.definitions.specs.Basics.{isTrue}
 use Rattle.definitions.specs.ContractFile.{Name, Field, Expression, Statement}
 use Rattle.definitions.specs.Original.{value, isWorkedOut, placesAfter, completes, mayRead, readerOf, disclosed, disclosedBy}

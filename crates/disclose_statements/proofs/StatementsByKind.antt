@@ -1,10 +1,6 @@
 -- What a statement discloses by its kind, as code learns it from what its parts disclose.
-use mathlib.Core.Path.{_≡_, refl, ap, ap₂, sym, _∙_}
-use mathlib.Core.Bool.{Bool, true, false, cond, _&&_, false≢true}
-use mathlib.Core.List.{List, [], _++_}
-use Prim.Native.Nat.{ℕ, _+_, _<_, _≤_}
-use native.Mathlib.Omega.{arith}
-use lib.ListN.{length, set}
+use Rattle.kit.specs.Names.{_≡_, refl, ap, ap₂, sym, _∙_, Bool, true, false, cond, _&&_, false≢true, List, [], _++_, ℕ, _+_, _<_, _≤_}
+use Rattle.kit.specs.Names.{arith, length, set}
 use Rattle.definitions.specs.Basics.{isTrue}
 use Rattle.definitions.specs.ContractFile.{Expression, Statement}
 use Rattle.definitions.specs.Original.{position, placesAfter, completes, disclosedBy}

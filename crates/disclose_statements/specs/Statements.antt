@@ -1,9 +1,5 @@
 -- 01, Runs and views: what a statement of a file discloses to a party, where addresses stand at their owner codes.
-use mathlib.Core.Path.{_≡_}
-use mathlib.Core.Bool.{Bool, true}
-use mathlib.Core.List.{List}
-use Prim.Native.Nat.{ℕ, _+_, _<_, _≤_}
-use lib.ListN.{length}
+use Rattle.kit.specs.Names.{_≡_, Bool, true, List, ℕ, _+_, _<_, _≤_, length}
 use Rattle.definitions.specs.ContractFile.{Statement, meName, nodeCount}
 use Rattle.definitions.specs.Original.{placesAfter, completes, disclosedBy}
 use Rattle.theory_trees.specs.Trees.{statementIn}

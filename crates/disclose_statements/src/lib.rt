@@ -14,7 +14,7 @@ use file_kinds::REQUIRE;
 use file_kinds::SEQUENCE;
 use ledger_places::position;
 use ledger_places::put_number;
-ghost use mathlib.Core.Path.{_≡_};
+ghost use Rattle.kit.specs.Names.{_≡_};
 ghost use Rattle.theory_trees.specs.Trees.{statementIn};
 ghost use Rattle.file_accepted.specs.Context.{nodesIn};
 ghost use Rattle.honest_values.specs.Values.{kindAt};

@@ -1,12 +1,6 @@
 -- What code may rely on holds of a file of which numbers 2, 3, 4 and 7 say nothing, at each of its functions.
-use mathlib.Core.Path.{_≡_, refl, ap, sym, _∙_}
-use mathlib.Core.Bool.{Bool, true, false, _||_, not}
-use mathlib.Core.List.{List, [], _∷_, map}
-use Prim.Native.Nat.{ℕ, zero, suc, _+_, _*_, _<_, _≤_}
-use native.Mathlib.Omega.{arith}
-use borrow.Author.Tests.{ltb-true, ltb-false, leb-false, not-false}
-use lib.Dec.{leb, ltb}
-use lib.ListN.{length, getD, length-map, List·getD-eq-default}
+use Rattle.kit.specs.Names.{_≡_, refl, ap, sym, _∙_, Bool, true, false, _||_, not, List, [], _∷_, map, ℕ, zero, suc, _+_, _*_, _<_, _≤_}
+use Rattle.kit.specs.Names.{arith, leb, ltb, length, getD, length-map, List·getD-eq-default, ltb-true, ltb-false, leb-false, not-false}
 use Rattle.definitions.specs.Basics.{all, any, anyNumbered, isZero}
 use Rattle.definitions.specs.ContractFile.{FieldRecord, FunctionRecord, NodeRecord, byteAt, fieldCount, functionCount, functionsAt, functionEnd, functionsEnd, nodesAt, nodeCount, fieldRecords, parameterRecords, functionRecord, functionRecords, nodeRecord, sectionsOf, fieldOf, Node, unknownNode, nodeOf, nodeAt, children, expressionParts, statementParts, isExpression, isStatement, fieldsNamed}
 use Rattle.definitions.specs.Reading.{functionsPassed, functionsRead}

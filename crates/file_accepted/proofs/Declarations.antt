@@ -1,10 +1,6 @@
 -- A field and a parameter of the scope, by their number: as the bytes at its place say, or what stands for none.
-use mathlib.Core.Path.{_≡_, _∙_}
-use mathlib.Core.Bool.{true}
-use mathlib.Core.List.{List, map}
-use Prim.Native.Nat.{ℕ, zero, suc, _+_, _*_, _<_, _≤_}
-use native.Mathlib.Omega.{arith}
-use lib.ListN.{getD, length-map, List·getD-eq-default, length}
+use Rattle.kit.specs.Names.{_≡_, _∙_, true, List, map, ℕ, zero, suc, _+_, _*_, _<_, _≤_, arith, getD, length-map, List·getD-eq-default}
+use Rattle.kit.specs.Names.{length}
 use Rattle.definitions.specs.ContractFile.{Field, Parameter, fieldAt, parameterAt, plainField, boolean, toEveryone, byteAt, fieldCount, fieldRecords, parameterRecords, fieldOf, parameterOf}
 use Rattle.definitions.specs.Reading.{fieldsRead, parametersRead}
 use Rattle.theory_laws.proofs.Records.{fields-length, parameters-length}

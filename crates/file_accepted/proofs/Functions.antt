@@ -1,10 +1,5 @@
 -- Function f of a contract, as the bytes at its place say.
-use mathlib.Core.Path.{_≡_, refl, ap, _∙_}
-use mathlib.Core.List.{List, [], map}
-use Prim.Native.Nat.{ℕ, _+_, _<_}
-use mathlib.Core.Bool.{false}
-use native.Mathlib.Omega.{arith}
-use lib.ListN.{length, getD, length-map, List·getD-map}
+use Rattle.kit.specs.Names.{_≡_, refl, ap, _∙_, false, List, [], map, ℕ, _+_, _<_, arith, length, getD, length-map, List·getD-map}
 use Rattle.definitions.specs.ContractFile.{functionAt, FunctionRecord, functionCount, functionsAt, functionRecord, nodeCount, sectionsOf, nodeOf, functionOf, contractOf}
 use Rattle.definitions.specs.Numbers.{namesNothing}
 use Rattle.theory_laws.proofs.Lists.{getD-inside}

@@ -1,12 +1,6 @@
 -- The nodes of a file by number, and that a decoded record is a node's.
-use mathlib.Core.Path.{_≡_, refl, ap, sym, subst, _∙_}
-use mathlib.Core.Bool.{Bool, true, false}
-use mathlib.Core.List.{List, map}
-use Prim.Native.Nat.{ℕ, _+_, _*_, _<_, _≤_}
-use native.Mathlib.Omega.{arith}
-use borrow.Author.Tests.{ltb-true, ltb-false}
-use lib.Dec.{ltb}
-use lib.ListN.{getD, length-map, List·getD-map, List·getD-eq-default, length}
+use Rattle.kit.specs.Names.{_≡_, refl, ap, sym, subst, _∙_, Bool, true, false, List, map, ℕ, _+_, _*_, _<_, _≤_, arith, ltb, getD}
+use Rattle.kit.specs.Names.{length-map, List·getD-map, List·getD-eq-default, length, ltb-true, ltb-false}
 use Rattle.definitions.specs.ContractFile.{Expression, Statement, NodeRecord, nodesAt, nodeCount, nodeRecord, sectionsOf, Kind, kindOf, unknownNode, nodeOfKind, nodeOf, nodeAt}
 use Rattle.definitions.specs.Numbers.{kindInTables}
 use Rattle.theory_trees.specs.Trees.{Keeps, Reads}

@@ -1,9 +1,5 @@
 -- What is known of a file, with its nodes in a slice and without; and the slice that the decoder fills.
-use mathlib.Core.Path.{_≡_, ap, sym, _∙_}
-use mathlib.Core.List.{List}
-use Prim.Native.Nat.{ℕ, zero, suc, _+_, _*_, _/_, _<_}
-use native.Mathlib.Omega.{arith}
-use lib.ListN.{length, getD}
+use Rattle.kit.specs.Names.{_≡_, ap, sym, _∙_, List, ℕ, zero, suc, _+_, _*_, _/_, _<_, arith, length, getD}
 use Rattle.definitions.specs.ContractFile.{NodeRecord, nodesAt, nodeCount, nodeRecords}
 use Rattle.definitions.specs.Numbers.{nodeInTables}
 use Rattle.file_bytes.proofs.ReadingSteps.{getD-nodeRecords}

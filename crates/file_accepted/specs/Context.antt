@@ -1,10 +1,6 @@
 -- What code may rely on when it reads the nodes of a function in an accepted file.
 -- The function begins at a known place; the nodes are decoded.
-use mathlib.Core.Path.{_≡_}
-use mathlib.Core.Bool.{true}
-use mathlib.Core.List.{List, map}
-use Prim.Native.Nat.{ℕ, _+_, _*_, _<_, _≤_}
-use lib.ListN.{length}
+use Rattle.kit.specs.Names.{_≡_, true, List, map, ℕ, _+_, _*_, _<_, _≤_, length}
 use Rattle.definitions.specs.Basics.{all}
 use Rattle.definitions.specs.ContractFile.{Field, Parameter, Scope, FieldRecord, ParameterRecord, byteAt, fieldCount, nodesAt, nodeCount}
 use Rattle.definitions.specs.ContractFile.{nodeRecord, parameterRecords, sectionsOf, fieldOf, parameterOf, Node, nodeOf, nodeAt}

@@ -1,6 +1,5 @@
 -- Where function f of a file begins, and the number of its root node.
-use mathlib.Core.List.{List}
-use Prim.Native.Nat.{ℕ, _+_, _-_}
+use Rattle.kit.specs.Names.{List, ℕ, _+_, _-_}
 use Rattle.definitions.specs.ContractFile.{twoBytesAt, functionsAt, functionEnd, functionsEnd}
 
 abbrev pub functionStart : List ℕ → ℕ → ℕ

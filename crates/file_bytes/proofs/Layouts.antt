@@ -1,7 +1,5 @@
 -- The numbers that are read one after another make the file's layout.
-use mathlib.Core.Path.{_≡_, ap, _∙_}
-use mathlib.Core.List.{List}
-use Prim.Native.Nat.{ℕ, _+_, _*_, _≤_}
+use Rattle.kit.specs.Names.{_≡_, ap, _∙_, List, ℕ, _+_, _*_, _≤_}
 use Rattle.definitions.specs.ContractFile.{byteAt, twoBytesAt, functionsAt, functionCount, functionsEnd, nodesAt, nodeCount}
 use Rattle.definitions.specs.Reading.{nodesBegin}
 use Rattle.file_bytes.specs.Layout.{IsLayout}

@@ -1,9 +1,5 @@
 -- Steps of the definitions that read a file: functions one after another, and nodes by their number.
-use mathlib.Core.Path.{_≡_, sym, _∙_}
-use mathlib.Core.List.{List}
-use Prim.Native.Nat.{ℕ, zero, suc, _+_, _*_, _-_, _<_, _≤_}
-use native.Mathlib.Omega.{arith}
-use lib.ListN.{length, getD, List·getD-eq-default}
+use Rattle.kit.specs.Names.{_≡_, sym, _∙_, List, ℕ, zero, suc, _+_, _*_, _-_, _<_, _≤_, arith, length, getD, List·getD-eq-default}
 use Rattle.definitions.specs.ContractFile.{NodeRecord, byteAt, functionEnd, functionsEnd, nodeRecord, nodeRecords}
 use Rattle.definitions.specs.Reading.{functionsPassed, nodesRead}
 use Rattle.theory_laws.proofs.Records.{force-is}

@@ -1,8 +1,5 @@
 -- The nodes of a file's sections, as a list that is read from a place on and as what stands at a number.
-use mathlib.Core.Path.{_≡_, refl, ap, _∙_}
-use mathlib.Core.List.{List}
-use Prim.Native.Nat.{ℕ, _+_, _*_, _<_}
-use lib.ListN.{length, getD}
+use Rattle.kit.specs.Names.{_≡_, refl, ap, _∙_, List, ℕ, _+_, _*_, _<_, length, getD}
 use Rattle.definitions.specs.ContractFile.{NodeRecord, fieldRecords, fieldCount, functionRecords, functionCount, functionsAt, nodeRecord, nodeRecords, nodeCount, nodesAt, sectionsOf}
 use Rattle.definitions.specs.Reading.{sectionsRead}
 use Rattle.theory_laws.proofs.Records.{force-is, node-records-length}

@@ -1,7 +1,5 @@
 -- What a layout says of its file, and how large its numbers can be.
-use mathlib.Core.Path.{_≡_}
-use mathlib.Core.List.{List}
-use Prim.Native.Nat.{ℕ, _≤_}
+use Rattle.kit.specs.Names.{_≡_, List, ℕ, _≤_}
 use Rattle.definitions.specs.ContractFile.{fieldCount, functionsAt, functionCount, nodesAt, nodeCount}
 use Rattle.file_bytes.specs.declared.Layout.{Layout}
 

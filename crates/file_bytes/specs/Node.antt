@@ -1,6 +1,5 @@
 -- A node as code holds it, and the record of the definitions that it is.
-use mathlib.Core.Path.{_≡_}
-use Prim.Native.Nat.{_≤_}
+use Rattle.kit.specs.Names.{_≡_, _≤_}
 use Rattle.definitions.specs.ContractFile.{NodeRecord}
 use Rattle.file_bytes.specs.declared.Node.{Node}
 

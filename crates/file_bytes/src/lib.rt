@@ -1,6 +1,5 @@
 // A contract file's bytes, and where its sections lie.
-ghost use mathlib.Core.Path.{_≡_};
-ghost use Prim.Native.Nat.{_+_, _*_, _≤_};
+ghost use Rattle.kit.specs.Names.{_≡_, _+_, _*_, _≤_};
 ghost use Rattle.definitions.specs.ContractFile.{byteAt, twoBytesAt, functionEnd, functionsEnd, nodeRecord};
 ghost use Rattle.file_bytes.specs.Layout.{IsLayout};
 ghost use Rattle.file_bytes.specs.Node.{IsNode};

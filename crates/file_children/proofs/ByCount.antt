@@ -1,8 +1,5 @@
 -- A node's children as a list, by how many its kind has.
-use mathlib.Core.Path.{_≡_, ap, sym, _∙_}
-use mathlib.Core.List.{List, [], _∷_}
-use Prim.Native.Nat.{ℕ, _<_, _≤_}
-use lib.ListN.{take}
+use Rattle.kit.specs.Names.{_≡_, ap, sym, _∙_, List, [], _∷_, ℕ, _<_, _≤_, take}
 use Rattle.definitions.specs.ContractFile.{NodeRecord, nodeOf, children}
 use Rattle.file_children.specs.Children.{childCount, parts}
 use Rattle.file_children.proofs.Children.{children-are}

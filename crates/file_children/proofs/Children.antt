@@ -1,12 +1,6 @@
 -- A node's children, and its sort, by its kind's number.
-use mathlib.Core.Path.{_≡_, refl, ap, sym, _∙_}
-use mathlib.Core.Bool.{Bool, true, false, _&&_}
-use mathlib.Core.List.{List, [], _∷_}
-use Prim.Native.Nat.{ℕ, _<_, _≤_}
-use native.Mathlib.Omega.{arith}
-use lib.Dec.{eqb, leb, ltb}
-use lib.ListN.{getD, take}
-use borrow.Author.Tests.{eqb-true, ne-eqb, lt-leb, le-leb, ltb-true, ltb-false}
+use Rattle.kit.specs.Names.{_≡_, refl, ap, sym, _∙_, Bool, true, false, _&&_, List, [], _∷_, ℕ, _<_, _≤_, arith, eqb, leb, ltb, getD, take}
+use Rattle.kit.specs.Names.{eqb-true, ne-eqb, lt-leb, le-leb, ltb-true, ltb-false}
 use Rattle.definitions.specs.ContractFile.{NodeRecord, Kind, constantKind, meKind, fieldKind, entryKind, parameterKind, operatorKind, negationKind, revealKind, skipKind, sequenceKind, assignFieldKind, assignEntryKind, requireKind, conditionalKind, noKind, kindOf, nodeOfKind, nodeOf, expressionParts, statementParts, children, isExpression, isStatement}
 use Rattle.file_children.specs.Children.{childrenOfKind, expressionsOfKind, childCount, expressionCount, parts, isExpressionKind, isStatementKind}
 use Rattle.file_children.proofs.Truth.{both-true}

@@ -1,12 +1,6 @@
 -- Steps of a loop that asks whether some element of a list passes a test: what is left to ask has the same answer.
-use mathlib.Core.Path.{_≡_, refl, ap, _∙_}
-use mathlib.Core.Bool.{Bool, true, false, _&&_, _||_, or-assoc}
-use mathlib.Core.List.{List, [], _∷_, map}
-use Prim.Native.Nat.{ℕ, zero, suc, _+_, _<_}
-use native.Mathlib.Omega.{arith}
-use native.Mathlib.Numerals.{add-one}
-use lib.Dec.{eqb}
-use borrow.Author.Tests.{eqb-true, eqb-false}
+use Rattle.kit.specs.Names.{_≡_, refl, ap, _∙_, Bool, true, false, _&&_, _||_, or-assoc, List, [], _∷_, map, ℕ, zero, suc, _+_, _<_, arith}
+use Rattle.kit.specs.Names.{add-one, eqb, eqb-true, eqb-false}
 use Rattle.definitions.specs.Basics.{any, anyNumbered}
 use Rattle.file_children.proofs.Truth.{or-false, both-true}
 

@@ -1,9 +1,5 @@
 -- The first parts of three, by how many they are.
-use mathlib.Core.Path.{_≡_, refl}
-use mathlib.Core.List.{[], _∷_}
-use Prim.Native.Nat.{ℕ, zero, suc, _-_, _<_, _≤_}
-use native.Mathlib.Omega.{arith}
-use lib.ListN.{take}
+use Rattle.kit.specs.Names.{_≡_, refl, [], _∷_, ℕ, zero, suc, _-_, _<_, _≤_, arith, take}
 
 module _ {A : Type 0} (a b c : A) where
   pub no-parts : (count : ℕ) → count < 1 → take count (a ∷ b ∷ c ∷ []) ≡ []

@@ -1,9 +1,5 @@
 -- Whether some child of a node passes a test, by how many children its kind has.
-use mathlib.Core.Path.{_≡_, refl, ap, sym, _∙_}
-use mathlib.Core.Bool.{Bool, true, false}
-use mathlib.Core.List.{List, [], _∷_}
-use Prim.Native.Nat.{ℕ, _-_, _<_, _≤_}
-use lib.ListN.{take}
+use Rattle.kit.specs.Names.{_≡_, refl, ap, sym, _∙_, Bool, true, false, List, [], _∷_, ℕ, _-_, _<_, _≤_, take}
 use Rattle.definitions.specs.Basics.{any}
 use Rattle.definitions.specs.ContractFile.{NodeRecord, nodeOf, children}
 use Rattle.file_children.specs.Children.{childCount, parts}

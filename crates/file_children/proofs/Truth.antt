@@ -1,8 +1,5 @@
 -- Truth values: what a conjunction that holds and a disjunction that fails tell.
-use mathlib.Core.Path.{_≡_, refl}
-use mathlib.Core.Bool.{Bool, true, false, _&&_, _||_}
-use Prim.Native.Nat.{ℕ}
-use native.Mathlib.Omega.{arith}
+use Rattle.kit.specs.Names.{_≡_, refl, Bool, true, false, _&&_, _||_, ℕ, arith}
 
 pub or-false : (b : Bool) → b || false ≡ b
 or-false true = refl

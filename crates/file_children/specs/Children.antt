@@ -1,8 +1,5 @@
 -- 01, The contract file, "Kinds": how many parts of a node are children, and of which sort a kind is.
-use mathlib.Core.Bool.{Bool, _&&_}
-use mathlib.Core.List.{List, [], _∷_}
-use Prim.Native.Nat.{ℕ}
-use lib.Dec.{leb}
+use Rattle.kit.specs.Names.{Bool, _&&_, List, [], _∷_, ℕ, leb}
 use Rattle.definitions.specs.ContractFile.{NodeRecord, Kind, constantKind, meKind, fieldKind, entryKind, parameterKind, operatorKind}
 use Rattle.definitions.specs.ContractFile.{negationKind, revealKind, skipKind, sequenceKind, assignFieldKind, assignEntryKind, requireKind}
 use Rattle.definitions.specs.ContractFile.{conditionalKind, noKind, kindOf}

@@ -3,8 +3,7 @@ use file_kinds::CONSTANT;
 use file_kinds::IF;
 use file_kinds::REVEAL;
 use file_kinds::SKIP;
-ghost use mathlib.Core.Path.{_≡_};
-ghost use mathlib.Core.Bool.{_||_};
+ghost use Rattle.kit.specs.Names.{_≡_, _||_};
 ghost use Rattle.file_children.specs.Children.{childCount, expressionCount, isExpressionKind, isStatementKind};
 
 const CHILDREN: [usize; 22] = [

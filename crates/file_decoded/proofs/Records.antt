@@ -1,9 +1,5 @@
 -- How many records a slice holds, the first one with those that follow it, and a node by its number.
-use mathlib.Core.Path.{_≡_, refl, ap}
-use mathlib.Core.List.{List, [], _∷_, map}
-use Prim.Native.Nat.{ℕ, zero, suc, _+_, _*_, _-_, _<_, _≤_}
-use native.Mathlib.Omega.{arith}
-use lib.ListN.{length}
+use Rattle.kit.specs.Names.{_≡_, refl, ap, List, [], _∷_, map, ℕ, zero, suc, _+_, _*_, _-_, _<_, _≤_, arith, length}
 use Rattle.definitions.specs.ContractFile.{unknownNode, nodeOf, nodeAt}
 use Rattle.file_decoded.specs.Slices.{fieldFrom, fieldsFrom, parameterFrom, parametersFrom, functionFrom, functionsFrom, nodeFrom, nodesFrom}
 

@@ -1,9 +1,6 @@
 -- A contract file's sections as numbers one behind another: three for a field (shape, type, owner), two for a parameter (type, owner),
 -- three for a function (where its parameters begin, how many there are, its root), five for a node.
-use mathlib.Core.List.{List, [], _∷_}
-use mathlib.Core.Path.{_≡_}
-use Prim.Native.Nat.{ℕ, zero, suc, _+_, _*_, _/_, _%_, _≤_}
-use lib.ListN.{length, getD}
+use Rattle.kit.specs.Names.{_≡_, List, [], _∷_, ℕ, zero, suc, _+_, _*_, _/_, _%_, _≤_, length, getD}
 use Rattle.definitions.specs.ContractFile.{FieldRecord, ParameterRecord, FunctionRecord, NodeRecord, Sections, node}
 
 -- The number at a place; one that is not there reads as 0.

@@ -1,8 +1,6 @@
 // A contract file's sections as slices of numbers.
 use file_bytes::Node;
-ghost use mathlib.Core.Path.{_≡_};
-ghost use Prim.Native.Nat.{_+_, _*_, _<_, _≤_};
-ghost use lib.ListN.{length};
+ghost use Rattle.kit.specs.Names.{_≡_, _+_, _*_, _<_, _≤_, length};
 ghost use Rattle.file_bytes.specs.Node.{IsNode};
 ghost use Rattle.file_decoded.specs.Slices.{numberAt, nodeFrom, recordAt, Narrow};
 ghost use Rattle.file_decoded.specs.Node.{IsDecoded};

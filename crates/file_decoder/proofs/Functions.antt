@@ -1,12 +1,6 @@
 -- Functions so far: those decoded are the file's, their parameters stand before the next one's, and the places in file and slices belong together.
-use mathlib.Core.Path.{_≡_, refl, ap, ap₂, sym, _∙_}
-use mathlib.Core.Bool.{Bool, true, false}
-use mathlib.Core.List.{List, _∷_}
-use Prim.Native.Nat.{ℕ, zero, suc, _+_, _*_, _-_, _/_, _<_, _≤_}
-use native.Mathlib.Omega.{arith}
-use borrow.Author.Tests.{eqb-true, eqb-false}
-use lib.Dec.{eqb}
-use lib.ListN.{length}
+use Rattle.kit.specs.Names.{_≡_, refl, ap, ap₂, sym, _∙_, Bool, true, false, List, _∷_, ℕ, zero, suc, _+_, _*_, _-_, _/_, _<_, _≤_, arith}
+use Rattle.kit.specs.Names.{eqb, length, eqb-true, eqb-false}
 use Rattle.definitions.specs.ContractFile.{ParameterRecord, FunctionRecord, byteAt, functionEnd, functionsEnd, functionRecord, functionRecords}
 use Rattle.definitions.specs.Reading.{functionsPassed, functionsRead}
 use Rattle.theory_laws.proofs.Records.{force-is}

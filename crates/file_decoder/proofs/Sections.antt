@@ -1,9 +1,5 @@
 -- The four slices together are the file's sections.
-use mathlib.Core.Path.{_≡_, ap, sym, _∙_}
-use mathlib.Core.List.{List}
-use Prim.Native.Nat.{ℕ, _+_, _*_, _/_, _≤_}
-use native.Mathlib.Omega.{arith}
-use lib.ListN.{length}
+use Rattle.kit.specs.Names.{_≡_, ap, sym, _∙_, List, ℕ, _+_, _*_, _/_, _≤_, arith, length}
 use Rattle.definitions.specs.ContractFile.{fieldCount, functionCount, nodeCount, fieldRecords, functionsEnd, functionRecords, nodeRecords, sectionsOf}
 use Rattle.definitions.specs.Reading.{nodesBegin}
 use Rattle.file_bytes.specs.declared.Layout.{Layout}

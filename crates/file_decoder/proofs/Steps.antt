@@ -1,12 +1,6 @@
 -- The slices record by record: those that agree place by place are the file's.
-use mathlib.Core.Path.{_≡_, refl, ap, ap₂, sym, _∙_}
-use mathlib.Core.Bool.{Bool, true, false}
-use mathlib.Core.List.{List, _∷_}
-use Prim.Native.Nat.{ℕ, zero, suc, _+_, _*_, _-_, _/_, _<_, _≤_}
-use native.Mathlib.Omega.{arith}
-use borrow.Author.Tests.{eqb-true, eqb-false}
-use lib.Dec.{eqb}
-use lib.ListN.{length}
+use Rattle.kit.specs.Names.{_≡_, refl, ap, ap₂, sym, _∙_, Bool, true, false, List, _∷_, ℕ, zero, suc, _+_, _*_, _-_, _/_, _<_, _≤_, arith}
+use Rattle.kit.specs.Names.{eqb, length, eqb-true, eqb-false}
 use Rattle.definitions.specs.ContractFile.{ParameterRecord, NodeRecord, FieldRecord, byteAt, fieldRecords, parameterRecords, functionRecord, node, nodeRecord, nodeRecords}
 use Rattle.definitions.specs.Reading.{fieldsRead, parametersRead, nodesRead}
 use Rattle.file_decoded.specs.Slices.{numberAt, fieldsFrom, parametersFrom, nodeFrom, nodesFrom, Narrow}

@@ -1,8 +1,5 @@
 -- What decoding functions and whole files leaves in the slices.
-use mathlib.Core.Path.{_≡_}
-use mathlib.Core.List.{List}
-use Prim.Native.Nat.{ℕ, _+_, _*_, _/_, _≤_}
-use lib.ListN.{length}
+use Rattle.kit.specs.Names.{_≡_, List, ℕ, _+_, _*_, _/_, _≤_, length}
 use Rattle.definitions.specs.ContractFile.{byteAt, functionEnd, functionsEnd, functionRecord, functionRecords}
 use Rattle.definitions.specs.ContractFile.{fileEnd, sectionsOf}
 use Rattle.file_bytes.specs.declared.Layout.{Layout}

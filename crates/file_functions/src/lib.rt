@@ -1,8 +1,7 @@
 // Where a file's functions begin.
 use file_bytes::byte_at;
 use file_bytes::function_end;
-ghost use mathlib.Core.Path.{_≡_};
-ghost use Prim.Native.Nat.{_+_, _*_, _≤_};
+ghost use Rattle.kit.specs.Names.{_≡_, _+_, _*_, _≤_};
 ghost use Rattle.file_accepted.specs.Functions.{functionStart};
 
 // The place of a function's record: records have no fixed length, so those before it are passed one by one.

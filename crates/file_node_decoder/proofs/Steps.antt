@@ -1,13 +1,6 @@
 -- A slice step by step: what is written stays.
-use mathlib.Core.Path.{_≡_, refl, _∙_}
-use mathlib.Core.Bool.{Bool, true, false}
-use mathlib.Core.List.{List}
-use Prim.Native.Nat.{ℕ, _+_, _<_, _≤_}
-use native.Mathlib.Omega.{arith}
-use borrow.Author.Tests.{eqb-true, eqb-false}
-use lib.Dec.{eqb}
-use lib.ListN.{length, set, length-set}
-use lib.Seq.{getD-set-same, getD-set-other}
+use Rattle.kit.specs.Names.{_≡_, refl, _∙_, Bool, true, false, List, ℕ, _+_, _<_, _≤_, arith, eqb, length, set, length-set, getD-set-same}
+use Rattle.kit.specs.Names.{getD-set-other, eqb-true, eqb-false}
 use Rattle.definitions.specs.ContractFile.{byteAt, node, nodeRecord}
 use Rattle.file_decoded.specs.Slices.{numberAt}
 use Rattle.file_node_decoder.specs.Steps.{SameBefore, Put, Copied, DecodedNode}

@@ -1,8 +1,5 @@
 -- What the decoder's steps leave in a slice, place by place.
-use mathlib.Core.Path.{_≡_}
-use mathlib.Core.List.{List}
-use Prim.Native.Nat.{ℕ, _+_, _<_, _≤_}
-use lib.ListN.{length}
+use Rattle.kit.specs.Names.{_≡_, List, ℕ, _+_, _<_, _≤_, length}
 use Rattle.definitions.specs.ContractFile.{byteAt, nodeRecord}
 use Rattle.file_decoded.specs.Slices.{numberAt, nodeFrom}
 

@@ -1,8 +1,6 @@
 // The decoder's steps: bytes of a contract file put into a slice of numbers, one by one, in a row, or as a node. They stand apart from the
 // decoder of whole sections, so that an edit of one of them proves little.
-ghost use mathlib.Core.Path.{_≡_};
-ghost use Prim.Native.Nat.{_+_, _<_, _≤_};
-ghost use lib.ListN.{length};
+ghost use Rattle.kit.specs.Names.{_≡_, _+_, _<_, _≤_, length};
 ghost use Rattle.definitions.specs.ContractFile.{byteAt, twoBytesAt};
 ghost use Rattle.file_node_decoder.specs.Steps.{Put, Copied, DecodedNode};
 

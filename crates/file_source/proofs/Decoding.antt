@@ -1,11 +1,6 @@
 -- An accepted file has all of its nodes, and the decoded ones are a source.
-use mathlib.Core.Path.{_≡_, ap, sym, _∙_}
-use mathlib.Core.List.{List, _++_}
-use Prim.Native.Nat.{ℕ, _+_, _*_, _/_, _≤_}
-use native.Mathlib.Omega.{arith}
-use borrow.Author.Tests.{eqb-true, not-false}
-use lib.ListN.{length, take, drop, length-append, length-drop}
-use lib.Seq.{take-at, length-take-le}
+use Rattle.kit.specs.Names.{_≡_, ap, sym, _∙_, List, _++_, ℕ, _+_, _*_, _/_, _≤_, arith, length, take, drop, length-append, length-drop}
+use Rattle.kit.specs.Names.{take-at, length-take-le, eqb-true, not-false}
 use Rattle.definitions.specs.ContractFile.{nodeCount, fileEnd, nodeRecords}
 use Rattle.definitions.specs.Numbers.{checkNumber, endsWrongly}
 use Rattle.theory_accepted.proofs.Sentences.{accepted-settled}

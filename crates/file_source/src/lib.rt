@@ -1,9 +1,7 @@
 // The nodes of an accepted contract, decoded for those who read them.
 use file_bytes::read_layout;
 use file_decoder::decode_nodes;
-ghost use mathlib.Core.Path.{_≡_};
-ghost use Prim.Native.Nat.{_≤_};
-ghost use lib.ListN.{length, take};
+ghost use Rattle.kit.specs.Names.{_≡_, _≤_, length, take};
 ghost use Rattle.definitions.specs.Numbers.{checkNumber};
 ghost use Rattle.file_accepted.specs.Context.{Source};
 

@@ -1,11 +1,5 @@
 -- Whether a place is private, by its code; and what an assignment leaves.
-use mathlib.Core.Path.{_≡_, ap, sym, _∙_}
-use mathlib.Core.Bool.{Bool, true, false, cond, not}
-use mathlib.Core.List.{List}
-use mathlib.Core.Option.{Option, none}
-use Prim.Native.Nat.{ℕ}
-use lib.Dec.{eqb}
-use lib.ListN.{set}
+use Rattle.kit.specs.Names.{_≡_, ap, sym, _∙_, Bool, true, false, cond, not, List, Option, none, ℕ, eqb, set}
 use Rattle.definitions.specs.ContractFile.{Name, Owner, FieldOwner, fieldAt, isEveryone, fieldOwnerCode}
 use Rattle.definitions.specs.Owners.{nameOf, placeOwner}
 use Rattle.rewrite_owners.specs.Codes.{nameCode, placeCode}

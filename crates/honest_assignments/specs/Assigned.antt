@@ -1,7 +1,5 @@
 -- The events of an assignment by its nodes, and what writing their numbers asks.
-use mathlib.Core.List.{List}
-use mathlib.Core.Option.{none}
-use Prim.Native.Nat.{ℕ, _<_, _≤_}
+use Rattle.kit.specs.Names.{List, none, ℕ, _<_, _≤_}
 use Rattle.definitions.specs.ContractFile.{fieldAt, nodeCount}
 use Rattle.definitions.specs.Owners.{nameOf, placeOwner}
 use Rattle.definitions.specs.Rewriting.{always}

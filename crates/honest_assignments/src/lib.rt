@@ -1,4 +1,5 @@
 // 01, Runs and views: an assignment of the original on numbers, with the numbers of the variables that it makes.
+use honest_supplies::Turn;
 use honest_supplies::body_slots;
 use honest_supplies::place_slots;
 use honest_values::value;
@@ -7,11 +8,7 @@ use ledger_places::put_number;
 use rewrite_owners::field_owner;
 use rewrite_owners::name_code;
 use rewrite_owners::place_code;
-ghost use mathlib.Core.Path.{_≡_};
-ghost use mathlib.Core.Bool.{cond, not};
-ghost use mathlib.Core.Option.{none};
-ghost use Prim.Native.Nat.{_<_, _≤_};
-ghost use lib.ListN.{set};
+ghost use Rattle.kit.specs.Names.{_≡_, cond, not, none, _<_, _≤_, set};
 ghost use Rattle.definitions.specs.ContractFile.{fieldAt, isEveryone, nodeCount};
 ghost use Rattle.definitions.specs.Owners.{nameOf, placeOwner};
 ghost use Rattle.definitions.specs.Original.{position};
@@ -49,100 +46,85 @@ fn is_private_entry(file: &[u8], function_at: usize, source: &[u16], f: usize, k
 // Field f takes node n.
 pub fn field_slots(
     file: &[u8],
-    function_at: usize,
     source: &[u16],
     numbers: &mut [u32],
     arguments: &[u32],
-    caller: u8,
-    live: bool,
+    turn: Turn,
     f: usize,
     n: usize,
     out: &mut [u64],
     i: usize,
 ) -> usize
-    requires { ⌜ FieldReady (now file) «function_at» (now source) f n (now out) i ⌝ }
-    ensures { λ r. ⌜ (now (numbers .exit) ≡ cond live
+    requires { ⌜ FieldReady (now file) (turn .«function_at») (now source) f n (now out) i ⌝ }
+    ensures { λ r. ⌜ (now (numbers .exit) ≡ cond (turn .live)
         (set (now (numbers .entry))
         (position (fieldsIn (now (file .entry))) f 0)
-        (valueOf (now (file .entry)) (now (arguments .entry)) caller (now (numbers .entry)) (nodeExpression (now (file .entry)) n)))
+        (valueOf (now (file .entry)) (now (arguments .entry)) (turn .caller) (now (numbers .entry)) (nodeExpression (now (file .entry)) n)))
         (now (numbers .entry)))
-        × (Wrote (suppliedNumber (now (file .entry)) (now (arguments .entry)) caller live (now (numbers .entry)))
-        (now (out .entry)) (now (out .exit)) i r (fieldEvents (now (file .entry)) «function_at» f n)) ⌝ }
+        × (Wrote (suppliedNumber (now (file .entry)) (now (arguments .entry)) (turn .caller) (turn .live) (now (numbers .entry)))
+        (now (out .entry)) (now (out .exit)) i r (fieldEvents (now (file .entry)) (turn .«function_at») f n)) ⌝ }
 {
-    let private = is_private_field(file, function_at, source, f);
-    let end = place_slots(
+    let private = is_private_field(file, turn.function_at, source, f);
+    let end = place_slots(file, source, numbers, arguments, turn, n, private, out, i);
+    let v = value(
         file,
-        function_at,
+        turn.function_at,
         source,
         numbers,
         arguments,
-        caller,
-        live,
+        turn.caller,
         n,
-        private,
-        out,
-        i,
     );
-    let v = value(file, function_at, source, numbers, arguments, caller, n);
     let p = position(file, f, 0);
-    put_taken(numbers, live, p, v);
+    put_taken(numbers, turn.live, p, v);
     end
 }
 
 // The entry of field f at a key takes node n.
 pub fn entry_slots(
     file: &[u8],
-    function_at: usize,
     source: &[u16],
     numbers: &mut [u32],
     arguments: &[u32],
-    caller: u8,
-    live: bool,
+    turn: Turn,
     f: usize,
     key: usize,
     n: usize,
     out: &mut [u64],
     i: usize,
 ) -> usize
-    requires { ⌜ EntryReady (now file) «function_at» (now source) f key n (now out) i ⌝ }
-    ensures { λ r. ⌜ (now (numbers .exit) ≡ cond live
+    requires { ⌜ EntryReady (now file) (turn .«function_at») (now source) f key n (now out) i ⌝ }
+    ensures { λ r. ⌜ (now (numbers .exit) ≡ cond (turn .live)
         (set (now (numbers .entry))
         (position (fieldsIn (now (file .entry))) f
-        (valueOf (now (file .entry)) (now (arguments .entry)) caller (now (numbers .entry)) (nodeExpression (now (file .entry)) key)))
-        (valueOf (now (file .entry)) (now (arguments .entry)) caller (now (numbers .entry)) (nodeExpression (now (file .entry)) n)))
+        (valueOf (now (file .entry)) (now (arguments .entry)) (turn .caller) (now (numbers .entry)) (nodeExpression (now (file .entry)) key)))
+        (valueOf (now (file .entry)) (now (arguments .entry)) (turn .caller) (now (numbers .entry)) (nodeExpression (now (file .entry)) n)))
         (now (numbers .entry)))
-        × (Wrote (suppliedNumber (now (file .entry)) (now (arguments .entry)) caller live (now (numbers .entry)))
-        (now (out .entry)) (now (out .exit)) i r (entryEvents (now (file .entry)) «function_at» f key n)) ⌝ }
+        × (Wrote (suppliedNumber (now (file .entry)) (now (arguments .entry)) (turn .caller) (turn .live) (now (numbers .entry)))
+        (now (out .entry)) (now (out .exit)) i r (entryEvents (now (file .entry)) (turn .«function_at») f key n)) ⌝ }
 {
-    let private = is_private_entry(file, function_at, source, f, key);
-    let j = body_slots(
+    let private = is_private_entry(file, turn.function_at, source, f, key);
+    let j = body_slots(file, source, numbers, arguments, turn, key, out, i);
+    let end = place_slots(file, source, numbers, arguments, turn, n, private, out, j);
+    let k = value(
         file,
-        function_at,
+        turn.function_at,
         source,
         numbers,
         arguments,
-        caller,
-        live,
+        turn.caller,
         key,
-        out,
-        i,
     );
-    let end = place_slots(
+    let v = value(
         file,
-        function_at,
+        turn.function_at,
         source,
         numbers,
         arguments,
-        caller,
-        live,
+        turn.caller,
         n,
-        private,
-        out,
-        j,
     );
-    let k = value(file, function_at, source, numbers, arguments, caller, key);
-    let v = value(file, function_at, source, numbers, arguments, caller, n);
     let p = position(file, f, k as usize);
-    put_taken(numbers, live, p, v);
+    put_taken(numbers, turn.live, p, v);
     end
 }

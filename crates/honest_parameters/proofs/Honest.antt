@@ -1,12 +1,6 @@
 -- Honest parameters, one after another.
-use mathlib.Core.Path.{_≡_, refl, ap, ap₂, sym, _∙_}
-use mathlib.Core.Bool.{Bool, true, false, cond, not}
-use mathlib.Core.List.{List, [], _∷_}
-use Prim.Native.Nat.{ℕ, zero, suc, _+_, _*_, _<_, _≤_}
-use native.Mathlib.Omega.{arith}
-use borrow.Author.Tests.{eq-eqb, ne-eqb}
-use lib.Dec.{eqb}
-use lib.ListN.{length, getD, take, set}
+use Rattle.kit.specs.Names.{_≡_, refl, ap, ap₂, sym, _∙_, Bool, true, false, cond, not, List, [], _∷_, ℕ, zero, suc, _+_, _*_, _<_, _≤_}
+use Rattle.kit.specs.Names.{arith, eqb, length, getD, take, set, eq-eqb, ne-eqb}
 use Rattle.definitions.specs.ContractFile.{Parameter, parameterAt, byteAt, parameterOf}
 use Rattle.definitions.specs.Original.{Reader, anyone, only}
 use Rattle.definitions.specs.Ledger.{Content, plain, contentFor, honestParameters}

@@ -1,12 +1,7 @@
 -- The public ones of a call's parameters, one after another.
-use mathlib.Core.Path.{_≡_, refl, ap, ap₂, sym, _∙_}
-use mathlib.Core.Bool.{Bool, true, false, cond}
-use mathlib.Core.List.{List, [], _∷_, _++_, append-nil, append-assoc}
-use Prim.Native.Nat.{ℕ, zero, suc, _+_, _*_, _/_, _<_, _≤_}
-use native.Mathlib.Numerals.{add-one}
-use native.Mathlib.Omega.{arith}
-use lib.ListN.{length, take, drop, set, drop-of-length-le}
-use lib.Seq.{drop-cons, take-suc-set}
+use Rattle.kit.specs.Names.{_≡_, refl, ap, ap₂, sym, _∙_, Bool, true, false, cond, List, [], _∷_, _++_, append-nil, append-assoc, ℕ, zero}
+use Rattle.kit.specs.Names.{suc, _+_, _*_, _/_, _<_, _≤_, arith, add-one, length, take, drop, set, drop-of-length-le, drop-cons}
+use Rattle.kit.specs.Names.{take-suc-set}
 use Rattle.definitions.specs.ContractFile.{Parameter, boolean, parameterAt, byteAt}
 use Rattle.definitions.specs.Ledger.{Content, plain, contentAt, publicOf}
 use Rattle.file_accepted.proofs.Declarations.{parameters-count}

@@ -1,9 +1,5 @@
 -- What putting down a call's parameters asks, and what picking the public ones leaves.
-use mathlib.Core.Path.{_≡_}
-use mathlib.Core.Bool.{Bool, cond}
-use mathlib.Core.List.{List, [], _∷_, _++_}
-use Prim.Native.Nat.{ℕ, _+_, _*_, _≤_}
-use lib.ListN.{length, take}
+use Rattle.kit.specs.Names.{_≡_, Bool, cond, List, [], _∷_, _++_, ℕ, _+_, _*_, _≤_, length, take}
 use Rattle.definitions.specs.ContractFile.{parameterAt, byteAt}
 use Rattle.definitions.specs.Original.{Reader, anyone, only}
 use Rattle.definitions.specs.Ledger.{Content, publicOf}

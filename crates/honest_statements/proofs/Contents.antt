@@ -1,10 +1,6 @@
 -- The numbers, with their variables' owners and serials, are the honest variables of the definitions.
-use mathlib.Core.Path.{_≡_, refl, ap, ap₂, sym, _∙_}
-use mathlib.Core.Bool.{Bool, true, false, _&&_, cond, not}
-use mathlib.Core.List.{List, [], _∷_, _++_, map, map-append}
-use Prim.Native.Nat.{ℕ, zero, suc, _+_}
-use native.Mathlib.Omega.{arith}
-use lib.ListN.{length, replicate, length-append, length-map}
+use Rattle.kit.specs.Names.{_≡_, refl, ap, ap₂, sym, _∙_, Bool, true, false, _&&_, cond, not, List, [], _∷_, _++_, map, map-append, ℕ, zero}
+use Rattle.kit.specs.Names.{suc, _+_, arith, length, replicate, length-append, length-map}
 use Rattle.definitions.specs.Basics.{isTrue}
 use Rattle.definitions.specs.ContractFile.{Name, meName, Expression, Statement}
 use Rattle.definitions.specs.Owners.{ownerOf}

@@ -1,11 +1,6 @@
 -- Numbers put one run behind another, and the space that they ask.
-use mathlib.Core.Path.{_≡_, refl, ap, sym, _∙_}
-use mathlib.Core.Bool.{Bool}
-use mathlib.Core.List.{List, [], _∷_}
-use Prim.Native.Nat.{ℕ, suc, _+_, _<_}
-use native.Mathlib.Numerals.{add-one}
-use native.Mathlib.Omega.{arith}
-use lib.ListN.{length, length-append, length-map}
+use Rattle.kit.specs.Names.{_≡_, refl, ap, sym, _∙_, Bool, List, [], _∷_, ℕ, suc, _+_, _<_, arith, add-one, length, length-append}
+use Rattle.kit.specs.Names.{length-map}
 use Rattle.memory_buffer.specs.Buffer.{stored}
 use Rattle.memory_buffer.proofs.Storing.{stored-length, stored-nothing, stored-then}
 use Rattle.rewrite_events.specs.Events.{Events, variablesOf}

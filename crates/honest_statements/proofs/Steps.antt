@@ -1,10 +1,6 @@
 -- Each statement by its kind: what it asks of its parts, and what it leaves after them.
-use mathlib.Core.Path.{_≡_, refl, ap, ap₂, sym, _∙_}
-use mathlib.Core.Bool.{Bool, true, false, _&&_, cond, not}
-use mathlib.Core.List.{List, [], _∷_, _++_, map}
-use mathlib.Core.Option.{none}
-use Prim.Native.Nat.{ℕ, suc, _+_}
-use lib.ListN.{length, set}
+use Rattle.kit.specs.Names.{_≡_, refl, ap, ap₂, sym, _∙_, Bool, true, false, _&&_, cond, not, List, [], _∷_, _++_, map, none, ℕ, suc, _+_}
+use Rattle.kit.specs.Names.{length, set}
 use Rattle.definitions.specs.Basics.{isTrue}
 use Rattle.definitions.specs.ContractFile.{Name, Expression, Statement, fieldAt, NodeRecord}
 use Rattle.definitions.specs.Owners.{nameOf, placeOwner}

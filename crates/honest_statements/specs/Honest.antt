@@ -1,9 +1,5 @@
 -- The numbers of the variables that a statement makes, on the numbers that the original has when it comes to it.
-use mathlib.Core.Path.{_≡_}
-use mathlib.Core.Bool.{Bool, _&&_, cond, not}
-use mathlib.Core.List.{List, [], _∷_, _++_, map}
-use Prim.Native.Nat.{ℕ, zero, suc, _+_, _<_, _≤_}
-use lib.ListN.{length}
+use Rattle.kit.specs.Names.{_≡_, Bool, _&&_, cond, not, List, [], _∷_, _++_, map, ℕ, zero, suc, _+_, _<_, _≤_, length}
 use Rattle.definitions.specs.Basics.{isTrue}
 use Rattle.definitions.specs.ContractFile.{Name, Expression, Statement, nodeCount}
 use Rattle.definitions.specs.Rewriting.{Variable, variableOwner, always}

@@ -8,12 +8,11 @@ use file_kinds::REQUIRE;
 use file_kinds::SEQUENCE;
 use honest_assignments::entry_slots;
 use honest_assignments::field_slots;
+use honest_supplies::Turn;
 use honest_supplies::body_slots;
 use honest_supplies::put_slot;
 use honest_values::value;
-ghost use mathlib.Core.Path.{_≡_};
-ghost use mathlib.Core.Bool.{_&&_, not};
-ghost use Prim.Native.Nat.{_<_};
+ghost use Rattle.kit.specs.Names.{_≡_, _&&_, not, _<_};
 ghost use Rattle.definitions.specs.ContractFile.{nodeCount};
 ghost use Rattle.file_accepted.specs.Context.{Context};
 ghost use Rattle.rewrite_plans.specs.Plans.{nodeExpression};
@@ -53,20 +52,18 @@ fn is_taken(
 // A statement that holds no other: an assignment, a require or a skip.
 fn simple_slots(
     file: &[u8],
-    function_at: usize,
     source: &[u16],
     numbers: &mut [u32],
     arguments: &[u32],
-    caller: u8,
-    live: bool,
+    turn: Turn,
     n: usize,
     out: &mut [u64],
     i: usize,
 ) -> usize
     requires { ⌜ (SimpleKind (kindAt (now source) n))
-        × (Startable (now file) «function_at» (now source) n (now out) i
-        (honestNumbers (now file) «function_at» (now arguments) caller (nodeStatement (now file) n) live (now numbers))) ⌝ }
-    ensures { λ r. ⌜ Honest (now (file .entry)) «function_at» (now (arguments .entry)) caller live
+        × (Startable (now file) (turn .«function_at») (now source) n (now out) i
+        (honestNumbers (now file) (turn .«function_at») (now arguments) (turn .caller) (nodeStatement (now file) n) (turn .live) (now numbers))) ⌝ }
+    ensures { λ r. ⌜ Honest (now (file .entry)) (turn .«function_at») (now (arguments .entry)) (turn .caller) (turn .live)
         (nodeStatement (now (file .entry)) n) (now (numbers .entry)) (now (numbers .exit)) (now (out .entry)) (now (out .exit)) i r ⌝ }
 {
     let node = node_at(source, n);
@@ -74,12 +71,10 @@ fn simple_slots(
     match kind {
         FIELD_TAKES => field_slots(
             file,
-            function_at,
             source,
             numbers,
             arguments,
-            caller,
-            live,
+            turn,
             node.arg,
             node.first,
             out,
@@ -87,234 +82,140 @@ fn simple_slots(
         ),
         ENTRY_TAKES => entry_slots(
             file,
-            function_at,
             source,
             numbers,
             arguments,
-            caller,
-            live,
+            turn,
             node.arg,
             node.first,
             node.second,
             out,
             i,
         ),
-        REQUIRE => body_slots(
-            file,
-            function_at,
-            source,
-            numbers,
-            arguments,
-            caller,
-            live,
-            node.first,
-            out,
-            i,
-        ),
+        REQUIRE => body_slots(file, source, numbers, arguments, turn, node.first, out, i),
         _ => i,
     }
 }
 
-// Statement n, worked out where it is live.
+// Statement n, worked out where it is turn.live.
 pub fn statement_slots(
     file: &[u8],
-    function_at: usize,
     source: &[u16],
     numbers: &mut [u32],
     arguments: &[u32],
-    caller: u8,
-    live: bool,
+    turn: Turn,
     n: usize,
     out: &mut [u64],
     i: usize,
 ) -> usize
-    requires { ⌜ Startable (now file) «function_at» (now source) n (now out) i
-        (honestNumbers (now file) «function_at» (now arguments) caller (nodeStatement (now file) n) live (now numbers)) ⌝ }
-    ensures { λ r. ⌜ Honest (now (file .entry)) «function_at» (now (arguments .entry)) caller live
+    requires { ⌜ Startable (now file) (turn .«function_at») (now source) n (now out) i
+        (honestNumbers (now file) (turn .«function_at») (now arguments) (turn .caller) (nodeStatement (now file) n) (turn .live) (now numbers)) ⌝ }
+    ensures { λ r. ⌜ Honest (now (file .entry)) (turn .«function_at») (now (arguments .entry)) (turn .caller) (turn .live)
         (nodeStatement (now (file .entry)) n) (now (numbers .entry)) (now (numbers .exit)) (now (out .entry)) (now (out .exit)) i r ⌝ }
 {
     let kind = node_at(source, n).kind;
     match kind {
-        SEQUENCE => sequence_slots(
-            file,
-            function_at,
-            source,
-            numbers,
-            arguments,
-            caller,
-            live,
-            n,
-            out,
-            i,
-        ),
-        IF => conditional_slots(
-            file,
-            function_at,
-            source,
-            numbers,
-            arguments,
-            caller,
-            live,
-            n,
-            out,
-            i,
-        ),
-        _ => simple_slots(
-            file,
-            function_at,
-            source,
-            numbers,
-            arguments,
-            caller,
-            live,
-            n,
-            out,
-            i,
-        ),
+        SEQUENCE => sequence_slots(file, source, numbers, arguments, turn, n, out, i),
+        IF => conditional_slots(file, source, numbers, arguments, turn, n, out, i),
+        _ => simple_slots(file, source, numbers, arguments, turn, n, out, i),
     }
 }
 
 // The second of two statements is worked out on what the first left.
 fn sequence_slots(
     file: &[u8],
-    function_at: usize,
     source: &[u16],
     numbers: &mut [u32],
     arguments: &[u32],
-    caller: u8,
-    live: bool,
+    turn: Turn,
     n: usize,
     out: &mut [u64],
     i: usize,
 ) -> usize
     requires { ⌜ (kindAt (now source) n ≡ 17)
-        × (Startable (now file) «function_at» (now source) n (now out) i
-        (honestNumbers (now file) «function_at» (now arguments) caller (nodeStatement (now file) n) live (now numbers))) ⌝ }
-    ensures { λ r. ⌜ Honest (now (file .entry)) «function_at» (now (arguments .entry)) caller live
+        × (Startable (now file) (turn .«function_at») (now source) n (now out) i
+        (honestNumbers (now file) (turn .«function_at») (now arguments) (turn .caller) (nodeStatement (now file) n) (turn .live) (now numbers))) ⌝ }
+    ensures { λ r. ⌜ Honest (now (file .entry)) (turn .«function_at») (now (arguments .entry)) (turn .caller) (turn .live)
         (nodeStatement (now (file .entry)) n) (now (numbers .entry)) (now (numbers .exit)) (now (out .entry)) (now (out .exit)) i r ⌝ }
 {
     let node = node_at(source, n);
-    let j = statement_slots(
-        file,
-        function_at,
-        source,
-        numbers,
-        arguments,
-        caller,
-        live,
-        node.first,
-        out,
-        i,
-    );
-    statement_slots(
-        file,
-        function_at,
-        source,
-        numbers,
-        arguments,
-        caller,
-        live,
-        node.second,
-        out,
-        j,
-    )
+    let j = statement_slots(file, source, numbers, arguments, turn, node.first, out, i);
+    statement_slots(file, source, numbers, arguments, turn, node.second, out, j)
 }
 
 // A condition, and then both branches.
 fn conditional_slots(
     file: &[u8],
-    function_at: usize,
     source: &[u16],
     numbers: &mut [u32],
     arguments: &[u32],
-    caller: u8,
-    live: bool,
+    turn: Turn,
     n: usize,
     out: &mut [u64],
     i: usize,
 ) -> usize
     requires { ⌜ (kindAt (now source) n ≡ 21)
-        × (Startable (now file) «function_at» (now source) n (now out) i
-        (honestNumbers (now file) «function_at» (now arguments) caller (nodeStatement (now file) n) live (now numbers))) ⌝ }
-    ensures { λ r. ⌜ Honest (now (file .entry)) «function_at» (now (arguments .entry)) caller live
+        × (Startable (now file) (turn .«function_at») (now source) n (now out) i
+        (honestNumbers (now file) (turn .«function_at») (now arguments) (turn .caller) (nodeStatement (now file) n) (turn .live) (now numbers))) ⌝ }
+    ensures { λ r. ⌜ Honest (now (file .entry)) (turn .«function_at») (now (arguments .entry)) (turn .caller) (turn .live)
         (nodeStatement (now (file .entry)) n) (now (numbers .entry)) (now (numbers .exit)) (now (out .entry)) (now (out .exit)) i r ⌝ }
 {
     let first = node_at(source, n).first;
-    let j = body_slots(
-        file,
-        function_at,
-        source,
-        numbers,
-        arguments,
-        caller,
-        live,
-        first,
-        out,
-        i,
-    );
-    branches_slots(
-        file,
-        function_at,
-        source,
-        numbers,
-        arguments,
-        caller,
-        live,
-        n,
-        out,
-        j,
-    )
+    let j = body_slots(file, source, numbers, arguments, turn, first, out, i);
+    branches_slots(file, source, numbers, arguments, turn, n, out, j)
 }
 
 // Of the two branches of conditional n at most one is taken.
 fn branches_slots(
     file: &[u8],
-    function_at: usize,
     source: &[u16],
     numbers: &mut [u32],
     arguments: &[u32],
-    caller: u8,
-    live: bool,
+    turn: Turn,
     n: usize,
     out: &mut [u64],
     i: usize,
 ) -> usize
     requires { ⌜ (kindAt (now source) n ≡ 21)
-        × (Startable (now file) «function_at» (now source) n (now out) i
-        (branchesNumbers (now file) «function_at» (now arguments) caller (nodeStatement (now file) n) live (now numbers))) ⌝ }
-    ensures { λ r. ⌜ BranchesHonest (now (file .entry)) «function_at» (now (arguments .entry)) caller live
+        × (Startable (now file) (turn .«function_at») (now source) n (now out) i
+        (branchesNumbers (now file) (turn .«function_at») (now arguments) (turn .caller) (nodeStatement (now file) n) (turn .live) (now numbers))) ⌝ }
+    ensures { λ r. ⌜ BranchesHonest (now (file .entry)) (turn .«function_at») (now (arguments .entry)) (turn .caller) (turn .live)
         (nodeStatement (now (file .entry)) n) (now (numbers .entry)) (now (numbers .exit)) (now (out .entry)) (now (out .exit)) i r ⌝ }
 {
     let node = node_at(source, n);
     let taken = is_taken(
         file,
-        function_at,
+        turn.function_at,
         source,
         numbers,
         arguments,
-        caller,
+        turn.caller,
         node.first,
     );
     let k = branch_slots(
         file,
-        function_at,
         source,
         numbers,
         arguments,
-        caller,
-        both(live, taken),
+        Turn {
+            function_at: turn.function_at,
+            caller: turn.caller,
+            live: both(turn.live, taken),
+        },
         node.second,
         out,
         i,
     );
     branch_slots(
         file,
-        function_at,
         source,
         numbers,
         arguments,
-        caller,
-        only(live, taken),
+        Turn {
+            function_at: turn.function_at,
+            caller: turn.caller,
+            live: only(turn.live, taken),
+        },
         node.third,
         out,
         k,
@@ -324,32 +225,19 @@ fn branches_slots(
 // A branch begins with its guard.
 fn branch_slots(
     file: &[u8],
-    function_at: usize,
     source: &[u16],
     numbers: &mut [u32],
     arguments: &[u32],
-    caller: u8,
-    live: bool,
+    turn: Turn,
     n: usize,
     out: &mut [u64],
     i: usize,
 ) -> usize
-    requires { ⌜ Startable (now file) «function_at» (now source) n (now out) i (branchNumbers
-        (honestNumbers (now file) «function_at» (now arguments) caller (nodeStatement (now file) n) live (now numbers))) ⌝ }
-    ensures { λ r. ⌜ BranchHonest (now (file .entry)) «function_at» (now (arguments .entry)) caller live
+    requires { ⌜ Startable (now file) (turn .«function_at») (now source) n (now out) i (branchNumbers
+        (honestNumbers (now file) (turn .«function_at») (now arguments) (turn .caller) (nodeStatement (now file) n) (turn .live) (now numbers))) ⌝ }
+    ensures { λ r. ⌜ BranchHonest (now (file .entry)) (turn .«function_at») (now (arguments .entry)) (turn .caller) (turn .live)
         (nodeStatement (now (file .entry)) n) (now (numbers .entry)) (now (numbers .exit)) (now (out .entry)) (now (out .exit)) i r ⌝ }
 {
     put_slot(out, i, 0);
-    statement_slots(
-        file,
-        function_at,
-        source,
-        numbers,
-        arguments,
-        caller,
-        live,
-        n,
-        out,
-        i + 1,
-    )
+    statement_slots(file, source, numbers, arguments, turn, n, out, i + 1)
 }

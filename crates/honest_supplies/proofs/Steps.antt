@@ -1,12 +1,5 @@
 -- Each step of writing a node's numbers: what it asks of the next, and what it has written after it.
-use mathlib.Core.Path.{_≡_, refl, ap, sym, _∙_}
-use mathlib.Core.Bool.{Bool, true, false, cond, not}
-use mathlib.Core.List.{List, map}
-use Prim.Native.Nat.{ℕ, suc, _+_, _≤_}
-use native.Mathlib.Numerals.{add-one}
-use native.Mathlib.Omega.{arith}
-use borrow.Author.Tests.{ne-eqb}
-use lib.Dec.{eqb}
+use Rattle.kit.specs.Names.{_≡_, refl, ap, sym, _∙_, Bool, true, false, cond, not, List, map, ℕ, suc, _+_, _≤_, arith, add-one, eqb, ne-eqb}
 use Rattle.definitions.specs.ContractFile.{meName, Owner, everyone, ownedBy, Expression, Scope, isEveryone}
 use Rattle.definitions.specs.Owners.{ownerOf, isPublic}
 use Rattle.definitions.specs.Rewriting.{Variable, supplied, readFrom, always}

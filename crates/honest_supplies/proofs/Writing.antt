@@ -1,10 +1,6 @@
 -- Writing the numbers of events that follow one another, and the room that it asks.
-use mathlib.Core.Path.{_≡_, refl, ap, sym, _∙_}
-use mathlib.Core.List.{List, [], _∷_, _++_, map, map-append}
-use Prim.Native.Nat.{ℕ, suc, _+_, _<_, _≤_}
-use native.Mathlib.Numerals.{add-one}
-use native.Mathlib.Omega.{arith}
-use lib.ListN.{length, length-append, length-map}
+use Rattle.kit.specs.Names.{_≡_, refl, ap, sym, _∙_, List, [], _∷_, _++_, map, map-append, ℕ, suc, _+_, _<_, _≤_, arith, add-one, length}
+use Rattle.kit.specs.Names.{length-append, length-map}
 use Rattle.definitions.specs.ContractFile.{Owner, Expression}
 use Rattle.definitions.specs.Rewriting.{Variable, supplied, readFrom, Guard}
 use Rattle.memory_buffer.specs.Buffer.{stored}

@@ -1,9 +1,5 @@
 -- The numbers of honest supplied variables, and what writing them for some events asks and does.
-use mathlib.Core.Path.{_≡_}
-use mathlib.Core.Bool.{Bool, cond}
-use mathlib.Core.List.{List, map}
-use Prim.Native.Nat.{ℕ, suc, _+_, _<_, _≤_}
-use lib.ListN.{length}
+use Rattle.kit.specs.Names.{_≡_, Bool, cond, List, map, ℕ, suc, _+_, _<_, _≤_, length}
 use Rattle.definitions.specs.ContractFile.{meName, ownedBy, nodeCount}
 use Rattle.definitions.specs.Owners.{isPublic}
 use Rattle.definitions.specs.Rewriting.{Variable, supplied, readFrom, guard, always}

@@ -5,11 +5,7 @@ use rewrite_owners::is_public;
 use rewrite_plans::parts_of;
 use rewrite_plans::read_code;
 use rewrite_plans::supplied_code;
-ghost use mathlib.Core.Path.{_≡_};
-ghost use mathlib.Core.Bool.{cond};
-ghost use mathlib.Core.List.{[], _∷_};
-ghost use Prim.Native.Nat.{suc, _<_};
-ghost use lib.ListN.{length};
+ghost use Rattle.kit.specs.Names.{_≡_, cond, [], _∷_, suc, _<_, length};
 ghost use Rattle.definitions.specs.ContractFile.{nodeCount};
 ghost use Rattle.memory_buffer.specs.Buffer.{stored};
 ghost use Rattle.file_accepted.specs.Context.{Context};
@@ -17,6 +13,13 @@ ghost use Rattle.rewrite_plans.specs.Plans.{nodeExpression};
 ghost use Rattle.honest_values.specs.Values.{valueOf};
 ghost use Rattle.honest_supplies.specs.Supplies.{Ready, Wrote, suppliedNumber, bodyIn, circuitIn, supplyIn, bodyPartsIn};
 ghost use Rattle.honest_supplies.specs.Supplies.{circuitPartsIn, placedIn};
+
+// Where the function that is called begins, who calls it, and whether what is worked out lies in a branch that is taken.
+pub struct Turn {
+    pub function_at: usize,
+    pub caller: u8,
+    pub live: bool,
+}
 
 // One supplied value noted at its number.
 pub fn put_slot(out: &mut [u64], i: usize, value: u64)
@@ -29,22 +32,29 @@ pub fn put_slot(out: &mut [u64], i: usize, value: u64)
 // One more than the value of node n where the branch is taken.
 fn supplied_number(
     file: &[u8],
-    function_at: usize,
     source: &[u16],
     numbers: &[u32],
     arguments: &[u32],
-    caller: u8,
-    live: bool,
+    turn: Turn,
     n: usize,
 ) -> u64
-    requires { ⌜ (n < nodeCount (now file)) × (Context (now file) «function_at» (now source)) ⌝ }
-    ensures { λ r. ⌜ r ≡ cond live
-        (suc (valueOf (now (file .entry)) (now (arguments .entry)) caller (now (numbers .entry))
+    requires { ⌜ (n < nodeCount (now file)) × (Context (now file) (turn .«function_at») (now source)) ⌝ }
+    ensures { λ r. ⌜ r ≡ cond (turn .live)
+        (suc (valueOf (now (file .entry)) (now (arguments .entry)) (turn .caller) (now (numbers .entry))
         (nodeExpression (now (file .entry)) n)))
         0 ⌝ }
 {
-    if live {
-        value(file, function_at, source, numbers, arguments, caller, n) as u64 + 1
+    if turn.live {
+        value(
+            file,
+            turn.function_at,
+            source,
+            numbers,
+            arguments,
+            turn.caller,
+            n,
+        ) as u64
+            + 1
     } else {
         0
     }
@@ -53,134 +63,64 @@ fn supplied_number(
 // The variables that the body's form of node n makes.
 pub fn body_slots(
     file: &[u8],
-    function_at: usize,
     source: &[u16],
     numbers: &[u32],
     arguments: &[u32],
-    caller: u8,
-    live: bool,
+    turn: Turn,
     n: usize,
     out: &mut [u64],
     i: usize,
 ) -> usize
-    requires { ⌜ Ready (now file) «function_at» (now source) n (now out) i (bodyIn (now file) «function_at» n) ⌝ }
-    ensures { λ r. ⌜ Wrote (suppliedNumber (now (file .entry)) (now (arguments .entry)) caller live (now (numbers .entry)))
-        (now (out .entry)) (now (out .exit)) i r (bodyIn (now (file .entry)) «function_at» n) ⌝ }
+    requires { ⌜ Ready (now file) (turn .«function_at») (now source) n (now out) i (bodyIn (now file) (turn .«function_at») n) ⌝ }
+    ensures { λ r. ⌜ Wrote (suppliedNumber (now (file .entry)) (now (arguments .entry)) (turn .caller) (turn .live) (now (numbers .entry)))
+        (now (out .entry)) (now (out .exit)) i r (bodyIn (now (file .entry)) (turn .«function_at») n) ⌝ }
 {
-    if supplied_code(file, function_at, source, n) == 0 {
-        body_parts(
-            file,
-            function_at,
-            source,
-            numbers,
-            arguments,
-            caller,
-            live,
-            n,
-            out,
-            i,
-        )
+    if supplied_code(file, turn.function_at, source, n) == 0 {
+        body_parts(file, source, numbers, arguments, turn, n, out, i)
     } else {
-        supply_slots(
-            file,
-            function_at,
-            source,
-            numbers,
-            arguments,
-            caller,
-            live,
-            n,
-            out,
-            i,
-        )
+        supply_slots(file, source, numbers, arguments, turn, n, out, i)
     }
 }
 
 // The variable that node n is supplied in, and those of its circuit.
 pub fn supply_slots(
     file: &[u8],
-    function_at: usize,
     source: &[u16],
     numbers: &[u32],
     arguments: &[u32],
-    caller: u8,
-    live: bool,
+    turn: Turn,
     n: usize,
     out: &mut [u64],
     i: usize,
 ) -> usize
-    requires { ⌜ Ready (now file) «function_at» (now source) n (now out) i (supplyIn (now file) «function_at» n) ⌝ }
-    ensures { λ r. ⌜ Wrote (suppliedNumber (now (file .entry)) (now (arguments .entry)) caller live (now (numbers .entry)))
-        (now (out .entry)) (now (out .exit)) i r (supplyIn (now (file .entry)) «function_at» n) ⌝ }
+    requires { ⌜ Ready (now file) (turn .«function_at») (now source) n (now out) i (supplyIn (now file) (turn .«function_at») n) ⌝ }
+    ensures { λ r. ⌜ Wrote (suppliedNumber (now (file .entry)) (now (arguments .entry)) (turn .caller) (turn .live) (now (numbers .entry)))
+        (now (out .entry)) (now (out .exit)) i r (supplyIn (now (file .entry)) (turn .«function_at») n) ⌝ }
 {
-    let number = supplied_number(
-        file,
-        function_at,
-        source,
-        numbers,
-        arguments,
-        caller,
-        live,
-        n,
-    );
+    let number = supplied_number(file, source, numbers, arguments, turn, n);
     put_slot(out, i, number);
-    circuit_slots(
-        file,
-        function_at,
-        source,
-        numbers,
-        arguments,
-        caller,
-        live,
-        n,
-        out,
-        i + 1,
-    )
+    circuit_slots(file, source, numbers, arguments, turn, n, out, i + 1)
 }
 
 // The variables that the circuit of node n makes.
 fn circuit_slots(
     file: &[u8],
-    function_at: usize,
     source: &[u16],
     numbers: &[u32],
     arguments: &[u32],
-    caller: u8,
-    live: bool,
+    turn: Turn,
     n: usize,
     out: &mut [u64],
     i: usize,
 ) -> usize
-    requires { ⌜ Ready (now file) «function_at» (now source) n (now out) i (circuitIn (now file) «function_at» n) ⌝ }
-    ensures { λ r. ⌜ Wrote (suppliedNumber (now (file .entry)) (now (arguments .entry)) caller live (now (numbers .entry)))
-        (now (out .entry)) (now (out .exit)) i r (circuitIn (now (file .entry)) «function_at» n) ⌝ }
+    requires { ⌜ Ready (now file) (turn .«function_at») (now source) n (now out) i (circuitIn (now file) (turn .«function_at») n) ⌝ }
+    ensures { λ r. ⌜ Wrote (suppliedNumber (now (file .entry)) (now (arguments .entry)) (turn .caller) (turn .live) (now (numbers .entry)))
+        (now (out .entry)) (now (out .exit)) i r (circuitIn (now (file .entry)) (turn .«function_at») n) ⌝ }
 {
-    if read_code(file, function_at, source, n) == 0 {
-        circuit_parts(
-            file,
-            function_at,
-            source,
-            numbers,
-            arguments,
-            caller,
-            live,
-            n,
-            out,
-            i,
-        )
+    if read_code(file, turn.function_at, source, n) == 0 {
+        circuit_parts(file, source, numbers, arguments, turn, n, out, i)
     } else {
-        let j = body_parts(
-            file,
-            function_at,
-            source,
-            numbers,
-            arguments,
-            caller,
-            live,
-            n,
-            out,
-            i,
-        );
+        let j = body_parts(file, source, numbers, arguments, turn, n, out, i);
         put_slot(out, j, 0);
         j + 1
     }
@@ -188,122 +128,52 @@ fn circuit_slots(
 
 fn body_parts(
     file: &[u8],
-    function_at: usize,
     source: &[u16],
     numbers: &[u32],
     arguments: &[u32],
-    caller: u8,
-    live: bool,
+    turn: Turn,
     n: usize,
     out: &mut [u64],
     i: usize,
 ) -> usize
-    requires { ⌜ Ready (now file) «function_at» (now source) n (now out) i (bodyPartsIn (now file) «function_at» n) ⌝ }
-    ensures { λ r. ⌜ Wrote (suppliedNumber (now (file .entry)) (now (arguments .entry)) caller live (now (numbers .entry)))
-        (now (out .entry)) (now (out .exit)) i r (bodyPartsIn (now (file .entry)) «function_at» n) ⌝ }
+    requires { ⌜ Ready (now file) (turn .«function_at») (now source) n (now out) i (bodyPartsIn (now file) (turn .«function_at») n) ⌝ }
+    ensures { λ r. ⌜ Wrote (suppliedNumber (now (file .entry)) (now (arguments .entry)) (turn .caller) (turn .live) (now (numbers .entry)))
+        (now (out .entry)) (now (out .exit)) i r (bodyPartsIn (now (file .entry)) (turn .«function_at») n) ⌝ }
 {
-    let parts = parts_of(file, function_at, source, n);
+    let parts = parts_of(file, turn.function_at, source, n);
     let count = parts.count;
     match count {
         0 => i,
-        1 => body_slots(
-            file,
-            function_at,
-            source,
-            numbers,
-            arguments,
-            caller,
-            live,
-            parts.first,
-            out,
-            i,
-        ),
+        1 => body_slots(file, source, numbers, arguments, turn, parts.first, out, i),
         _ => {
-            let j = body_slots(
-                file,
-                function_at,
-                source,
-                numbers,
-                arguments,
-                caller,
-                live,
-                parts.first,
-                out,
-                i,
-            );
-            body_slots(
-                file,
-                function_at,
-                source,
-                numbers,
-                arguments,
-                caller,
-                live,
-                parts.second,
-                out,
-                j,
-            )
+            let j = body_slots(file, source, numbers, arguments, turn, parts.first, out, i);
+            body_slots(file, source, numbers, arguments, turn, parts.second, out, j)
         }
     }
 }
 
 fn circuit_parts(
     file: &[u8],
-    function_at: usize,
     source: &[u16],
     numbers: &[u32],
     arguments: &[u32],
-    caller: u8,
-    live: bool,
+    turn: Turn,
     n: usize,
     out: &mut [u64],
     i: usize,
 ) -> usize
-    requires { ⌜ Ready (now file) «function_at» (now source) n (now out) i (circuitPartsIn (now file) «function_at» n) ⌝ }
-    ensures { λ r. ⌜ Wrote (suppliedNumber (now (file .entry)) (now (arguments .entry)) caller live (now (numbers .entry)))
-        (now (out .entry)) (now (out .exit)) i r (circuitPartsIn (now (file .entry)) «function_at» n) ⌝ }
+    requires { ⌜ Ready (now file) (turn .«function_at») (now source) n (now out) i (circuitPartsIn (now file) (turn .«function_at») n) ⌝ }
+    ensures { λ r. ⌜ Wrote (suppliedNumber (now (file .entry)) (now (arguments .entry)) (turn .caller) (turn .live) (now (numbers .entry)))
+        (now (out .entry)) (now (out .exit)) i r (circuitPartsIn (now (file .entry)) (turn .«function_at») n) ⌝ }
 {
-    let parts = parts_of(file, function_at, source, n);
+    let parts = parts_of(file, turn.function_at, source, n);
     let count = parts.count;
     match count {
         0 => i,
-        1 => circuit_slots(
-            file,
-            function_at,
-            source,
-            numbers,
-            arguments,
-            caller,
-            live,
-            parts.first,
-            out,
-            i,
-        ),
+        1 => circuit_slots(file, source, numbers, arguments, turn, parts.first, out, i),
         _ => {
-            let j = circuit_slots(
-                file,
-                function_at,
-                source,
-                numbers,
-                arguments,
-                caller,
-                live,
-                parts.first,
-                out,
-                i,
-            );
-            circuit_slots(
-                file,
-                function_at,
-                source,
-                numbers,
-                arguments,
-                caller,
-                live,
-                parts.second,
-                out,
-                j,
-            )
+            let j = circuit_slots(file, source, numbers, arguments, turn, parts.first, out, i);
+            circuit_slots(file, source, numbers, arguments, turn, parts.second, out, j)
         }
     }
 }
@@ -311,61 +181,26 @@ fn circuit_parts(
 // The variables that node n makes when it is put into a place: "A public value put into a private place is supplied".
 pub fn place_slots(
     file: &[u8],
-    function_at: usize,
     source: &[u16],
     numbers: &[u32],
     arguments: &[u32],
-    caller: u8,
-    live: bool,
+    turn: Turn,
     n: usize,
     private: bool,
     out: &mut [u64],
     i: usize,
 ) -> usize
-    requires { ⌜ Ready (now file) «function_at» (now source) n (now out) i (placedIn (now file) «function_at» n private) ⌝ }
-    ensures { λ r. ⌜ Wrote (suppliedNumber (now (file .entry)) (now (arguments .entry)) caller live (now (numbers .entry)))
-        (now (out .entry)) (now (out .exit)) i r (placedIn (now (file .entry)) «function_at» n private) ⌝ }
+    requires { ⌜ Ready (now file) (turn .«function_at») (now source) n (now out) i (placedIn (now file) (turn .«function_at») n private) ⌝ }
+    ensures { λ r. ⌜ Wrote (suppliedNumber (now (file .entry)) (now (arguments .entry)) (turn .caller) (turn .live) (now (numbers .entry)))
+        (now (out .entry)) (now (out .exit)) i r (placedIn (now (file .entry)) (turn .«function_at») n private) ⌝ }
 {
     if private {
-        if is_public(file, function_at, source, n) {
-            supply_slots(
-                file,
-                function_at,
-                source,
-                numbers,
-                arguments,
-                caller,
-                live,
-                n,
-                out,
-                i,
-            )
+        if is_public(file, turn.function_at, source, n) {
+            supply_slots(file, source, numbers, arguments, turn, n, out, i)
         } else {
-            body_slots(
-                file,
-                function_at,
-                source,
-                numbers,
-                arguments,
-                caller,
-                live,
-                n,
-                out,
-                i,
-            )
+            body_slots(file, source, numbers, arguments, turn, n, out, i)
         }
     } else {
-        body_slots(
-            file,
-            function_at,
-            source,
-            numbers,
-            arguments,
-            caller,
-            live,
-            n,
-            out,
-            i,
-        )
+        body_slots(file, source, numbers, arguments, turn, n, out, i)
     }
 }

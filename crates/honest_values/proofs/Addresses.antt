@@ -1,9 +1,5 @@
 -- Of all addresses the original asks the caller's alone, so any that agree on it give the same.
-use mathlib.Core.Path.{_≡_, refl, ap, ap₂, _∙_}
-use mathlib.Core.Bool.{cond}
-use mathlib.Core.List.{List}
-use Prim.Native.Nat.{ℕ}
-use lib.ListN.{getD, set}
+use Rattle.kit.specs.Names.{_≡_, refl, ap, ap₂, _∙_, cond, List, ℕ, getD, set}
 use Rattle.definitions.specs.Basics.{isTrue}
 use Rattle.definitions.specs.ContractFile.{Name, meName, Field, Expression, Statement}
 use Rattle.definitions.specs.Original.{position, value, operate, negate, placesAfter}

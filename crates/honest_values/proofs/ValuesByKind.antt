@@ -1,8 +1,5 @@
 -- The value of an expression by its kind, as code learns it.
-use mathlib.Core.Path.{_≡_, ap, _∙_}
-use mathlib.Core.List.{List}
-use Prim.Native.Nat.{ℕ}
-use lib.ListN.{getD}
+use Rattle.kit.specs.Names.{_≡_, ap, _∙_, List, ℕ, getD}
 use Rattle.definitions.specs.ContractFile.{DataType, Owner, Operator, Expression, NodeRecord}
 use Rattle.definitions.specs.Original.{position, value, operate, negate}
 use Rattle.file_accepted.specs.Context.{fieldsIn}

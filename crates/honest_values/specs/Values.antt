@@ -1,6 +1,5 @@
 -- What the original works out on numbers. Of the addresses that names stand for it asks only the caller's.
-use mathlib.Core.List.{List}
-use Prim.Native.Nat.{ℕ}
+use Rattle.kit.specs.Names.{List, ℕ}
 use Rattle.definitions.specs.ContractFile.{Name, Expression, Statement}
 use Rattle.definitions.specs.Original.{value, placesAfter}
 use Rattle.file_accepted.specs.Context.{fieldsIn}

@@ -1,10 +1,6 @@
 -- In a call that is not refused, the contents put for the variables are the honest ones, and they can be put.
-use mathlib.Core.Path.{_≡_, refl, ap, ap₂, sym, subst, _∙_}
-use mathlib.Core.Bool.{true}
-use mathlib.Core.List.{List, _++_, map}
-use Prim.Native.Nat.{ℕ, suc, _+_, _*_, _<_, _≤_}
-use native.Mathlib.Omega.{arith}
-use lib.ListN.{length, getD, replicate, length-append, length-replicate}
+use Rattle.kit.specs.Names.{_≡_, refl, ap, ap₂, sym, subst, _∙_, true, List, _++_, map, ℕ, suc, _+_, _*_, _<_, _≤_, arith, length, getD}
+use Rattle.kit.specs.Names.{replicate, length-append, length-replicate}
 use Rattle.definitions.specs.ContractFile.{Name, Field, Function, Scope, Statement, functionAt, fieldCount, functionCount, ownerOfCode, Node, contractIn}
 use Rattle.definitions.specs.Owners.{noLinks}
 use Rattle.definitions.specs.Rewriting.{Variable, always, rewriteStatement, openings, privateParameters}

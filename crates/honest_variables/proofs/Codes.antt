@@ -1,10 +1,6 @@
 -- The address of an owner code, and the content of one variable.
-use mathlib.Core.Path.{_≡_, refl, ap, ap₂, sym, subst, _∙_}
-use mathlib.Core.List.{List}
-use Prim.Native.Nat.{ℕ, zero, suc, _+_, _-_, _<_, _≤_}
-use native.Mathlib.Omega.{arith}
-use borrow.Author.Tests.{ne-eqb, lt-ltb, le-ltb, le-leb, lt-leb}
-use lib.ListN.{getD}
+use Rattle.kit.specs.Names.{_≡_, refl, ap, ap₂, sym, subst, _∙_, List, ℕ, zero, suc, _+_, _-_, _<_, _≤_, arith, getD, ne-eqb, lt-ltb}
+use Rattle.kit.specs.Names.{le-ltb, le-leb, lt-leb}
 use Rattle.definitions.specs.ContractFile.{Name, Owner, ownerOfCode}
 use Rattle.definitions.specs.Original as original
 use Rattle.definitions.specs.Ledger as ledger

@@ -1,12 +1,6 @@
 -- The contents of a call's variables, put one after another.
-use mathlib.Core.Path.{_≡_, refl, ap, sym, _∙_}
-use mathlib.Core.Bool.{true, false}
-use mathlib.Core.List.{List, [], _∷_, _++_, append-assoc, append-nil}
-use Prim.Native.Nat.{ℕ, suc, _+_, _-_, _<_, _≤_}
-use native.Mathlib.Numerals.{add-one}
-use native.Mathlib.Omega.{arith}
-use lib.ListN.{length, getD, take, drop, set, length-append}
-use lib.Seq.{drop-cons, take-suc-set, take-all}
+use Rattle.kit.specs.Names.{_≡_, refl, ap, sym, _∙_, true, false, List, [], _∷_, _++_, append-assoc, append-nil, ℕ, suc, _+_, _-_, _<_, _≤_}
+use Rattle.kit.specs.Names.{arith, add-one, length, getD, take, drop, set, length-append, drop-cons, take-suc-set, take-all}
 use Rattle.definitions.specs.ContractFile.{Name, ownerOfCode}
 use Rattle.definitions.specs.Ledger.{Content}
 use Rattle.rewrite_log.specs.Entries.{makesNone}

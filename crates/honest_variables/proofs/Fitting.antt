@@ -1,9 +1,5 @@
 -- The variables of a body without faults: their owners are names that fit, and what is supplied has no faults either.
-use mathlib.Core.Path.{_≡_, refl, sym, subst}
-use mathlib.Core.Bool.{Bool, true, false, _&&_, cond}
-use mathlib.Core.List.{List, [], _∷_, _++_}
-use mathlib.Core.Option.{Option, none, some}
-use Prim.Native.Nat.{ℕ, suc, _+_}
+use Rattle.kit.specs.Names.{_≡_, refl, sym, subst, Bool, true, false, _&&_, cond, List, [], _∷_, _++_, Option, none, some, ℕ, suc, _+_}
 use Rattle.definitions.specs.ContractFile.{Name, meName, finalName, parameterName, Owner, everyone, ownedBy, FieldOwner, toEveryone, toKey, toFinal, Expression, Statement, Parameter, Scope, fieldAt, parameterAt, isFinal, isDivision}
 use Rattle.definitions.specs.Owners.{Links, isPublicAddress, placeOwner, parameterOwner, nameOf, ownerOf, isPublic, linksOfCondition, linksAfter}
 use Rattle.definitions.specs.Numbers.{ownerFits, expressionFaults, statementFaults}

@@ -1,11 +1,6 @@
 -- The numbers of a call's variables, put one after another.
-use mathlib.Core.Path.{_≡_, refl, ap, ap₂, sym, _∙_}
-use mathlib.Core.Bool.{true}
-use mathlib.Core.List.{List, [], _∷_, _++_}
-use Prim.Native.Nat.{ℕ, _+_, _<_, _≤_}
-use native.Mathlib.Omega.{arith}
-use lib.ListN.{length, take, drop, replicate, length-append, length-replicate, replicate-append-replicate}
-use lib.Seq.{take-at}
+use Rattle.kit.specs.Names.{_≡_, refl, ap, ap₂, sym, _∙_, true, List, [], _∷_, _++_, ℕ, _+_, _<_, _≤_, arith, length, take, drop, replicate}
+use Rattle.kit.specs.Names.{length-append, length-replicate, replicate-append-replicate, take-at}
 use Rattle.definitions.specs.Rewriting.{always}
 use Rattle.memory_buffer.specs.Buffer.{stored}
 use Rattle.memory_buffer.proofs.Storing.{stored-nothing, stored-then}

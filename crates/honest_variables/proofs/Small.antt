@@ -1,10 +1,5 @@
 -- The honest numbers of a body without faults are at most one more than the largest value.
-use mathlib.Core.Path.{_≡_, subst}
-use mathlib.Core.Bool.{Bool, true, false, _&&_}
-use mathlib.Core.List.{List, [], _∷_, _++_, map}
-use Prim.Native.Nat.{ℕ, zero, suc, _≤_}
-use native.Mathlib.Omega.{arith}
-use lib.ListN.{getD, replicate}
+use Rattle.kit.specs.Names.{_≡_, subst, Bool, true, false, _&&_, List, [], _∷_, _++_, map, ℕ, zero, suc, _≤_, arith, getD, replicate}
 use Rattle.definitions.specs.ContractFile.{Name, meName, Expression, Statement, typeOf}
 use Rattle.definitions.specs.Owners.{Links, linksOfCondition, linksAfter}
 use Rattle.definitions.specs.Numbers.{statementFaults}

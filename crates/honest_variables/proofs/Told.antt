@@ -1,12 +1,6 @@
 -- What the owner codes of a log tell of its variables, where their owners are names that fit.
-use mathlib.Core.Path.{_≡_, refl, ap, ap₂, sym, subst, _∙_}
-use mathlib.Core.Bool.{Bool, true, false, not, false≢true}
-use mathlib.Core.List.{List, [], _∷_, _++_}
-use Prim.Native.Nat.{ℕ, zero, suc, _+_, _<_, _≤_}
-use native.Mathlib.Omega.{arith}
-use borrow.Author.Tests.{ltb-true, ltb-false}
-use lib.Dec.{ltb}
-use lib.ListN.{length, getD, replicate, List·getD-eq-default}
+use Rattle.kit.specs.Names.{_≡_, refl, ap, ap₂, sym, subst, _∙_, Bool, true, false, not, false≢true, List, [], _∷_, _++_, ℕ, zero, suc, _+_}
+use Rattle.kit.specs.Names.{_<_, _≤_, arith, ltb, length, getD, replicate, List·getD-eq-default, ltb-true, ltb-false}
 use Rattle.definitions.specs.ContractFile.{DataType, boolean, address, Name, meName, finalName, parameterName, Owner, everyone, ownedBy, toEveryone, Field, Expression, Scope, fieldAt, parameterAt, plainField, isFinal, sameType, isOfType, ownerOfCode, ownerCode, Node}
 use Rattle.definitions.specs.Numbers.{ownerFits}
 use Rattle.definitions.specs.Rewriting.{Variable, supplied, readFrom, guard, variableOwner, openings}

@@ -1,9 +1,5 @@
 -- The numbers of all variables of a call: 0 for each read of a private parameter, and those of the body.
-use mathlib.Core.Path.{_≡_}
-use mathlib.Core.Bool.{true}
-use mathlib.Core.List.{List, _++_}
-use Prim.Native.Nat.{ℕ, _+_, _<_, _≤_}
-use lib.ListN.{length, take, replicate}
+use Rattle.kit.specs.Names.{_≡_, true, List, _++_, ℕ, _+_, _<_, _≤_, length, take, replicate}
 use Rattle.definitions.specs.ContractFile.{nodeCount}
 use Rattle.file_accepted.specs.Context.{Context}
 use Rattle.file_accepted.specs.Functions.{rootAt}

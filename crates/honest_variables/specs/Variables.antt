@@ -1,9 +1,5 @@
 -- The contents of a call's variables, by their owner codes and numbers.
-use mathlib.Core.Path.{_≡_}
-use mathlib.Core.Bool.{false, cond}
-use mathlib.Core.List.{List, [], _∷_, _++_}
-use Prim.Native.Nat.{ℕ, zero, suc, _+_, _*_, _≤_, _<_}
-use lib.ListN.{length, getD, take, drop, replicate}
+use Rattle.kit.specs.Names.{_≡_, false, cond, List, [], _∷_, _++_, ℕ, zero, suc, _+_, _*_, _≤_, _<_, length, getD, take, drop, replicate}
 use Rattle.definitions.specs.ContractFile.{Name, Owner, ownerOfCode}
 use Rattle.definitions.specs.Original.{Reader, anyone, only, readerOf}
 use Rattle.definitions.specs.Ledger.{Content, plain, contentFor}

@@ -6,6 +6,7 @@ use file_kinds::FINAL_CODES;
 use file_kinds::FINAL_CODES_END;
 use file_kinds::PARAMETER_CODES;
 use honest_statements::statement_slots;
+use honest_supplies::Turn;
 use honest_supplies::put_slot;
 use ledger_contents::Content;
 use ledger_contents::put_content;
@@ -15,9 +16,7 @@ use ledger_readers::content_for;
 use rewrite_log::READ_LOGGED;
 use rewrite_log::makes_none;
 use write_parameters::count_private;
-ghost use mathlib.Core.Path.{_≡_};
-ghost use Prim.Native.Nat.{_≤_};
-ghost use lib.ListN.{getD};
+ghost use Rattle.kit.specs.Names.{_≡_, _≤_, getD};
 ghost use Rattle.definitions.specs.ContractFile.{ownerOfCode};
 ghost use Rattle.definitions.specs.Original.{readerOf};
 ghost use Rattle.file_accepted.specs.Functions.{rootAt};
@@ -58,18 +57,12 @@ pub fn honest_slots(
         i += 1;
     }
     let root = root_at(file, function_at);
-    statement_slots(
-        file,
-        function_at,
-        source,
-        numbers,
-        arguments,
-        caller,
-        true,
-        root,
-        slots,
-        private,
-    )
+    let turn = Turn {
+        function_at: function_at,
+        caller: caller,
+        live: true,
+    };
+    statement_slots(file, source, numbers, arguments, turn, root, slots, private)
 }
 
 // Where the address of a name's code stands.

@@ -1,6 +1,6 @@
 // "18. The ledger isn't well formed": a ledger before any call.
 use ledger_struct::Ledger;
-ghost use mathlib.Core.Path.{_≡_};
+ghost use Rattle.kit.specs.Names.{_≡_};
 ghost use Rattle.definitions.specs.Ledger.{isBeforeCalls};
 ghost use Rattle.ledger_struct.specs.Ledgers.{ledgerOf};
 

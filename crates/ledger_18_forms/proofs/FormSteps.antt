@@ -1,14 +1,6 @@
 -- One form more is tested, and some forms before the rest.
-use mathlib.Core.Path.{_≡_, refl, ap, sym, _∙_}
-use mathlib.Core.Bool.{Bool, true, false, _&&_, _||_}
-use mathlib.Core.List.{List, [], _∷_, _++_}
-use Prim.Native.Nat.{ℕ, suc, _+_, _/_, _<_, _≤_}
-use native.Mathlib.Numerals.{add-one}
-use native.Mathlib.Omega.{arith}
-use borrow.Author.Tests.{lt-ltb, ltb-false, ltb-true, leb-true, leb-false}
-use lib.Dec.{ltb, leb}
-use lib.ListN.{length, drop, drop-of-length-le}
-use lib.Seq.{drop-cons}
+use Rattle.kit.specs.Names.{_≡_, refl, ap, sym, _∙_, Bool, true, false, _&&_, _||_, List, [], _∷_, _++_, ℕ, suc, _+_, _/_, _<_, _≤_, arith}
+use Rattle.kit.specs.Names.{add-one, ltb, leb, length, drop, drop-of-length-le, drop-cons, lt-ltb, ltb-false, ltb-true, leb-true, leb-false}
 use Rattle.definitions.specs.Ledger.{Content, plain, contentAt, Form, fits, isPlainZero, allFit}
 use Rattle.ledger_contents.specs.Contents.{contentsOf}
 use Rattle.ledger_contents.proofs.FlatContents.{length-contentsOf}

@@ -1,9 +1,5 @@
 -- Contents tested against forms one position after another.
-use mathlib.Core.Bool.{Bool, true, false, _&&_, _||_}
-use mathlib.Core.List.{List, [], _∷_}
-use Prim.Native.Nat.{ℕ}
-use lib.Dec.{ltb}
-use lib.ListN.{length}
+use Rattle.kit.specs.Names.{Bool, true, false, _&&_, _||_, List, [], _∷_, ℕ, ltb, length}
 use Rattle.definitions.specs.Ledger.{Content, contentAt, Form, fits, isPlainZero}
 
 -- "a variable may be plain 0"

@@ -1,7 +1,7 @@
 // Whether the content at a position is what a form asks.
 use ledger_contents::Content;
 use ledger_readers::Reader;
-ghost use mathlib.Core.Path.{_≡_};
+ghost use Rattle.kit.specs.Names.{_≡_};
 ghost use Rattle.definitions.specs.Ledger.{fits, isPlainZero};
 ghost use Rattle.ledger_contents.specs.Contents.{contentOfCode, contentsOf};
 ghost use Rattle.ledger_readers.specs.Readers.{formOf};

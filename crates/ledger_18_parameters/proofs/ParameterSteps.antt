@@ -1,13 +1,6 @@
 -- The parameters are tested one after another.
-use mathlib.Core.Path.{_≡_, refl, ap, sym, _∙_}
-use mathlib.Core.Bool.{Bool, true, false, _&&_, not, cond}
-use mathlib.Core.List.{List, [], _∷_}
-use Prim.Native.Nat.{ℕ, suc, _+_, _*_, _<_, _≤_, _/_}
-use native.Mathlib.Numerals.{add-one}
-use borrow.Author.Tests.{eq-eqb, ne-eqb}
-use lib.Dec.{eqb, leb}
-use lib.ListN.{length, drop, drop-of-length-le}
-use lib.Seq.{drop-cons}
+use Rattle.kit.specs.Names.{_≡_, refl, ap, sym, _∙_, Bool, true, false, _&&_, not, cond, List, [], _∷_, ℕ, suc, _+_, _*_, _<_, _≤_, _/_}
+use Rattle.kit.specs.Names.{add-one, eqb, leb, length, drop, drop-of-length-le, drop-cons, eq-eqb, ne-eqb}
 use Rattle.definitions.specs.ContractFile.{Parameter, parameterAt, byteAt, parameterOf, dataTypeOf}
 use Rattle.definitions.specs.Original.{anyone, only}
 use Rattle.definitions.specs.Ledger.{Content, Form, fits, allFit, publicOf, parameterForm}

@@ -1,7 +1,5 @@
 -- The forms of a call's parameters, as the view lists them.
-use mathlib.Core.Bool.{Bool, _&&_, not, cond}
-use mathlib.Core.List.{List, [], _∷_, map}
-use Prim.Native.Nat.{ℕ}
+use Rattle.kit.specs.Names.{Bool, _&&_, not, cond, List, [], _∷_, map, ℕ}
 use Rattle.definitions.specs.ContractFile.{Parameter}
 use Rattle.definitions.specs.Ledger.{Form, publicOf, parameterForm}
 

@@ -1,10 +1,7 @@
 // Whether the parameters of a ledger's last call have the types and the owners that the file asks.
 use file_bytes::byte_at;
 use ledger_readers::Reader;
-ghost use mathlib.Core.Path.{_≡_};
-ghost use mathlib.Core.Bool.{_&&_, not, cond};
-ghost use Prim.Native.Nat.{_≤_};
-ghost use lib.Dec.{eqb};
+ghost use Rattle.kit.specs.Names.{_≡_, _&&_, not, cond, _≤_, eqb};
 ghost use Rattle.definitions.specs.ContractFile.{byteAt};
 ghost use Rattle.definitions.specs.Original.{anyone, only};
 ghost use Rattle.definitions.specs.Ledger.{fits, allFit};

@@ -1,7 +1,5 @@
 -- What an accepted file gives to the test.
-use mathlib.Core.Path.{_≡_}
-use mathlib.Core.List.{List}
-use Prim.Native.Nat.{ℕ, _<_, _≤_}
+use Rattle.kit.specs.Names.{_≡_, List, ℕ, _<_, _≤_}
 use Rattle.definitions.specs.ContractFile.{byteAt, fieldCount, functionCount}
 use Rattle.definitions.specs.Numbers.{checkNumber}
 use Rattle.theory_accepted.proofs.Sentences.{accepted-settled}

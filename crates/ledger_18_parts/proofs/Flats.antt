@@ -1,10 +1,6 @@
 -- Contents put at the front of a buffer, and their plain numbers.
-use mathlib.Core.Path.{_≡_, ap, sym, _∙_}
-use mathlib.Core.List.{List, _++_, map}
-use Prim.Native.Nat.{ℕ, _*_, _/_, min}
-use native.Mathlib.Omega.{arith}
-use lib.ListN.{length, take, drop, length-append, length-drop, length-map}
-use lib.Seq.{take-at, length-take-le}
+use Rattle.kit.specs.Names.{_≡_, ap, sym, _∙_, List, _++_, map, ℕ, _*_, _/_, min, arith, length, take, drop, length-append, length-drop}
+use Rattle.kit.specs.Names.{length-map, take-at, length-take-le}
 use Rattle.definitions.specs.Ledger as ledger
 use Rattle.ledger_contents.specs.Contents.{contentsOf}
 use Rattle.ledger_contents.proofs.FlatContents.{length-contentsOf}

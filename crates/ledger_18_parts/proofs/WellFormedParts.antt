@@ -1,12 +1,6 @@
 -- The parts of number 18's test make the definition's.
-use mathlib.Core.Path.{_≡_, refl, ap, sym, _∙_}
-use mathlib.Core.Bool.{Bool, true, false, _&&_, _||_}
-use mathlib.Core.List.{List, [], _∷_, map}
-use Prim.Native.Nat.{ℕ, zero, suc, _<_}
-use native.Mathlib.Omega.{arith}
-use borrow.Author.Tests.{eq-eqb, ne-eqb}
-use lib.Dec.{eqb, leb, ltb}
-use lib.ListN.{length}
+use Rattle.kit.specs.Names.{_≡_, refl, ap, sym, _∙_, Bool, true, false, _&&_, _||_, List, [], _∷_, map, ℕ, zero, suc, _<_, arith, eqb, leb}
+use Rattle.kit.specs.Names.{ltb, length, eq-eqb, ne-eqb}
 use Rattle.definitions.specs.ContractFile.{Field, Function, functionCount, contractOf}
 use Rattle.definitions.specs.Numbers.{checkNumber}
 use Rattle.definitions.specs.Rewriting.{rewriteFunction}

@@ -1,8 +1,5 @@
 -- What the parts of the test hand on.
-use mathlib.Core.Path.{_≡_}
-use mathlib.Core.List.{List, map}
-use Prim.Native.Nat.{ℕ, _*_, _≤_}
-use lib.ListN.{length, take}
+use Rattle.kit.specs.Names.{_≡_, List, map, ℕ, _*_, _≤_, length, take}
 use Rattle.definitions.specs.Numbers.{checkNumber}
 use Rattle.definitions.specs.Ledger as ledger
 use Rattle.definitions.specs.Ledger.{plainNumber}

@@ -1,8 +1,7 @@
 // The ledger's contents as flat numbers at the front of a buffer, and what the parts of number 18's test make.
 use ledger_struct::Ledger;
 use ledger_struct::at_most;
-ghost use mathlib.Core.Path.{_≡_};
-ghost use lib.ListN.{length};
+ghost use Rattle.kit.specs.Names.{_≡_, length};
 ghost use Rattle.ledger_struct.specs.Ledgers.{ledgerOf};
 ghost use Rattle.ledger_18_parts.specs.HandedOn.{Flat};
 

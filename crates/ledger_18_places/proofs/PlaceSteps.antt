@@ -1,13 +1,6 @@
 -- The places are tested field by field and key by key.
-use mathlib.Core.Path.{_≡_, refl, ap, ap₂, sym, _∙_}
-use mathlib.Core.Bool.{Bool, true, false, _&&_}
-use mathlib.Core.List.{List, [], _∷_, _++_, map, zipWith}
-use Prim.Native.Nat.{ℕ, suc, _+_, _-_, _<_, _≤_, _/_}
-use native.Mathlib.Numerals.{add-one}
-use native.Mathlib.Omega.{arith}
-use lib.Dec.{leb}
-use lib.ListN.{length, drop, length-map, drop-of-length-le}
-use lib.Seq.{drop-cons, drop-drop}
+use Rattle.kit.specs.Names.{_≡_, refl, ap, ap₂, sym, _∙_, Bool, true, false, _&&_, List, [], _∷_, _++_, map, zipWith, ℕ, suc, _+_, _-_, _<_}
+use Rattle.kit.specs.Names.{_≤_, _/_, arith, add-one, leb, length, drop, length-map, drop-of-length-le, drop-cons, drop-drop}
 use Rattle.definitions.specs.ContractFile.{DataType, Field, fieldAt, dataTypeOf}
 use Rattle.definitions.specs.Original as original
 use Rattle.definitions.specs.Original.{numbersFrom, placeCount, perPlace, placeReader, finalAddress}

@@ -1,6 +1,5 @@
 -- The forms of a contract's places.
-use mathlib.Core.List.{List, map, zipWith}
-use Prim.Native.Nat.{ℕ}
+use Rattle.kit.specs.Names.{List, map, zipWith, ℕ}
 use Rattle.definitions.specs.ContractFile.{Field, fieldAt}
 use Rattle.definitions.specs.Original.{numbersFrom, perPlace, placeReader, placeReaders, finalAddress}
 use Rattle.definitions.specs.Ledger.{Form}

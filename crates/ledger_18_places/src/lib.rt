@@ -1,7 +1,5 @@
 // Whether all places of a ledger have the types and the owners that the file asks.
-ghost use mathlib.Core.Path.{_≡_};
-ghost use Prim.Native.Nat.{_+_, _<_, _≤_};
-ghost use lib.ListN.{drop};
+ghost use Rattle.kit.specs.Names.{_≡_, _+_, _<_, _≤_, drop};
 ghost use Rattle.definitions.specs.ContractFile.{fieldCount};
 ghost use Rattle.definitions.specs.Ledger.{fits, allFit};
 ghost use Rattle.file_accepted.specs.Context.{fieldsIn};

@@ -1,12 +1,6 @@
 -- The variables of a log are tested entry by entry.
-use mathlib.Core.Path.{_≡_, refl, ap, sym, _∙_}
-use mathlib.Core.Bool.{Bool, true, false, cond}
-use mathlib.Core.List.{List, [], _∷_}
-use Prim.Native.Nat.{ℕ, _+_, _/_, _<_, _≤_}
-use native.Mathlib.Omega.{arith}
-use borrow.Author.Tests.{eq-eqb, ne-eqb}
-use lib.Dec.{eqb, leb}
-use lib.ListN.{length, drop, getD, length-drop}
+use Rattle.kit.specs.Names.{_≡_, refl, ap, sym, _∙_, Bool, true, false, cond, List, [], _∷_, ℕ, _+_, _/_, _<_, _≤_, arith, eqb, leb, length}
+use Rattle.kit.specs.Names.{drop, getD, length-drop, eq-eqb, ne-eqb}
 use Rattle.definitions.specs.ContractFile.{DataType, boolean, Expression, nodeCount, dataTypeOf, Node, expressionOf, typeOf}
 use Rattle.definitions.specs.Original.{anyone, only}
 use Rattle.definitions.specs.Ledger.{Content, Form, allFit}

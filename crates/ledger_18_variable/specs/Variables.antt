@@ -1,9 +1,5 @@
 -- The forms of a function's variables: by their origins, by its parameters and by the log of its events.
-use mathlib.Core.Bool.{cond}
-use mathlib.Core.List.{List, [], _∷_, map}
-use Prim.Native.Nat.{ℕ}
-use lib.Dec.{eqb}
-use lib.ListN.{getD, drop}
+use Rattle.kit.specs.Names.{cond, List, [], _∷_, map, ℕ, eqb, getD, drop}
 use Rattle.definitions.specs.ContractFile.{boolean, Name, Parameter, Scope, parameterAt, typeOf}
 use Rattle.definitions.specs.Rewriting.{Variable, variableOwner, privateParameters}
 use Rattle.definitions.specs.Original.{Reader, anyone, only, readerOf}

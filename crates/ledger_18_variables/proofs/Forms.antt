@@ -1,12 +1,6 @@
 -- What the parameters and the log tell of a function's variables is what their origins tell.
-use mathlib.Core.Path.{_≡_, refl, ap, ap₂, sym, _∙_}
-use mathlib.Core.Bool.{Bool, false, _&&_}
-use mathlib.Core.List.{List, [], _∷_, _++_, map}
-use Prim.Native.Nat.{ℕ, suc, _+_, _*_}
-use native.Mathlib.Omega.{arith}
-use borrow.Author.Tests.{ne-eqb, lt-ltb}
-use lib.ListN.{length, drop, take, getD, length-map}
-use lib.Seq.{take-at}
+use Rattle.kit.specs.Names.{_≡_, refl, ap, ap₂, sym, _∙_, Bool, false, _&&_, List, [], _∷_, _++_, map, ℕ, suc, _+_, _*_, arith, length}
+use Rattle.kit.specs.Names.{drop, take, getD, length-map, take-at, ne-eqb, lt-ltb}
 use Rattle.definitions.specs.ContractFile.{boolean, meName, finalName, parameterName, Owner, everyone, ownedBy, ownerCode, typeOf}
 use Rattle.definitions.specs.Rewriting.{Variable, always, privateParameters, openings, rewriteStatement, rewriteFunction}
 use Rattle.definitions.specs.Original.{anyone, readerOf}

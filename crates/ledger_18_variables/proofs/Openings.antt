@@ -1,13 +1,6 @@
 -- The reads of private parameters are tested one after another.
-use mathlib.Core.Path.{_≡_, ap, sym, _∙_}
-use mathlib.Core.Bool.{Bool, true, false, not, cond}
-use mathlib.Core.List.{List, _∷_, map}
-use Prim.Native.Nat.{ℕ, suc, _+_, _*_, _<_, _≤_}
-use native.Mathlib.Numerals.{add-one}
-use borrow.Author.Tests.{eq-eqb, ne-eqb}
-use lib.Dec.{eqb}
-use lib.ListN.{length, drop, drop-of-length-le}
-use lib.Seq.{drop-cons}
+use Rattle.kit.specs.Names.{_≡_, ap, sym, _∙_, Bool, true, false, not, cond, List, _∷_, map, ℕ, suc, _+_, _*_, _<_, _≤_, add-one, eqb}
+use Rattle.kit.specs.Names.{length, drop, drop-of-length-le, drop-cons, eq-eqb, ne-eqb}
 use Rattle.definitions.specs.ContractFile.{Parameter, parameterAt, byteAt, parameterOf, dataTypeOf}
 use Rattle.definitions.specs.Original.{only}
 use Rattle.definitions.specs.Ledger.{Content, Form}

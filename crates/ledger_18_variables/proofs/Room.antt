@@ -1,11 +1,5 @@
 -- The log of a function's events has room, and what it holds is tested.
-use mathlib.Core.Path.{_≡_, ap, ap₂, sym, _∙_}
-use mathlib.Core.Bool.{Bool, true, _&&_}
-use mathlib.Core.List.{List, map}
-use Prim.Native.Nat.{ℕ, _≤_}
-use native.Mathlib.Omega.{arith}
-use lib.ListN.{length, drop, take, getD}
-use lib.Seq.{length-take-le}
+use Rattle.kit.specs.Names.{_≡_, ap, ap₂, sym, _∙_, Bool, true, _&&_, List, map, ℕ, _≤_, arith, length, drop, take, getD, length-take-le}
 use Rattle.definitions.specs.Ledger.{allFit}
 use Rattle.file_accepted.specs.Context.{Context, nodesIn, parametersIn, scopeIn, Source}
 use Rattle.file_accepted.specs.Functions.{rootAt}

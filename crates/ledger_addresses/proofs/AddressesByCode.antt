@@ -1,14 +1,8 @@
 -- The address of each kind of owner code, and that a list of them gives the address of each name.
-use mathlib.Core.Path.{_≡_, refl, ap, sym, _∙_}
-use mathlib.Core.Bool.{Bool, true, false, cond, not}
-use mathlib.Core.List.{List}
-use Prim.Native.Nat.{ℕ, _+_, _*_, _-_, _<_, _≤_}
-use native.Mathlib.Omega.{arith}
+use Rattle.kit.specs.Names.{_≡_, refl, ap, sym, _∙_, Bool, true, false, cond, not, List, ℕ, _+_, _*_, _-_, _<_, _≤_, arith, ltb, length}
+use Rattle.kit.specs.Names.{getD, set, length-set, List·getD-eq-default, getD-set-same, getD-set-other, eq-eqb, ne-eqb, lt-ltb, le-ltb}
+use Rattle.kit.specs.Names.{le-leb, lt-leb, ltb-true, ltb-false}
 use borrow.Author.Count.{below-more}
-use borrow.Author.Tests.{eq-eqb, ne-eqb, lt-ltb, le-ltb, le-leb, lt-leb, ltb-true, ltb-false}
-use lib.Dec.{ltb}
-use lib.ListN.{length, getD, set, length-set, List·getD-eq-default}
-use lib.Seq.{getD-set-same, getD-set-other}
 use Rattle.definitions.specs.ContractFile.{Field, Parameter, isFinal, finalName, parameterName, byteAt, fieldCount, fieldOf, parameterOf, shapeOf}
 use Rattle.definitions.specs.Original.{finalAddress, position}
 use Rattle.theory_laws.proofs.Codes.{not-final}

@@ -1,10 +1,5 @@
 -- The address that each owner code stands for in a call, what putting them down asks, and what it leaves.
-use mathlib.Core.Path.{_≡_}
-use mathlib.Core.Bool.{cond}
-use mathlib.Core.List.{List}
-use Prim.Native.Nat.{ℕ, _-_, _≤_}
-use lib.Dec.{eqb}
-use lib.ListN.{length}
+use Rattle.kit.specs.Names.{_≡_, cond, List, ℕ, _-_, _≤_, eqb, length}
 use Rattle.definitions.specs.ContractFile.{Name, finalName, parameterName, byteAt, fieldCount, isFinalCode, isParameterCode}
 use Rattle.definitions.specs.Original.{addressIn}
 use Rattle.file_accepted.specs.Context.{scopeIn}

@@ -8,8 +8,7 @@ use file_kinds::PARAMETER_CODES_END;
 use ledger_places::number_at;
 use ledger_places::position;
 use ledger_places::put_number;
-ghost use mathlib.Core.Path.{_≡_};
-ghost use Prim.Native.Nat.{_<_, _≤_};
+ghost use Rattle.kit.specs.Names.{_≡_, _<_, _≤_};
 ghost use Rattle.definitions.specs.ContractFile.{finalName, parameterName, fieldCount};
 ghost use Rattle.ledger_addresses.specs.Addresses.{named, addressOfCode, FewNames, AddressRoom, Addressed};
 

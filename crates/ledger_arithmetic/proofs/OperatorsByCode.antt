@@ -1,10 +1,5 @@
 -- An operator by its code: the ten that are listed after the first, and the first for any other.
-use mathlib.Core.Path.{_≡_, refl, sym}
-use mathlib.Core.Bool.{_&&_, _||_, not}
-use Prim.Native.Nat.{ℕ, zero, suc, _/_, _%_}
-use native.Mathlib.Nat.{div-zero, mod-zero}
-use borrow.Author.Tests.{ne-eqb}
-use lib.Dec.{eqb}
+use Rattle.kit.specs.Names.{_≡_, refl, sym, _&&_, _||_, not, ℕ, zero, suc, _/_, _%_, div-zero, mod-zero, eqb, ne-eqb}
 use Rattle.definitions.specs.Basics.{bit, isTrue}
 use Rattle.definitions.specs.ContractFile.{plus, operatorOf}
 use Rattle.definitions.specs.Original.{operate}

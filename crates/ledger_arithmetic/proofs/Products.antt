@@ -1,7 +1,5 @@
 -- A product of two numbers of so many bits fits twice as many.
-use mathlib.Core.Path.{subst⁻¹}
-use Prim.Native.Nat.{ℕ, _+_, _*_, _^_, _<_}
-use native.Mathlib.Nat.{le-of-lt, lt-of-le-of-lt, mul-le-mul-left, mul-lt-mul-of-pos-right}
+use Rattle.kit.specs.Names.{subst⁻¹, ℕ, _+_, _*_, _^_, _<_, le-of-lt, lt-of-le-of-lt, mul-le-mul-left, mul-lt-mul-of-pos-right}
 use lib.Pow.{pow-pos, pow-add}
 
 pub product-fits : (bits : ℕ) {left right : ℕ} → left < 2 ^ bits → right < 2 ^ bits → left * right < 2 ^ (bits + bits)

@@ -1,12 +1,6 @@
 -- Addresses that stand at their owner codes are those of the names in a call.
-use mathlib.Core.Path.{_≡_, refl, sym}
-use mathlib.Core.Bool.{Bool, true, false}
-use mathlib.Core.List.{List}
-use Prim.Native.Nat.{ℕ, _+_, _<_, _≤_}
-use native.Mathlib.Omega.{arith}
-use borrow.Author.Tests.{ltb-true, ltb-false}
-use lib.Dec.{ltb}
-use lib.ListN.{length, getD, List·getD-eq-default}
+use Rattle.kit.specs.Names.{_≡_, refl, sym, Bool, true, false, List, ℕ, _+_, _<_, _≤_, arith, ltb, length, getD, List·getD-eq-default}
+use Rattle.kit.specs.Names.{ltb-true, ltb-false}
 use Rattle.definitions.specs.ContractFile.{Name, meName, finalName, parameterName, Scope, fieldAt, plainField, boolean, toEveryone}
 use Rattle.definitions.specs.Original.{addressIn}
 use Rattle.ledger_circuits.specs.Circuits.{addressFrom}

@@ -1,8 +1,5 @@
 -- The value of a circuit by its kind, as code learns it.
-use mathlib.Core.Path.{_≡_}
-use mathlib.Core.List.{List}
-use Prim.Native.Nat.{ℕ}
-use lib.ListN.{getD}
+use Rattle.kit.specs.Names.{_≡_, List, ℕ, getD}
 use Rattle.definitions.specs.ContractFile.{DataType, Operator}
 use Rattle.definitions.specs.Original.{operate, negate}
 use Rattle.definitions.specs.Rewriting.{Circuit}

@@ -1,9 +1,5 @@
 -- Circuits and constraints as code finds them: nodes in bytes, variables and addresses in flat numbers.
-use mathlib.Core.Bool.{Bool, cond}
-use mathlib.Core.List.{List, [], _∷_}
-use Prim.Native.Nat.{ℕ, zero, suc, _+_, _-_, _/_}
-use lib.Dec.{eqb, ltb}
-use lib.ListN.{length, getD}
+use Rattle.kit.specs.Names.{Bool, cond, List, [], _∷_, ℕ, zero, suc, _+_, _-_, _/_, eqb, ltb, length, getD}
 use Rattle.definitions.specs.Basics.{all}
 use Rattle.definitions.specs.ContractFile.{Name, meName, finalName, parameterName, NodeRecord, ownerOfCode}
 use Rattle.definitions.specs.Rewriting.{Circuit, Claim, equals, opensForCaller, Guard, always, under, Constraint}

@@ -1,11 +1,6 @@
 -- Laws of flat contents: their number, the content at a position, parts of whole fives, and a content replaced.
-use mathlib.Core.Path.{_≡_, refl, ap, sym}
-use mathlib.Core.List.{List, [], _∷_}
-use Prim.Native.Nat.{ℕ, zero, suc, _+_, _*_, _/_, _%_, _<_, _≤_}
-use native.Mathlib.Omega.{arith}
-use borrow.Author.Tests.{ne-eqb}
-use lib.ListN.{length, getD, set, List·getD-eq-default}
-use lib.Seq.{set-out, sets-eq}
+use Rattle.kit.specs.Names.{_≡_, refl, ap, sym, List, [], _∷_, ℕ, zero, suc, _+_, _*_, _/_, _%_, _<_, _≤_, arith, length, getD, set}
+use Rattle.kit.specs.Names.{List·getD-eq-default, set-out, sets-eq, ne-eqb}
 use Rattle.memory_buffer.specs.Buffer.{stored}
 use Rattle.definitions.specs.Ledger as ledger
 use Rattle.ledger_contents.specs.Contents.{five, contentOfFive, contentsOf}

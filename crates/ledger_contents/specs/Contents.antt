@@ -1,8 +1,5 @@
 -- A content as code holds it, and contents as flat numbers: tag (0 plain, else a cell), owner, call, index and value of each.
-use mathlib.Core.List.{List, [], _∷_}
-use mathlib.Core.Bool.{cond}
-use Prim.Native.Nat.{ℕ, _%_, _<_}
-use lib.Dec.{eqb}
+use Rattle.kit.specs.Names.{cond, List, [], _∷_, ℕ, _%_, _<_, eqb}
 use Rattle.definitions.specs.Ledger as ledger
 use Rattle.ledger_contents.specs.declared.Content.{Content}
 use Rattle.ledger_contents.specs.declared.Content.the-variants.{Plain, Cell}

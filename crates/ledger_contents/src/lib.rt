@@ -1,7 +1,5 @@
 // What a place, a parameter or a variable holds, and a list of such contents as flat numbers, five a content.
-ghost use mathlib.Core.Path.{_≡_};
-ghost use lib.ListN.{length, set};
-ghost use Prim.Native.Nat.{_+_, _*_, _<_, _≤_};
+ghost use Rattle.kit.specs.Names.{_≡_, _+_, _*_, _<_, _≤_, length, set};
 ghost use Rattle.definitions.specs.Ledger.{contentAt, plainNumber, openedNumber};
 ghost use Rattle.memory_buffer.specs.Buffer.{stored};
 ghost use Rattle.ledger_contents.specs.Contents.{contentOfCode, contentsOf, five};

@@ -1,12 +1,6 @@
 -- Arguments against parameters, one after another.
-use mathlib.Core.Path.{_≡_, refl, ap, ap₂, sym, _∙_}
-use mathlib.Core.Bool.{Bool, true, false, _||_, not}
-use mathlib.Core.List.{List, [], _∷_, zipWith}
-use Prim.Native.Nat.{ℕ, suc, _+_, _*_, _<_, _≤_}
-use native.Mathlib.Numerals.{add-one}
-use borrow.Author.Tests.{eq-eqb, ne-eqb}
-use lib.ListN.{length, getD, drop, drop-of-length-le}
-use lib.Seq.{drop-cons}
+use Rattle.kit.specs.Names.{_≡_, refl, ap, ap₂, sym, _∙_, Bool, true, false, _||_, not, List, [], _∷_, zipWith, ℕ, suc, _+_, _*_, _<_, _≤_}
+use Rattle.kit.specs.Names.{add-one, length, getD, drop, drop-of-length-le, drop-cons, eq-eqb, ne-eqb}
 use Rattle.definitions.specs.Basics.{any}
 use Rattle.definitions.specs.ContractFile.{Parameter, Function, boolean, parameterAt, isOfType, byteAt, dataTypeOf, functionCount, parameterOf}
 use Rattle.definitions.specs.Ledger.{Ledger, argumentsOff}

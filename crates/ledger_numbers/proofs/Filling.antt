@@ -1,10 +1,6 @@
 -- A list filled from its front on until it is the list meant.
-use mathlib.Core.Path.{_≡_, ap, ap₂, sym, _∙_}
-use mathlib.Core.List.{List, [], _∷_, _++_}
-use Prim.Native.Nat.{ℕ, suc, _+_, _<_, _≤_}
-use native.Mathlib.Numerals.{add-one}
-use lib.ListN.{length, getD, take, set}
-use lib.Seq.{take-suc, take-suc-set, take-all}
+use Rattle.kit.specs.Names.{_≡_, ap, ap₂, sym, _∙_, List, [], _∷_, _++_, ℕ, suc, _+_, _<_, _≤_, add-one, length, getD, take, set, take-suc}
+use Rattle.kit.specs.Names.{take-suc-set, take-all}
 
 module _ {A : Type 0} (target : List A) where
   pub filled-more : (held after : List A) (i : ℕ) (item other : A) → i < length held → i < length target → take i held ≡ take i target

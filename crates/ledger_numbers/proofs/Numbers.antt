@@ -1,10 +1,6 @@
 -- The numbers of contents, one after another.
-use mathlib.Core.Path.{_≡_, ap, sym, _∙_}
-use mathlib.Core.List.{List, map}
-use Prim.Native.Nat.{ℕ, _+_, _/_, _<_, _≤_}
-use native.Mathlib.Omega.{arith}
-use lib.ListN.{length, take, set, length-map, List·getD-map}
-use lib.Seq.{take-all}
+use Rattle.kit.specs.Names.{_≡_, ap, sym, _∙_, List, map, ℕ, _+_, _/_, _<_, _≤_, arith, length, take, set, length-map, List·getD-map}
+use Rattle.kit.specs.Names.{take-all}
 use Rattle.definitions.specs.Ledger.{Content, plain, contentAt}
 use Rattle.ledger_contents.specs.Contents.{contentsOf}
 use Rattle.ledger_contents.proofs.FlatContents.{length-contentsOf}

@@ -1,9 +1,5 @@
 -- 01, Numbers: "19. Arguments differ in number from the parameters, or one is outside its type."
-use mathlib.Core.Bool.{Bool, _||_, not}
-use mathlib.Core.List.{List, zipWith}
-use Prim.Native.Nat.{ℕ}
-use lib.Dec.{eqb}
-use lib.ListN.{length}
+use Rattle.kit.specs.Names.{Bool, _||_, not, List, zipWith, ℕ, eqb, length}
 use Rattle.definitions.specs.Basics.{any}
 use Rattle.definitions.specs.ContractFile.{Parameter, isOfType}
 

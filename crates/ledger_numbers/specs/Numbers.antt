@@ -1,8 +1,5 @@
 -- The number of each content, from flat contents.
-use mathlib.Core.Path.{_≡_}
-use mathlib.Core.List.{List, map}
-use Prim.Native.Nat.{ℕ, _/_}
-use lib.ListN.{length, take}
+use Rattle.kit.specs.Names.{_≡_, List, map, ℕ, _/_, length, take}
 use Rattle.definitions.specs.Ledger.{Content}
 use Rattle.ledger_contents.specs.Contents.{contentsOf}
 

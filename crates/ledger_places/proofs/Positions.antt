@@ -1,13 +1,6 @@
 -- Where a place stands, told one field at a time from the first.
-use mathlib.Core.Path.{_≡_, refl, ap, sym, _∙_}
-use mathlib.Core.Bool.{cond}
-use mathlib.Core.List.{List, [], _∷_}
-use Prim.Native.Nat.{ℕ, zero, suc, _+_, _*_, _-_, _<_, _≤_}
-use native.Mathlib.Numerals.{add-one}
-use native.Mathlib.Omega.{arith}
-use borrow.Author.Tests.{ne-eqb}
-use lib.ListN.{length, drop, length-map, drop-of-length-le}
-use lib.Seq.{drop-cons}
+use Rattle.kit.specs.Names.{_≡_, refl, ap, sym, _∙_, cond, List, [], _∷_, ℕ, zero, suc, _+_, _*_, _-_, _<_, _≤_, arith, add-one, length}
+use Rattle.kit.specs.Names.{drop, length-map, drop-of-length-le, drop-cons, ne-eqb}
 use Rattle.definitions.specs.ContractFile.{Field, fieldAt, isMapping, byteAt, fieldCount, fieldRecords, fieldOf, shapeOf}
 use Rattle.definitions.specs.Reading.{fieldsRead}
 use Rattle.definitions.specs.Original.{placeCount, position}

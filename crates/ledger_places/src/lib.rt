@@ -1,9 +1,7 @@
 // 01, Runs and views: "places in field order (a mapping is 16)": where a place stands, and numbers read and replaced there.
 use file_bytes::byte_at;
 use file_kinds::MAPPING;
-ghost use mathlib.Core.Path.{_≡_};
-ghost use Prim.Native.Nat.{_+_, _*_, _≤_, _<_};
-ghost use lib.ListN.{getD, set};
+ghost use Rattle.kit.specs.Names.{_≡_, _+_, _*_, _≤_, _<_, getD, set};
 ghost use Rattle.definitions.specs.ContractFile.{fieldAt, fieldCount};
 ghost use Rattle.definitions.specs.Original.{placeCount, position};
 ghost use Rattle.file_accepted.specs.Context.{fieldsIn};

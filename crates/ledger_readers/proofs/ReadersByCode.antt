@@ -1,10 +1,5 @@
 -- A type by its code, a field's owner by its byte, and what a form asks by its two parts.
-use mathlib.Core.Path.{_≡_, refl, ap, sym, _∙_}
-use mathlib.Core.Bool.{Bool, true, false, _&&_}
-use mathlib.Core.List.{List}
-use Prim.Native.Nat.{ℕ, _+_, _*_, _-_, _<_}
-use borrow.Author.Tests.{eq-eqb, ne-eqb, lt-ltb}
-use lib.Dec.{ltb}
+use Rattle.kit.specs.Names.{_≡_, refl, ap, sym, _∙_, Bool, true, false, _&&_, List, ℕ, _+_, _*_, _-_, _<_, ltb, eq-eqb, ne-eqb, lt-ltb}
 use Rattle.definitions.specs.ContractFile.{DataType, Field, fieldAt, isOfType, byteAt, fieldCount, fieldOf, dataTypeOf, fieldOwnerOfCode}
 use Rattle.definitions.specs.Original.{anyone, only, placeReader}
 use Rattle.definitions.specs.Ledger as ledger

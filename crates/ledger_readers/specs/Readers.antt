@@ -1,7 +1,5 @@
 -- A reader as code holds it, and the form that a type's code and a reader make.
-use mathlib.Core.Bool.{Bool, true, false}
-use Prim.Native.Nat.{ℕ, _<_}
-use lib.Dec.{eqb}
+use Rattle.kit.specs.Names.{Bool, true, false, ℕ, _<_, eqb}
 use Rattle.definitions.specs.Ledger as ledger
 use Rattle.definitions.specs.Original as original
 use Rattle.definitions.specs.ContractFile.{dataTypeOf}

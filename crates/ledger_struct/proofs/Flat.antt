@@ -1,14 +1,7 @@
 -- Steps of the loops between places and flat numbers.
-use mathlib.Core.Path.{_≡_, refl, ap, sym, _∙_}
-use mathlib.Core.List.{List, [], _∷_, _++_, map}
-use mathlib.Core.Bool.{Bool, true, false}
-use Prim.Native.Nat.{ℕ, _+_, _*_, _/_, _<_, _≤_, min}
-use native.Mathlib.Numerals.{add-one}
-use native.Mathlib.Omega.{arith}
-use borrow.Author.Tests.{leb-true, leb-false}
-use lib.Dec.{leb}
-use lib.ListN.{length, getD, set, take, drop, replicate, length-map, take-append-drop, List·getD-map}
-use lib.Seq.{take-suc, take-suc-set, take-all, take-append-le, length-take-le}
+use Rattle.kit.specs.Names.{_≡_, refl, ap, sym, _∙_, Bool, true, false, List, [], _∷_, _++_, map, ℕ, _+_, _*_, _/_, _<_, _≤_, min, arith}
+use Rattle.kit.specs.Names.{add-one, leb, length, getD, set, take, drop, replicate, length-map, take-append-drop, List·getD-map, take-suc}
+use Rattle.kit.specs.Names.{take-suc-set, take-all, take-append-le, length-take-le, leb-true, leb-false}
 use Rattle.definitions.specs.Ledger as ledger
 use Rattle.theory_laws.proofs.Lists.{map-append}
 use Rattle.ledger_contents.specs.declared.Content.{Content}

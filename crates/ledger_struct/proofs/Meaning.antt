@@ -1,9 +1,5 @@
 -- What the structs mean: contents that are put into places are read back, and what is laid over such a struct is one.
-use mathlib.Core.Path.{_≡_, refl, sym}
-use mathlib.Core.Bool.{Bool, true, false, cond}
-use mathlib.Core.List.{List, [], _∷_, map}
-use Prim.Native.Nat.{ℕ}
-use lib.ListN.{length, take, length-map}
+use Rattle.kit.specs.Names.{_≡_, refl, sym, Bool, true, false, cond, List, [], _∷_, map, ℕ, length, take, length-map}
 use Rattle.definitions.specs.Basics.{isZero}
 use Rattle.definitions.specs.Ledger as ledger
 use Rattle.ledger_contents.specs.Contents.{contentOfCode, contentOfPlace}

@@ -1,11 +1,6 @@
 -- Laws of a list that is filled up: how a loop fills it, its front.
-use mathlib.Core.Path.{_≡_, refl}
-use mathlib.Core.List.{List, [], _∷_, _++_, append-assoc}
-use Prim.Native.Nat.{ℕ, suc, _+_, _-_, _<_, _≤_}
-use native.Mathlib.Numerals.{add-one}
-use native.Mathlib.Omega.{arith}
-use lib.ListN.{length, getD, set, take, replicate, length-append}
-use lib.Seq.{take-suc, set-at, take-at, length-take-le}
+use Rattle.kit.specs.Names.{_≡_, refl, List, [], _∷_, _++_, append-assoc, ℕ, suc, _+_, _-_, _<_, _≤_, arith, add-one, length, getD, set}
+use Rattle.kit.specs.Names.{take, replicate, length-append, take-suc, set-at, take-at, length-take-le}
 use Rattle.ledger_struct.specs.Whole.{padded}
 
 pub padded-none : {A : Type 0} (n : ℕ) (a : A) → replicate n a ≡ padded n a []

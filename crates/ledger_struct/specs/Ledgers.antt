@@ -1,7 +1,5 @@
 -- The ledger of the definitions that a ledger of the code is.
-use mathlib.Core.List.{List, map}
-use Prim.Native.Nat.{ℕ}
-use lib.ListN.{take}
+use Rattle.kit.specs.Names.{List, map, ℕ, take}
 use Rattle.definitions.specs.Ledger as ledger
 use Rattle.ledger_contents.specs.Contents.{contentOfPlace}
 use Rattle.ledger_contents.specs.declared.Place.{Place}

@@ -1,9 +1,5 @@
 -- The one ledger of the code that a ledger of the definitions makes, and what a call hands back: no part of a struct is left open.
-use mathlib.Core.Path.{_≡_}
-use mathlib.Core.Bool.{cond}
-use mathlib.Core.List.{List, _++_, map}
-use Prim.Native.Nat.{ℕ, _-_}
-use lib.ListN.{length, replicate}
+use Rattle.kit.specs.Names.{_≡_, cond, List, _++_, map, ℕ, _-_, length, replicate}
 use Rattle.definitions.specs.Basics.{isZero}
 use Rattle.definitions.specs.Ledger as ledger
 use Rattle.ledger_contents.specs.declared.Content.{Content}

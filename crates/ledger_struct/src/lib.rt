@@ -1,9 +1,7 @@
 // The ledger as code holds it, and its contents to flat numbers and back.
 use ledger_contents::Content;
 use ledger_contents::Place;
-ghost use mathlib.Core.Path.{_≡_};
-ghost use lib.ListN.{length};
-ghost use Prim.Native.Nat.{ℕ, _*_, _/_, _<_, _≤_, min};
+ghost use Rattle.kit.specs.Names.{_≡_, ℕ, _*_, _/_, _<_, _≤_, min, length};
 ghost use Rattle.ledger_contents.specs.Contents.{contentsOf};
 ghost use Rattle.ledger_struct.specs.Ledgers.{ledgerOf, contentsIn};
 ghost use Rattle.ledger_struct.specs.Whole.{placesFor};

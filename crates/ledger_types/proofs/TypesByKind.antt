@@ -1,9 +1,5 @@
 -- The type of an expression by its kind, and of fields, parameters and operators by their codes.
-use mathlib.Core.Path.{_≡_, refl, ap, sym, _∙_}
-use mathlib.Core.List.{List, [], _∷_}
-use Prim.Native.Nat.{ℕ, zero, suc, _+_, _*_, _<_, _≤_}
-use native.Mathlib.Omega.{arith}
-use lib.ListN.{List·getD-eq-default}
+use Rattle.kit.specs.Names.{_≡_, refl, ap, sym, _∙_, List, [], _∷_, ℕ, zero, suc, _+_, _*_, _<_, _≤_, arith, List·getD-eq-default}
 use Rattle.definitions.specs.ContractFile.{DataType, boolean, address, Owner, Operator, plus, minus, times, divide, remainder, less, lessOrEqual, equal, unequal, conjunction, disjunction, Expression, Scope, Field, Parameter, fieldAt, parameterAt, byteAt, fieldCount, dataTypeOf, fieldOf, parameterOf, operatorOf, resultType, typeOf}
 use Rattle.file_accepted.specs.Context.{fieldsIn, parametersIn}
 use Rattle.file_accepted.proofs.Declarations.{field-declared, field-missing, parameter-declared, parameter-missing}

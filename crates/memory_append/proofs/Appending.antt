@@ -1,12 +1,7 @@
 -- Laws of appending: nothing, one run behind another, and what room is left.
-use mathlib.Core.Path.{_≡_, refl, ap, sym, _∙_}
-use mathlib.Core.List.{List, [], _∷_, _++_, append-nil, append-assoc}
-use Prim.Native.Nat.{ℕ, _+_, _<_, _≤_}
-use native.Mathlib.Nat.{add-assoc}
-use native.Mathlib.Numerals.{add-one}
-use native.Mathlib.Omega.{arith}
-use lib.ListN.{length, getD, take, drop, length-append}
-use lib.Seq.{length-take-le, take-suc, take-all, take-append-le, take-take, drop-at}
+use Rattle.kit.specs.Names.{_≡_, refl, ap, sym, _∙_, List, [], _∷_, _++_, append-nil, append-assoc, ℕ, _+_, _<_, _≤_, arith, add-one}
+use Rattle.kit.specs.Names.{add-assoc, length, getD, take, drop, length-append, length-take-le, take-suc, take-all, take-append-le}
+use Rattle.kit.specs.Names.{take-take, drop-at}
 use Rattle.memory_buffer.specs.Buffer.{stored}
 use Rattle.memory_buffer.proofs.Storing.{stored-length, stored-nothing, stored-then}
 use Rattle.memory_append.specs.Append.{Appended, Appending}

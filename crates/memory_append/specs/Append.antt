@@ -1,8 +1,5 @@
 -- What a lent buffer holds once some values are appended from a place on, and the place behind them.
-use mathlib.Core.Path.{_≡_}
-use mathlib.Core.List.{List, _++_}
-use Prim.Native.Nat.{ℕ, _+_}
-use lib.ListN.{length}
+use Rattle.kit.specs.Names.{_≡_, List, _++_, ℕ, _+_, length}
 use Rattle.memory_buffer.specs.Buffer.{stored}
 
 pub record Appended (held after : List ℕ) (at : ℕ) (values : List ℕ) (end : ℕ) : Type 0 where

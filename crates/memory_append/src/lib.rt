@@ -1,8 +1,6 @@
 // Bytes appended to those that a lent buffer already holds up to a place; the answer is the place behind them.
 use memory_buffer::put_byte;
-ghost use mathlib.Core.List.{[], _∷_};
-ghost use Prim.Native.Nat.{_+_, _%_, _/_, _≤_};
-ghost use lib.ListN.{length};
+ghost use Rattle.kit.specs.Names.{[], _∷_, _+_, _%_, _/_, _≤_, length};
 ghost use Rattle.memory_append.specs.Append.{Appended};
 
 // One byte behind others; the answer is the next place, so that parts are written in a row.

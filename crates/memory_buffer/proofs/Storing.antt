@@ -1,11 +1,7 @@
 -- Laws of `stored`: its length, nothing stored, one value, and one run stored right behind another.
-use mathlib.Core.Path.{_≡_, ap, sym, _∙_}
-use mathlib.Core.List.{List, [], _∷_, _++_, append-nil, append-assoc}
-use Prim.Native.Nat.{ℕ, _+_, _<_, _≤_}
-use native.Mathlib.Nat.{add-zero, add-assoc}
-use native.Mathlib.Omega.{arith}
-use lib.ListN.{length, set, take, drop, length-append, length-drop, take-append-drop}
-use lib.Seq.{sets-eq, length-take-le, take-at, drop-append-add, drop-drop}
+use Rattle.kit.specs.Names.{_≡_, ap, sym, _∙_, List, [], _∷_, _++_, append-nil, append-assoc, ℕ, _+_, _<_, _≤_, arith, add-zero, add-assoc}
+use Rattle.kit.specs.Names.{length, set, take, drop, length-append, length-drop, take-append-drop, sets-eq, length-take-le, take-at}
+use Rattle.kit.specs.Names.{drop-append-add, drop-drop}
 use Rattle.memory_buffer.specs.Buffer.{stored}
 
 module _ (held : List ℕ) (at : ℕ) where

@@ -1,8 +1,5 @@
 // Values written over a lent buffer, one at a time. Larger runs follow by the laws of `stored`.
-ghost use mathlib.Core.Path.{_≡_};
-ghost use mathlib.Core.List.{[], _∷_};
-ghost use Prim.Native.Nat.{_<_};
-ghost use lib.ListN.{length};
+ghost use Rattle.kit.specs.Names.{_≡_, [], _∷_, _<_, length};
 ghost use Rattle.memory_buffer.specs.Buffer.{stored};
 
 // A store by a function of its own, so that its effect is one equation with `stored`.

@@ -1,6 +1,5 @@
 // The arguments that a program was started with: names of files, and no options so far.
-ghost use mathlib.Core.Path.{_≡_};
-ghost use Prim.Native.Nat.{_≤_};
+ghost use Rattle.kit.specs.Names.{_≡_, _≤_};
 ghost use Rattle.program_arguments.specs.Options.{isOption};
 
 // Whether each argument is the name of a file, and how many there are: 0 where one is not.

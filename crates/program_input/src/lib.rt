@@ -4,9 +4,7 @@ use program_output::print;
 use program_output::tell;
 use program_reading::read_from;
 use program_reading::read_on;
-ghost use mathlib.Core.Path.{_≡_};
-ghost use Prim.Native.Nat.{_≤_};
-ghost use lib.ListN.{length};
+ghost use Rattle.kit.specs.Names.{_≡_, _≤_, length};
 ghost use Rattle.io.specs.Counts.{Counts};
 ghost use Rattle.program_reading.specs.Inputs.{whereReady, fitting, Begins};
 

@@ -1,7 +1,5 @@
 -- All of so many bytes, or none, are not more than those.
-use mathlib.Core.Bool.{Bool, true, false}
-use Prim.Native.Nat.{ℕ, _≤_}
-use native.Mathlib.Omega.{arith}
+use Rattle.kit.specs.Names.{Bool, true, false, ℕ, _≤_, arith}
 use Rattle.program_output.specs.Counts.{allOrNone}
 
 pub kept-within : (whole : Bool) (long : ℕ) → allOrNone whole long ≤ long

@@ -3,9 +3,7 @@ use crate::print;
 use crate::tell;
 use crate::write_all;
 use memory_append::append;
-ghost use mathlib.Core.Path.{_≡_};
-ghost use Prim.Native.Nat.{_≤_};
-ghost use lib.ListN.{length};
+ghost use Rattle.kit.specs.Names.{_≡_, _≤_, length};
 ghost use Rattle.program_output.specs.Counts.{allOrNone};
 
 // Whether all of the bytes are kept, and how many that is.

@@ -7,8 +7,7 @@ pub use files::deliver;
 pub use files::write_file;
 use libc::STDERR_FILENO;
 use libc::STDOUT_FILENO;
-ghost use Prim.Native.Nat.{_+_, _≤_};
-ghost use lib.ListN.{length};
+ghost use Rattle.kit.specs.Names.{_+_, _≤_, length};
 ghost use Rattle.definitions.specs.Report.{refusedLine};
 
 // As many writes as it takes. The answer counts the bytes that were taken: fewer than all only where a write failed.

@@ -1,9 +1,5 @@
 -- What a program is handed of an input: nothing of one that could not be read, and the beginning of a long one at the front of its room.
-use mathlib.Core.Path.{_≡_}
-use mathlib.Core.Bool.{Bool, cond}
-use mathlib.Core.List.{List}
-use Prim.Native.Nat.{ℕ, min}
-use lib.ListN.{length, take}
+use Rattle.kit.specs.Names.{_≡_, Bool, cond, List, ℕ, min, length, take}
 
 abbrev pub whereReady : Bool → ℕ → ℕ
 whereReady ready long = cond ready long 0

@@ -3,9 +3,7 @@
 use libc::STDIN_FILENO;
 use memory_append::append;
 use program_output::tell;
-ghost use mathlib.Core.Path.{_≡_};
-ghost use Prim.Native.Nat.{_≤_, min};
-ghost use lib.ListN.{length, take};
+ghost use Rattle.kit.specs.Names.{_≡_, _≤_, min, length, take};
 ghost use Rattle.io.specs.Counts.{Counts};
 ghost use Rattle.program_reading.specs.Inputs.{whereReady, fitting, Begins};
 

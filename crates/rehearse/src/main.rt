@@ -10,8 +10,7 @@ use program_input::script_room;
 use program_input::short_script_room;
 use program_output::print;
 use program_output::print_refused;
-ghost use mathlib.Core.Path.{_≡_};
-ghost use lib.ListN.{length};
+ghost use Rattle.kit.specs.Names.{_≡_, length};
 
 // The longest view: 5 bytes, and 10 for each of 8 parameters, 1024 variables and 1024 places.
 fn view_room() -> [u8; 20565]

@@ -1,12 +1,6 @@
 -- A number of one byte in decimal: one, two or three digits.
-use mathlib.Core.Path.{_≡_, refl, ap, sym, _∙_}
-use mathlib.Core.Bool.{Bool, true, false}
-use mathlib.Core.List.{List, [], _∷_, _++_}
-use Prim.Native.Nat.{ℕ, _+_, _/_, _%_, _<_, _≤_}
-use native.Mathlib.Omega.{arith}
-use borrow.Author.Tests.{ltb-true, ltb-false}
-use lib.Dec.{ltb}
-use lib.ListN.{length}
+use Rattle.kit.specs.Names.{_≡_, refl, ap, sym, _∙_, Bool, true, false, List, [], _∷_, _++_, ℕ, _+_, _/_, _%_, _<_, _≤_, arith, ltb, length}
+use Rattle.kit.specs.Names.{ltb-true, ltb-false}
 use Rattle.definitions.specs.Report.{digits, decimal}
 use Rattle.memory_append.specs.Append.{Appended}
 use Rattle.memory_append.proofs.Appending.{appended-then}

@@ -1,12 +1,6 @@
 -- Hexadecimal digits, two for each byte, appended one byte after another.
-use mathlib.Core.Path.{_≡_, refl}
-use mathlib.Core.List.{List, [], _∷_, _++_}
-use Prim.Native.Nat.{ℕ, _+_, _*_, _/_, _%_, _<_, _≤_}
-use native.Mathlib.Numerals.{add-one}
-use native.Mathlib.Omega.{arith}
-use borrow.Author.Tests.{lt-ltb, le-ltb}
-use lib.ListN.{length, getD, drop, drop-of-length-le}
-use lib.Seq.{drop-cons}
+use Rattle.kit.specs.Names.{_≡_, refl, List, [], _∷_, _++_, ℕ, _+_, _*_, _/_, _%_, _<_, _≤_, arith, add-one, length, getD, drop}
+use Rattle.kit.specs.Names.{drop-of-length-le, drop-cons, lt-ltb, le-ltb}
 use Rattle.definitions.specs.Basics.{flatMap}
 use Rattle.memory_append.specs.Append.{Appended, Appending}
 use Rattle.memory_append.proofs.Appending.{appended-then, appending-start, appending-room, appending-next, appending-done}

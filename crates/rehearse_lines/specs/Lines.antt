@@ -1,10 +1,5 @@
 -- A line of a rehearsal: "the number in decimal, a space, and the party's view after it in lowercase hexadecimal".
-use mathlib.Core.Path.{_≡_}
-use mathlib.Core.Bool.{Bool, cond}
-use mathlib.Core.List.{List, [], _∷_, _++_}
-use Prim.Native.Nat.{ℕ, _+_, _*_, _/_, _%_, _≤_}
-use lib.Dec.{ltb, leb}
-use lib.ListN.{length}
+use Rattle.kit.specs.Names.{_≡_, Bool, cond, List, [], _∷_, _++_, ℕ, _+_, _*_, _/_, _%_, _≤_, ltb, leb, length}
 use Rattle.memory_buffer.specs.Buffer.{stored}
 use Rattle.definitions.specs.Basics.{flatMap}
 use Rattle.definitions.specs.Report.{decimal}

@@ -1,8 +1,6 @@
 // The lines that a rehearsal prints: a number in decimal, a space, a view in lowercase hexadecimal, a line feed.
 use memory_append::append_byte;
-ghost use mathlib.Core.Path.{_≡_};
-ghost use Prim.Native.Nat.{_+_, _*_, _<_, _≤_};
-ghost use lib.ListN.{length};
+ghost use Rattle.kit.specs.Names.{_≡_, _+_, _*_, _<_, _≤_, length};
 ghost use Rattle.memory_append.specs.Append.{Appended};
 ghost use Rattle.definitions.specs.Report.{decimal};
 ghost use Rattle.rehearse_lines.specs.Lines.{hexDigit, hexByte, hexText, viewLine, LineWritten};

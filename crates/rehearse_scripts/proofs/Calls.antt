@@ -1,13 +1,6 @@
 -- Calls one after another, and arguments one after another.
-use mathlib.Core.Path.{_≡_, ap, sym, _∙_}
-use mathlib.Core.Bool.{true}
-use mathlib.Core.List.{List, _∷_, _++_, append-nil}
-use Prim.Native.Nat.{ℕ, zero, suc, _+_, _-_, _<_, _≤_}
-use native.Mathlib.Numerals.{add-one}
-use native.Mathlib.Omega.{arith}
-use borrow.Author.Tests.{eqb-true}
-use lib.ListN.{length, set, take}
-use lib.Seq.{take-suc-set, append-snoc}
+use Rattle.kit.specs.Names.{_≡_, ap, sym, _∙_, true, List, _∷_, _++_, append-nil, ℕ, zero, suc, _+_, _-_, _<_, _≤_, arith, add-one, length}
+use Rattle.kit.specs.Names.{set, take, take-suc-set, append-snoc, eqb-true}
 use Rattle.theory_laws.proofs.Records.{force-is}
 use Rattle.rehearse_scripts.specs.Scripts.{fourBytesAt, callCount, callsAt, callEnd, callsEnd, isScript, numbersAt}
 

@@ -1,9 +1,5 @@
 -- Cases that pin what a script is: one with nothing, one of a file, an address and a call, and the same cut short and running on.
-use mathlib.Core.Path.{_≡_, refl}
-use mathlib.Core.Bool.{true, false}
-use mathlib.Core.List.{List, [], _∷_, _++_}
-use Prim.Native.Nat.{ℕ}
-use lib.ListN.{take}
+use Rattle.kit.specs.Names.{_≡_, refl, true, false, List, [], _∷_, _++_, ℕ, take}
 use Rattle.rehearse_scripts.specs.Scripts.{isScript, callsEnd, numbersAt, fileOf, addressesOf, argumentsOf}
 
 -- A file of 3 bytes, address 9, party 4, and function 2 called by 5 with the argument 1 + 256 * 1.

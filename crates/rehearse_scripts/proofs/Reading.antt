@@ -1,11 +1,5 @@
 -- Parts that are read one after another are those of the script.
-use mathlib.Core.Path.{_≡_, ap, sym, _∙_}
-use mathlib.Core.Bool.{Bool, true, false}
-use mathlib.Core.List.{List, []}
-use Prim.Native.Nat.{ℕ, _+_, _*_, _-_, _≤_}
-use native.Mathlib.Omega.{arith}
-use lib.Dec.{eqb}
-use lib.ListN.{length}
+use Rattle.kit.specs.Names.{_≡_, ap, sym, _∙_, Bool, true, false, List, [], ℕ, _+_, _*_, _-_, _≤_, arith, eqb, length}
 use Rattle.definitions.specs.ContractFile.{byteAt, twoBytesAt}
 use Rattle.rehearse_scripts.specs.declared.Script.{Script}
 use Rattle.rehearse_scripts.specs.declared.Call.{Call}

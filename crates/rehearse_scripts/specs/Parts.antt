@@ -1,8 +1,5 @@
 -- What the parts that are read say of their script, and how far they can lie.
-use mathlib.Core.Path.{_≡_}
-use mathlib.Core.List.{List}
-use Prim.Native.Nat.{ℕ, _+_, _≤_}
-use lib.ListN.{length, take}
+use Rattle.kit.specs.Names.{_≡_, List, ℕ, _+_, _≤_, length, take}
 use Rattle.definitions.specs.ContractFile.{byteAt}
 use Rattle.rehearse_scripts.specs.Scripts.{fileEnd, addressesEnd, callCount, callsAt, callAt, argumentsOf}
 use Rattle.rehearse_scripts.specs.declared.Script.{Script}

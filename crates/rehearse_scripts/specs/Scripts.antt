@@ -1,10 +1,6 @@
 -- A rehearsal script: "length of a contract file (2 bytes), the file, count of addresses (1), the addresses, party (1), count of calls (1),
 -- then each call: function (1), caller (1), count of arguments (1), each argument (4). Numbers are low byte first."
-use mathlib.Core.Bool.{Bool, cond}
-use mathlib.Core.List.{List, [], _∷_}
-use Prim.Native.Nat.{ℕ, zero, suc, _+_, _*_, _-_}
-use lib.Dec.{eqb}
-use lib.ListN.{length, take, drop}
+use Rattle.kit.specs.Names.{Bool, cond, List, [], _∷_, ℕ, zero, suc, _+_, _*_, _-_, eqb, length, take, drop}
 use Rattle.definitions.specs.Basics.{force}
 use Rattle.definitions.specs.ContractFile.{byteAt, twoBytesAt}
 

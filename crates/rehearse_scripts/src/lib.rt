@@ -1,8 +1,7 @@
 // A rehearsal script's bytes: whether they are one, and where its parts lie.
 use file_bytes::byte_at;
 use file_bytes::two_bytes_at;
-ghost use mathlib.Core.Path.{_≡_};
-ghost use Prim.Native.Nat.{_+_, _*_, _≤_};
+ghost use Rattle.kit.specs.Names.{_≡_, _+_, _*_, _≤_};
 ghost use Rattle.definitions.specs.ContractFile.{twoBytesAt};
 ghost use Rattle.rehearse_scripts.specs.Scripts.{fourBytesAt, callsEnd, isScript, fileOf, addressesOf, argumentAt};
 ghost use Rattle.rehearse_scripts.specs.Parts.{IsScriptParts, IsCall, ArgumentsStand};

@@ -7,8 +7,7 @@ use program_input::read_rest;
 use program_input::short_contract_room;
 use program_output::print;
 use program_output::print_refused;
-ghost use mathlib.Core.Path.{_≡_};
-ghost use lib.ListN.{length};
+ghost use Rattle.kit.specs.Names.{_≡_, length};
 
 // Room for the longest report.
 fn text_room() -> [u8; 131]

@@ -1,13 +1,6 @@
 -- The report's text: what it is of an accepted file, how long it can be, and what stands in the output.
-use mathlib.Core.Path.{_≡_, refl, ap, sym, _∙_}
-use mathlib.Core.Bool.{Bool, true, false, cond}
-use mathlib.Core.List.{List, [], _∷_}
-use Prim.Native.Nat.{ℕ, zero, suc, _+_, _-_, _≤_}
-use native.Mathlib.Omega.{arith}
-use borrow.Author.Tests.{eq-eqb, ne-eqb}
-use lib.Dec.{ltb}
-use lib.ListN.{length, take, drop, replicate}
-use lib.Seq.{length-take-le, take-at}
+use Rattle.kit.specs.Names.{_≡_, refl, ap, sym, _∙_, Bool, true, false, cond, List, [], _∷_, ℕ, zero, suc, _+_, _-_, _≤_, arith, ltb}
+use Rattle.kit.specs.Names.{length, take, drop, replicate, length-take-le, take-at, eq-eqb, ne-eqb}
 use Rattle.definitions.specs.Basics.{firstThatHolds}
 use Rattle.definitions.specs.ContractFile.{functionCount}
 use Rattle.definitions.specs.Crossings.{crossingsIn, sixteen, crossingsAfterWriting}

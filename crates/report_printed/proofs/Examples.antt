@@ -1,9 +1,5 @@
 -- The theorems cited at file A, at a text that they rule out, and where their hypothesis does not hold.
-use mathlib.Core.Path.{_≡_, ap, sym, _∙_}
-use mathlib.Core.List.{List, [], _∷_, map}
-use Prim.Native.Nat.{ℕ}
-use native.Mathlib.Omega.{arith}
-use lib.ListN.{length, replicate, getD, take, drop}
+use Rattle.kit.specs.Names.{_≡_, ap, sym, _∙_, List, [], _∷_, map, ℕ, arith, length, replicate, getD, take, drop}
 use Rattle.definitions.specs.Crossings.{totalIn}
 use Rattle.definitions.specs.Report.{reportNumber}
 use Rattle.definitions.specs.Rewriting.{writtenFile}

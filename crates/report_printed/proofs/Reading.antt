@@ -1,11 +1,6 @@
 -- Lines and decimal numbers read back are those that were printed.
-use mathlib.Core.Path.{_≡_, refl, ap, sym, _∙_}
-use mathlib.Core.Bool.{Bool, true, false, cond}
-use mathlib.Core.List.{List, [], _∷_, _++_, map, append-assoc, append-nil}
-use Prim.Native.Nat.{ℕ, zero, suc, _+_, _*_, _-_, _/_, _%_, _^_, _<_, _≤_}
-use borrow.Author.Tests.{ltb-true, ne-eqb}
-use native.Mathlib.Omega.{arith}
-use lib.Dec.{ltb}
+use Rattle.kit.specs.Names.{_≡_, refl, ap, sym, _∙_, Bool, true, false, cond, List, [], _∷_, _++_, map, append-assoc, append-nil, ℕ, zero}
+use Rattle.kit.specs.Names.{suc, _+_, _*_, _-_, _/_, _%_, _^_, _<_, _≤_, arith, ltb, ltb-true, ne-eqb}
 use Rattle.definitions.specs.Basics.{all, flatMap}
 use Rattle.definitions.specs.Report.{Tally, digits, decimal, tallyLine}
 use Rattle.theory_laws.proofs.TruthValues.{and-left, and-right}

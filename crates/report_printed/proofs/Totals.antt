@@ -1,13 +1,7 @@
 -- 02, Note 3: of the number that is printed behind `total`: it "must equal the number of variables with origins 0 to 3 in the written file, counted
 -- there, and also the sum of the lines above". "a refused file prints no total".
-use mathlib.Core.Path.{_≡_, refl, ap, ap₂, sym, _∙_}
-use mathlib.Core.Bool.{Bool, cond}
-use mathlib.Core.List.{List, [], _∷_, _++_, map, append-assoc}
-use Prim.Native.Nat.{ℕ, zero, suc, _+_, _-_, _^_, _<_}
-use borrow.Author.Tests.{eq-eqb, ne-eqb}
-use native.Mathlib.Omega.{arith}
-use lib.ListN.{length, getD, take, drop, length-append}
-use lib.Seq.{take-at}
+use Rattle.kit.specs.Names.{_≡_, refl, ap, ap₂, sym, _∙_, Bool, cond, List, [], _∷_, _++_, map, append-assoc, ℕ, zero, suc, _+_, _-_, _^_}
+use Rattle.kit.specs.Names.{_<_, arith, length, getD, take, drop, length-append, take-at, eq-eqb, ne-eqb}
 use Rattle.definitions.specs.Basics.{all, flatMap}
 use Rattle.definitions.specs.Crossings.{crossingsIn, totalIn}
 use Rattle.definitions.specs.Numbers.{checkNumber, orElse}

@@ -1,9 +1,5 @@
 -- 02, Note 3: a printed report as a reader takes it: its lines, and the number at the end of each.
-use mathlib.Core.Bool.{cond}
-use mathlib.Core.List.{List, [], _∷_}
-use Prim.Native.Nat.{ℕ, _+_, _*_, _-_}
-use lib.Dec.{eqb}
-use lib.ListN.{length, getD, take, drop}
+use Rattle.kit.specs.Names.{cond, List, [], _∷_, ℕ, _+_, _*_, _-_, eqb, length, getD, take, drop}
 use Rattle.definitions.specs.Report.{reportLength, outputAfterReport}
 
 -- A byte in front of a text's first line.

@@ -1,11 +1,6 @@
 -- 02, Note 3: the largest total. Sixteen functions share 512 nodes; two nodes make at most three variables, and a function opens at most eight
 -- private parameters.
-use mathlib.Core.Path.{_≡_, ap}
-use mathlib.Core.List.{List, [], _∷_, map}
-use Prim.Native.Nat.{ℕ, _+_, _*_, _≤_}
-use native.Mathlib.Omega.{arith}
-use lib.Dec.{leb}
-use lib.ListN.{length, length-append}
+use Rattle.kit.specs.Names.{_≡_, ap, List, [], _∷_, map, ℕ, _+_, _*_, _≤_, arith, leb, length, length-append}
 use Rattle.definitions.specs.ContractFile.{Field, Function, contractIn, contractOf}
 use Rattle.definitions.specs.Crossings.{crossingsIn, totalIn}
 use Rattle.definitions.specs.Numbers.{checkNumber}

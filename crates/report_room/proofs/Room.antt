@@ -1,13 +1,7 @@
 -- 02, Note 3: 131 bytes always suffice for a report. Its numbers have three digits at most: nineteen bytes for the heading, six for the line of a
 -- function below 10, seven for that of another, ten for the total.
-use mathlib.Core.Path.{_≡_, refl, ap, _∙_}
-use mathlib.Core.Bool.{Bool, true, false, cond}
-use mathlib.Core.List.{List, [], _∷_, _++_, map}
-use Prim.Native.Nat.{ℕ, zero, suc, _+_, _*_, _-_, _/_, _%_, _<_, _≤_}
-use borrow.Author.Tests.{le-ltb, ltb-true, ltb-false}
-use native.Mathlib.Omega.{arith}
-use lib.Dec.{ltb}
-use lib.ListN.{length, length-append, length-map}
+use Rattle.kit.specs.Names.{_≡_, refl, ap, _∙_, Bool, true, false, cond, List, [], _∷_, _++_, map, ℕ, zero, suc, _+_, _*_, _-_, _/_, _%_}
+use Rattle.kit.specs.Names.{_<_, _≤_, arith, ltb, length, length-append, length-map, le-ltb, ltb-true, ltb-false}
 use Rattle.definitions.specs.Basics.{flatMap, firstThatHolds}
 use Rattle.definitions.specs.ContractFile.{contractIn, functionCount}
 use Rattle.definitions.specs.Crossings.{crossingsIn}

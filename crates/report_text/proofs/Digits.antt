@@ -1,12 +1,6 @@
 -- How a number's digits unfold.
-use mathlib.Core.Path.{_≡_, refl, ap}
-use mathlib.Core.Bool.{Bool, true, false, cond}
-use mathlib.Core.List.{List, [], _∷_, _++_}
-use Prim.Native.Nat.{ℕ, zero, suc, _+_, _/_, _%_, _-_, _<_, _≤_}
-use native.Mathlib.Omega.{arith}
-use borrow.Author.Tests.{lt-ltb, le-ltb}
-use lib.Dec.{ltb}
-use lib.ListN.{length, length-append}
+use Rattle.kit.specs.Names.{_≡_, refl, ap, Bool, true, false, cond, List, [], _∷_, _++_, ℕ, zero, suc, _+_, _/_, _%_, _-_, _<_, _≤_, arith}
+use Rattle.kit.specs.Names.{ltb, length, length-append, lt-ltb, le-ltb}
 use Rattle.definitions.specs.Report.{digits}
 use Rattle.memory_append.specs.Append.{Appended}
 use Rattle.memory_append.proofs.Appending.{appended-nothing, appended-length, appended-then}

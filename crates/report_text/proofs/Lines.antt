@@ -1,11 +1,6 @@
 -- Laws of the report's lines: from the functions' counts, line by line, and how long they are at most.
-use mathlib.Core.Path.{_≡_, ap, sym, _∙_}
-use mathlib.Core.List.{List, [], _∷_, _++_, append-nil}
-use Prim.Native.Nat.{ℕ, suc, _+_, _<_, _≤_}
-use native.Mathlib.Numerals.{add-one}
-use native.Mathlib.Omega.{arith}
-use lib.ListN.{length, getD, take, drop, length-append, length-map, take-append-drop, List·getD-map}
-use lib.Seq.{take-suc, take-all, length-take-le, getD-take}
+use Rattle.kit.specs.Names.{_≡_, ap, sym, _∙_, List, [], _∷_, _++_, append-nil, ℕ, suc, _+_, _<_, _≤_, arith, add-one, length, getD, take}
+use Rattle.kit.specs.Names.{drop, length-append, length-map, take-append-drop, List·getD-map, take-suc, take-all, length-take-le, getD-take}
 use Rattle.definitions.specs.Basics.{flatMap}
 use Rattle.definitions.specs.Report.{Tally, sorted, decimal, heading, tallyLine, totalLine, refusedLine, tallies, reportLines}
 use Rattle.theory_laws.proofs.Lists.{flat-append}

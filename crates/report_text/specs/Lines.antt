@@ -1,6 +1,5 @@
 -- 01, File A, whole: a count as it stands in the report's lines. 02, Note 3: a line of a word and a number.
-use mathlib.Core.List.{List, [], _∷_, _++_}
-use Prim.Native.Nat.{ℕ}
+use Rattle.kit.specs.Names.{List, [], _∷_, _++_, ℕ}
 use Rattle.definitions.specs.Report.{decimal}
 
 -- A count behind a space.

@@ -1,12 +1,6 @@
 -- Sums of counts: one line more, and whatever their order.
-use mathlib.Core.Path.{_≡_, refl, ap, _∙_}
-use mathlib.Core.Bool.{Bool, true, false, cond}
-use mathlib.Core.List.{List, [], _∷_, _++_, map}
-use Prim.Native.Nat.{ℕ, suc, _+_, _<_}
-use native.Mathlib.Numerals.{add-one}
-use native.Mathlib.Omega.{arith}
-use lib.ListN.{length, getD, take}
-use lib.Seq.{take-suc}
+use Rattle.kit.specs.Names.{_≡_, refl, ap, _∙_, Bool, true, false, cond, List, [], _∷_, _++_, map, ℕ, suc, _+_, _<_, arith, add-one, length}
+use Rattle.kit.specs.Names.{getD, take, take-suc}
 use Rattle.definitions.specs.Report.{Tally, comesBefore, insert, sorted, tallies}
 use Rattle.theory_crossings.specs.Crossings.{sum}
 use Rattle.report_order.specs.Counts.{tallyOf, orderedTallies}

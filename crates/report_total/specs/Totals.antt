@@ -1,6 +1,5 @@
 -- 02, Note 3: "the sum of the lines above".
-use mathlib.Core.List.{List, map}
-use Prim.Native.Nat.{ℕ}
+use Rattle.kit.specs.Names.{List, map, ℕ}
 use Rattle.definitions.specs.Report.{Tally}
 use Rattle.theory_crossings.specs.Crossings.{sum}
 

@@ -1,8 +1,6 @@
 // 02, Note 3: "the sum of the lines above", which the report prints as its total.
 use report_order::count_of;
-ghost use mathlib.Core.Path.{_≡_};
-ghost use Prim.Native.Nat.{_≤_};
-ghost use lib.ListN.{length};
+ghost use Rattle.kit.specs.Names.{_≡_, _≤_, length};
 ghost use Rattle.report_order.specs.Counts.{orderedTallies};
 ghost use Rattle.report_total.specs.Totals.{totalOf};
 

@@ -1,9 +1,5 @@
 -- The log of a value that is put into a place, from the test of the place's code and of the value.
-use mathlib.Core.Path.{_≡_, refl, ap, ap₂, sym, _∙_}
-use mathlib.Core.Bool.{Bool, true, false, _&&_, not}
-use mathlib.Core.List.{List}
-use mathlib.Core.Option.{none}
-use Prim.Native.Nat.{ℕ, _<_}
+use Rattle.kit.specs.Names.{_≡_, refl, ap, ap₂, sym, _∙_, Bool, true, false, _&&_, not, List, none, ℕ, _<_}
 use Rattle.definitions.specs.ContractFile.{Owner, isEveryone, fieldAt, nodeCount, ownerCode, fieldOwnerCode}
 use Rattle.definitions.specs.Owners.{isPublic, nameOf, placeOwner}
 use Rattle.rewrite_owners.specs.Codes.{nameCode, placeCode}

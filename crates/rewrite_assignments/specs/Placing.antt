@@ -1,8 +1,5 @@
 -- The events of assignments and branches of a file's nodes, and what is owed of a value that is put into a place.
-use mathlib.Core.Path.{_≡_}
-use mathlib.Core.List.{List}
-use mathlib.Core.Option.{none}
-use Prim.Native.Nat.{ℕ, _<_}
+use Rattle.kit.specs.Names.{_≡_, List, none, ℕ, _<_}
 use Rattle.definitions.specs.ContractFile.{Owner, fieldAt, ownerCode}
 use Rattle.definitions.specs.Owners.{nameOf, placeOwner}
 use Rattle.theory_trees.specs.Trees.{statementIn}

@@ -6,7 +6,7 @@ use rewrite_owners::field_owner;
 use rewrite_owners::is_public;
 use rewrite_owners::name_code;
 use rewrite_owners::place_code;
-ghost use Prim.Native.Nat.{_<_, _≤_};
+ghost use Rattle.kit.specs.Names.{_<_, _≤_};
 ghost use Rattle.definitions.specs.ContractFile.{nodeCount};
 ghost use Rattle.file_accepted.specs.Context.{nodesIn};
 ghost use Rattle.rewrite_log.specs.Logs.{Logged};

@@ -1,11 +1,6 @@
 -- The owners that a file's fields declare and that its reveals name are listed: number 3 lets no other code pass.
-use mathlib.Core.Path.{_≡_, refl}
-use mathlib.Core.Bool.{Bool, true, false, _&&_, _||_, cond, false≢true}
-use mathlib.Core.List.{List}
-use Prim.Native.Nat.{ℕ, suc, _+_, _*_, _-_, _<_, _≤_}
-use native.Mathlib.Omega.{arith}
-use borrow.Author.Tests.{ltb-true, ltb-false, leb-true, eqb-true}
-use lib.Dec.{eqb, leb, ltb}
+use Rattle.kit.specs.Names.{_≡_, refl, Bool, true, false, _&&_, _||_, cond, false≢true, List, ℕ, suc, _+_, _*_, _-_, _<_, _≤_, arith, eqb}
+use Rattle.kit.specs.Names.{leb, ltb, ltb-true, ltb-false, leb-true, eqb-true}
 use Rattle.definitions.specs.ContractFile.{meName, finalName, parameterName, everyone, ownedBy, toEveryone, toKey, toFinal, FieldRecord, NodeRecord, byteAt, fieldCount, nodesAt, nodeRecord, isFinalCode, ownerOfCode, fieldOf, Kind, constantKind, meKind, fieldKind, entryKind, parameterKind, operatorKind, negationKind, revealKind, skipKind, sequenceKind, assignFieldKind, assignEntryKind, requireKind, conditionalKind, noKind, kindOf, nodeOfKind, expressionOf, statementOf, statementAt}
 use Rattle.definitions.specs.Numbers.{fieldInTables, targetInTables, kindInTables}
 use Rattle.definitions.specs.Rewriting.{Guard}

@@ -1,9 +1,5 @@
 -- Every owner of a function's variables and claims is listed, where those that its fields declare and its reveals name are.
-use mathlib.Core.Path.{_≡_, refl}
-use mathlib.Core.Bool.{Bool, true, false, _&&_, cond}
-use mathlib.Core.List.{List, [], _∷_, _++_}
-use mathlib.Core.Option.{Option, none, some}
-use Prim.Native.Nat.{ℕ, suc, _+_, _<_}
+use Rattle.kit.specs.Names.{_≡_, refl, Bool, true, false, _&&_, cond, List, [], _∷_, _++_, Option, none, some, ℕ, suc, _+_, _<_}
 use Rattle.definitions.specs.ContractFile.{Name, meName, finalName, parameterName, Owner, everyone, ownedBy, FieldOwner, toEveryone, toKey, toFinal, Expression, Statement, Parameter, Scope, fieldAt, parameterAt, isFinal, isDivision}
 use Rattle.definitions.specs.Owners.{isPublicAddress, placeOwner, parameterOwner, nameOf, ownerOf, isPublic}
 use Rattle.definitions.specs.Rewriting.{Guard, under}

@@ -1,6 +1,5 @@
 -- Owners whose codes document 01's tables hold: "16+f final field f (f 0 to 63), 128+k parameter k (k 0 to 7)".
-use mathlib.Core.List.{List, [], _∷_}
-use Prim.Native.Nat.{_<_}
+use Rattle.kit.specs.Names.{List, [], _∷_, _<_}
 use Rattle.definitions.specs.ContractFile.{Owner, everyone, ownedBy, meName, finalName, parameterName}
 use Rattle.rewrite_events.specs.Events.{Event, suppliedEvent, claimedEvent, readEvent, guardEvent, endEvent}
 

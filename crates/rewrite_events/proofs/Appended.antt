@@ -1,8 +1,5 @@
 -- What events make, of one list of events behind another.
-use mathlib.Core.Path.{_≡_, refl, ap, _∙_}
-use mathlib.Core.List.{List, [], _∷_, _++_}
-use Prim.Native.Nat.{suc, _+_}
-use lib.ListN.{length, length-append}
+use Rattle.kit.specs.Names.{_≡_, refl, ap, _∙_, List, [], _∷_, _++_, suc, _+_, length, length-append}
 use Rattle.definitions.specs.ContractFile.{Scope}
 use Rattle.definitions.specs.Owners.{ownerOf}
 use Rattle.definitions.specs.Rewriting.{Variable, supplied, readFrom, guard, equals, Claim, Guard, Constraint, Step, inBody, inCircuit, heldUnder}

@@ -1,9 +1,6 @@
 -- The events of expressions hold no end; those of a statement that holds no other have theirs last.
-use mathlib.Core.Path.{_≡_, refl, ap, _∙_}
-use mathlib.Core.Bool.{Bool, true, false, false≢true, _&&_, cond}
-use mathlib.Core.List.{List, [], _∷_, _++_, append-nil}
-use mathlib.Core.Option.{none}
-use Prim.Native.Nat.{ℕ, suc, _+_}
+use Rattle.kit.specs.Names.{_≡_, refl, ap, _∙_, Bool, true, false, false≢true, _&&_, cond, List, [], _∷_, _++_, append-nil, none, ℕ, suc}
+use Rattle.kit.specs.Names.{_+_}
 use Rattle.definitions.specs.ContractFile.{meName, Owner, everyone, ownedBy, Expression, Statement, Scope, fieldAt, isDivision}
 use Rattle.definitions.specs.Owners.{isPublic, nameOf, placeOwner}
 use Rattle.definitions.specs.Rewriting.{Guard}

@@ -1,7 +1,5 @@
 -- The variables and constraints of a rewritten function: those of its private parameters, then those of its body's events.
-use mathlib.Core.Path.{_≡_, ap, sym}
-use mathlib.Core.List.{List, _++_}
-use lib.ListN.{length}
+use Rattle.kit.specs.Names.{_≡_, ap, sym, List, _++_, length}
 use Rattle.definitions.specs.ContractFile.{Field, Function, Scope}
 use Rattle.definitions.specs.Rewriting.{Variable, Constraint, always, Piece, heldUnder, privateParameters, openings, rewriteFunction}
 use Rattle.rewrite_events.specs.Events.{Event, variablesOf, constraintsOf, statementEvents}

@@ -1,6 +1,5 @@
 -- An expression's events are those of its parts, with what it makes itself.
-use mathlib.Core.Path.{_≡_, refl, ap, sym}
-use mathlib.Core.Bool.{Bool, true, false, _&&_, cond, not}
+use Rattle.kit.specs.Names.{_≡_, refl, ap, sym, Bool, true, false, _&&_, cond, not}
 use Rattle.definitions.specs.ContractFile.{Owner, everyone, ownedBy, Expression, Scope, isEveryone, isDivision}
 use Rattle.definitions.specs.Owners.{ownerOf, isPublic}
 use Rattle.definitions.specs.Rewriting.{Guard}

@@ -1,9 +1,5 @@
 -- The events of an expression make its piece, in the body, in a circuit and in a place; those of a statement make its passage.
-use mathlib.Core.Path.{_≡_, refl, ap, ap₂, sym, _∙_}
-use mathlib.Core.Bool.{Bool, true, false, cond}
-use mathlib.Core.List.{List, _∷_, _++_, append-nil}
-use Prim.Native.Nat.{ℕ, suc, _+_}
-use lib.ListN.{length}
+use Rattle.kit.specs.Names.{_≡_, refl, ap, ap₂, sym, _∙_, Bool, true, false, cond, List, _∷_, _++_, append-nil, ℕ, suc, _+_, length}
 use Rattle.definitions.specs.ContractFile.{meName, Owner, everyone, ownedBy, Operator, Expression, Scope, isDivision}
 use Rattle.definitions.specs.Owners.{isPublic, ownerOf}
 use Rattle.definitions.specs.Rewriting.{Variable, BodyExpression, Circuit, Guard, supplied, Piece, Generator, kept, onePart, twoParts, supplying, reading, inBody, inCircuit, inPlace}

@@ -1,8 +1,5 @@
 -- A statement that holds no other: its events make its piece, and its command is its form behind the steps of its reads.
-use mathlib.Core.Path.{_≡_, ap, sym}
-use mathlib.Core.List.{List}
-use Prim.Native.Nat.{ℕ, _+_}
-use lib.ListN.{length}
+use Rattle.kit.specs.Names.{_≡_, ap, sym, List, ℕ, _+_, length}
 use Rattle.definitions.specs.ContractFile.{Expression, Scope}
 use Rattle.definitions.specs.Owners.{ownerOf}
 use Rattle.definitions.specs.Rewriting.{Command, Guard, Step, inBody, stepsBefore, inBranch, inBranches, StatementGenerator}

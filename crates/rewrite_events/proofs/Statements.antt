@@ -1,9 +1,5 @@
 -- The events of a statement make its passage.
-use mathlib.Core.Path.{_≡_, ap, ap₂, _∙_}
-use mathlib.Core.List.{List, _∷_, _++_}
-use mathlib.Core.Option.{none}
-use Prim.Native.Nat.{ℕ, suc, _+_}
-use lib.ListN.{length}
+use Rattle.kit.specs.Names.{_≡_, ap, ap₂, _∙_, List, _∷_, _++_, none, ℕ, suc, _+_, length}
 use Rattle.definitions.specs.ContractFile.{Statement, Scope, fieldAt}
 use Rattle.definitions.specs.Owners.{nameOf, placeOwner, ownerOf}
 use Rattle.definitions.specs.Rewriting.{Variable, BodyExpression, Command, Guard, under, guard, Generator, kept, inBody, inPlace, StatementGenerator, single, inSequence, inBranch, inBranches, rewriteStatement}

@@ -1,7 +1,5 @@
 -- The events of a statement that holds no other: none but the last is an end.
-use mathlib.Core.Bool.{Bool, true, false}
-use mathlib.Core.List.{List, [], _∷_}
-use mathlib.Core.Option.{none}
+use Rattle.kit.specs.Names.{Bool, true, false, List, [], _∷_, none}
 use Rattle.definitions.specs.ContractFile.{Statement, Scope, fieldAt}
 use Rattle.definitions.specs.Owners.{nameOf, placeOwner}
 use Rattle.definitions.specs.Rewriting.{Guard}

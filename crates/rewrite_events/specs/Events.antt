@@ -1,9 +1,5 @@
 -- Rewriting as a list of events: each variable as it is made, and each claim when its circuit is done.
-use mathlib.Core.Bool.{_&&_, cond}
-use mathlib.Core.List.{List, [], _∷_, _++_}
-use mathlib.Core.Option.{none}
-use Prim.Native.Nat.{ℕ, suc, _+_}
-use lib.ListN.{length}
+use Rattle.kit.specs.Names.{_&&_, cond, List, [], _∷_, _++_, none, ℕ, suc, _+_, length}
 use Rattle.definitions.specs.ContractFile.{meName, Owner, everyone, ownedBy, Operator, Expression, Statement, Scope, fieldAt, isDivision}
 use Rattle.definitions.specs.Owners.{nameOf, ownerOf, placeOwner, isPublic}
 use Rattle.definitions.specs.Rewriting.{Variable, supplied, readFrom, guard, equals, Guard, under, Constraint, Step, inBody, inCircuit}

@@ -1,6 +1,5 @@
 -- When events make a piece, or a statement's passage: the same variables, steps and constraints.
-use mathlib.Core.Path.{_≡_}
-use mathlib.Core.List.{List}
+use Rattle.kit.specs.Names.{_≡_, List}
 use Rattle.definitions.specs.ContractFile.{Scope}
 use Rattle.definitions.specs.Rewriting.{Guard, Piece, Passage, heldUnder}
 use Rattle.rewrite_events.specs.Events.{Event, variablesOf, stepsOf, constraintsOf}

@@ -1,5 +1,5 @@
 -- The events of an expression told by one step: whether it is supplied or read, and the events of its parts.
-use mathlib.Core.Bool.{Bool, true, false, _&&_, not}
+use Rattle.kit.specs.Names.{Bool, true, false, _&&_, not}
 use Rattle.definitions.specs.ContractFile.{meName, Owner, ownedBy, Expression, Scope, isDivision}
 use Rattle.definitions.specs.Owners.{isPublic}
 use Rattle.rewrite_events.specs.Events.{Events, noEvents, inTurn}

@@ -1,11 +1,5 @@
 -- The log of a node's parts, by any rule: what each part needs, and what the parts' logs make together.
-use mathlib.Core.Path.{_≡_, refl, sym, subst}
-use mathlib.Core.Bool.{Bool, true, false}
-use mathlib.Core.List.{List}
-use Prim.Native.Nat.{ℕ, _<_, _≤_}
-use native.Mathlib.Omega.{arith}
-use borrow.Author.Tests.{eqb-true, eqb-false}
-use lib.Dec.{eqb}
+use Rattle.kit.specs.Names.{_≡_, refl, sym, subst, Bool, true, false, List, ℕ, _<_, _≤_, arith, eqb, eqb-true, eqb-false}
 use Rattle.definitions.specs.ContractFile.{Expression}
 use Rattle.file_accepted.specs.Context.{nodesIn}
 use Rattle.rewrite_events.specs.Events.{Events, noEvents, inTurn}

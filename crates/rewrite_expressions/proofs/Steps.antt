@@ -1,11 +1,6 @@
 -- One step of each translation: what a node's log needs and what it holds, from the logs of its parts.
-use mathlib.Core.Path.{_≡_, ap, sym, subst, _∙_}
-use mathlib.Core.Bool.{Bool, true, false, cond, not}
-use mathlib.Core.List.{List}
-use Prim.Native.Nat.{ℕ, _-_, _<_}
-use native.Mathlib.Omega.{arith}
-use borrow.Author.Tests.{eq-eqb, ne-eqb}
-use lib.ListN.{length, length-map}
+use Rattle.kit.specs.Names.{_≡_, ap, sym, subst, _∙_, Bool, true, false, cond, not, List, ℕ, _-_, _<_, arith, length, length-map, eq-eqb}
+use Rattle.kit.specs.Names.{ne-eqb}
 use Rattle.definitions.specs.ContractFile.{Owner, nodeCount, ownerCode, sectionsOf, nodeOf}
 use Rattle.file_bytes.proofs.Sections.{count-of-nodes}
 use Rattle.definitions.specs.Owners.{ownerOf}

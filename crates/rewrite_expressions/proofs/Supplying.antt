@@ -1,9 +1,5 @@
 -- The log of what is supplied: its variable, its circuit, its claim, for any owner of the code.
-use mathlib.Core.Path.{_≡_, ap, _∙_}
-use mathlib.Core.List.{List, [], _∷_}
-use Prim.Native.Nat.{ℕ, suc, _+_, _<_}
-use native.Mathlib.Omega.{arith}
-use lib.ListN.{length, length-append}
+use Rattle.kit.specs.Names.{_≡_, ap, _∙_, List, [], _∷_, ℕ, suc, _+_, _<_, arith, length, length-append}
 use Rattle.definitions.specs.ContractFile.{Owner, Expression}
 use Rattle.definitions.specs.Rewriting.{Guard}
 use Rattle.file_accepted.specs.Context.{nodesIn}

@@ -1,7 +1,5 @@
 -- The events of a file's node, and what the functions that log them need and owe.
-use mathlib.Core.Path.{_≡_}
-use mathlib.Core.List.{List}
-use Prim.Native.Nat.{ℕ, _<_}
+use Rattle.kit.specs.Names.{_≡_, List, ℕ, _<_}
 use Rattle.definitions.specs.ContractFile.{Owner, nodeCount, ownerCode}
 use Rattle.theory_trees.specs.Trees.{statementIn}
 use Rattle.file_accepted.specs.Context.{Context, nodesIn, scopeIn}

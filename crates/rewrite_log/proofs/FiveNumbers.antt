@@ -1,9 +1,6 @@
 -- Five numbers one after another, and events one after another.
-use mathlib.Core.Path.{_≡_, refl, ap, ap₂, sym, _∙_}
-use mathlib.Core.List.{List, [], _∷_, _++_, append-assoc, append-nil}
-use Prim.Native.Nat.{ℕ, _+_, _*_, _≤_}
-use native.Mathlib.Omega.{arith}
-use lib.ListN.{length, length-append}
+use Rattle.kit.specs.Names.{_≡_, refl, ap, ap₂, sym, _∙_, List, [], _∷_, _++_, append-assoc, append-nil, ℕ, _+_, _*_, _≤_, arith, length}
+use Rattle.kit.specs.Names.{length-append}
 use Rattle.definitions.specs.ContractFile.{Node}
 use Rattle.memory_buffer.specs.Buffer.{stored}
 use Rattle.memory_buffer.proofs.Storing.{stored-length, stored-nothing, stored-then}

@@ -1,10 +1,5 @@
 -- The log of parts in turn, of what is supplied, of what is read, of what ends and of a branch, each from the logs of its parts.
-use mathlib.Core.Path.{_≡_, refl, ap, sym, subst, _∙_}
-use mathlib.Core.List.{List, [], _∷_, _++_}
-use Prim.Native.Nat.{ℕ, zero, suc, _+_, _<_}
-use native.Mathlib.Omega.{arith}
-use native.Mathlib.Numerals.{add-one}
-use lib.ListN.{length}
+use Rattle.kit.specs.Names.{_≡_, refl, ap, sym, subst, _∙_, List, [], _∷_, _++_, ℕ, zero, suc, _+_, _<_, arith, add-one, length}
 use Rattle.definitions.specs.ContractFile.{Owner, Expression, ownerCode, Node}
 use Rattle.definitions.specs.Rewriting.{Guard, guardNumber}
 use Rattle.theory_trees.specs.Trees.{expressionIn}

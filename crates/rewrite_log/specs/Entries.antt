@@ -1,9 +1,5 @@
 -- An event as five numbers of a log. A node's number stands for the expression of that node.
-use mathlib.Core.Bool.{Bool, _||_}
-use mathlib.Core.List.{List, [], _∷_, _++_}
-use Prim.Native.Nat.{ℕ, zero, suc, _<_}
-use lib.Dec.{eqb}
-use lib.ListN.{length}
+use Rattle.kit.specs.Names.{Bool, _||_, List, [], _∷_, _++_, ℕ, zero, suc, _<_, eqb, length}
 use Rattle.definitions.specs.ContractFile.{Owner, ownerCode, Node}
 use Rattle.definitions.specs.Rewriting.{Guard, always, under, guardNumber}
 use Rattle.theory_trees.specs.Trees.{expressionIn}

@@ -1,8 +1,5 @@
 -- A log that holds events from a position on.
-use mathlib.Core.Path.{_≡_}
-use mathlib.Core.List.{List}
-use Prim.Native.Nat.{ℕ, _+_, _*_, _<_, _≤_}
-use lib.ListN.{length}
+use Rattle.kit.specs.Names.{_≡_, List, ℕ, _+_, _*_, _<_, _≤_, length}
 use Rattle.definitions.specs.ContractFile.{Node}
 use Rattle.memory_buffer.specs.Buffer.{stored}
 use Rattle.rewrite_events.specs.Events.{Event, variableCount}

@@ -1,8 +1,6 @@
 // A log of events, five numbers each.
 use memory_buffer::put_number;
-ghost use mathlib.Core.Path.{_≡_};
-ghost use Prim.Native.Nat.{_+_, _≤_};
-ghost use lib.ListN.{length};
+ghost use Rattle.kit.specs.Names.{_≡_, _+_, _≤_, length};
 ghost use Rattle.memory_buffer.specs.Buffer.{stored};
 ghost use Rattle.rewrite_log.specs.Entries.{makesNone};
 ghost use Rattle.rewrite_log.specs.Logs.{numbersOf, SmallEntry, Slot, Wrote};

@@ -1,11 +1,6 @@
 -- The codes of owners are those of the tables, and follow from the codes of the parts.
-use mathlib.Core.Path.{_≡_, refl, ap, sym, _∙_}
-use mathlib.Core.Bool.{Bool, true, false, _&&_, _||_, cond}
-use mathlib.Core.Option.{Option, none, some}
-use Prim.Native.Nat.{ℕ, _+_, _-_, _≤_, _<_}
-use native.Mathlib.Omega.{arith}
-use borrow.Author.Tests.{eqb-true, eqb-false, leb-true, ne-eqb}
-use lib.Dec.{eqb, leb}
+use Rattle.kit.specs.Names.{_≡_, refl, ap, sym, _∙_, Bool, true, false, _&&_, _||_, cond, Option, none, some, ℕ, _+_, _-_, _≤_, _<_, arith}
+use Rattle.kit.specs.Names.{eqb, leb, eqb-true, eqb-false, leb-true, ne-eqb}
 use Rattle.definitions.specs.Basics.{isZero}
 use Rattle.definitions.specs.ContractFile.{Name, meName, finalName, parameterName, Owner, everyone, ownedBy, FieldOwner, toEveryone, toKey, toFinal, isEveryone, FieldRecord, isFinalCode, isParameterCode, ownerOfCode, fieldOwnerOfCode, ownerCode, fieldOwnerCode}
 use Rattle.definitions.specs.Owners.{ownerOfParts, placeOwner}

@@ -1,12 +1,6 @@
 -- The codes of declared fields and parameters, by the bytes at their places.
-use mathlib.Core.Path.{_≡_, refl, sym}
-use mathlib.Core.Bool.{Bool, true, false, _&&_, cond}
-use mathlib.Core.List.{List}
-use mathlib.Core.Option.{none, some}
-use Prim.Native.Nat.{ℕ, _+_, _*_, _<_, _≤_}
-use native.Mathlib.Omega.{arith}
-use borrow.Author.Tests.{ne-eqb, eq-eqb}
-use lib.Dec.{eqb}
+use Rattle.kit.specs.Names.{_≡_, refl, sym, Bool, true, false, _&&_, cond, List, none, some, ℕ, _+_, _*_, _<_, _≤_, arith, eqb, ne-eqb}
+use Rattle.kit.specs.Names.{eq-eqb}
 use Rattle.definitions.specs.ContractFile.{boolean, uint, address, finalName, parameterName, fieldAt, parameterAt, isFinal, sameType, byteAt, fieldCount, dataTypeOf, fieldOf, parameterOf, ownerCode, fieldOwnerCode}
 use Rattle.definitions.specs.Owners.{isPublicAddress, parameterOwner}
 use Rattle.theory_laws.proofs.Codes.{not-final}

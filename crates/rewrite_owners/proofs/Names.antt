@@ -1,15 +1,10 @@
 -- The name and the owner code of an expression, by its kind, from the codes of its parts.
-use mathlib.Core.Path.{_≡_, refl, ap, sym, _∙_}
-use mathlib.Core.Bool.{true, cond}
-use mathlib.Core.Option.{none, some}
-use Prim.Native.Nat.{ℕ}
+use Rattle.kit.specs.Names.{_≡_, refl, ap, sym, _∙_, true, cond, none, some, ℕ, eqb, eq-eqb, ne-eqb}
 use Rattle.definitions.specs.ContractFile.{DataType, Owner, everyone, Operator, Expression, Scope, fieldAt, parameterAt, isFinal, finalName, parameterName, ownerOfCode, ownerCode, fieldOwnerCode}
 use Rattle.definitions.specs.Owners.{nameOf, ownerOf, isPublicAddress, parameterOwner, isPublic}
 use Rattle.definitions.specs.Numbers.{targetInTables}
 use Rattle.rewrite_owners.specs.Codes.{nameCode, partsCode, placeCode}
 use Rattle.rewrite_owners.proofs.Codes.{parts-code, place-code, target-code, public-test}
-use lib.Dec.{eqb}
-use borrow.Author.Tests.{eq-eqb, ne-eqb}
 
 -- Expressions are given by what they are equal to, as code learns it.
 module _ (scope : Scope) (e : Expression) where

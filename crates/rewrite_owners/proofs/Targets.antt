@@ -1,8 +1,5 @@
 -- The target of a reveal in an accepted file is an owner code of the tables.
-use mathlib.Core.Path.{_≡_}
-use mathlib.Core.Bool.{true, _&&_}
-use mathlib.Core.List.{List}
-use Prim.Native.Nat.{ℕ, _<_}
+use Rattle.kit.specs.Names.{_≡_, true, _&&_, List, ℕ, _<_}
 use Rattle.definitions.specs.Basics.{isZero}
 use Rattle.definitions.specs.ContractFile.{NodeRecord, nodeCount, revealKind, kindOf}
 use Rattle.definitions.specs.Numbers.{kindInTables, targetInTables}

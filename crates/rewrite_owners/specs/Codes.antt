@@ -1,10 +1,5 @@
 -- Owners, names and places as the codes that a file and the code use for them.
-use mathlib.Core.Path.{_≡_}
-use mathlib.Core.Bool.{true, cond}
-use mathlib.Core.List.{List}
-use mathlib.Core.Option.{Option, none, some}
-use Prim.Native.Nat.{ℕ, _<_}
-use lib.Dec.{eqb}
+use Rattle.kit.specs.Names.{_≡_, true, cond, List, Option, none, some, ℕ, _<_, eqb}
 use Rattle.definitions.specs.ContractFile.{Name, ownedBy, fieldCount, ownerCode}
 use Rattle.definitions.specs.Numbers.{fieldInTables}
 use Rattle.file_accepted.specs.Context.{fieldRecordAt}

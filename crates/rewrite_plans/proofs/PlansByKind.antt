@@ -1,11 +1,6 @@
 -- What is found of a node, by the kind of its record.
-use mathlib.Core.Path.{_≡_, refl, ap, sym, _∙_}
-use mathlib.Core.Bool.{Bool, true, false, _&&_, cond, not, false≢true}
-use mathlib.Core.List.{List}
-use Prim.Native.Nat.{ℕ, suc, _+_, _<_, _≤_}
-use native.Mathlib.Omega.{arith}
-use lib.Dec.{eqb}
-use borrow.Author.Tests.{eq-eqb, ne-eqb}
+use Rattle.kit.specs.Names.{_≡_, refl, ap, sym, _∙_, Bool, true, false, _&&_, cond, not, false≢true, List, ℕ, suc, _+_, _<_, _≤_, arith}
+use Rattle.kit.specs.Names.{eqb, eq-eqb, ne-eqb}
 use Rattle.definitions.specs.ContractFile.{meName, Owner, everyone, ownedBy, Operator, Expression, Scope, isEveryone, isDivision, NodeRecord, nodeCount, ownerCode}
 use Rattle.definitions.specs.Owners.{ownerOf}
 use Rattle.file_accepted.specs.Context.{Context, scopeIn}

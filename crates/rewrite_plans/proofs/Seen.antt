@@ -1,10 +1,5 @@
 -- A node's expression by the kind of its record.
-use mathlib.Core.Path.{_≡_, refl}
-use mathlib.Core.Bool.{Bool, true, false}
-use mathlib.Core.List.{List}
-use Prim.Native.Nat.{ℕ, _+_, _*_, _<_}
-use borrow.Author.Tests.{eqb-true, eqb-false}
-use lib.Dec.{eqb}
+use Rattle.kit.specs.Names.{_≡_, refl, Bool, true, false, List, ℕ, _+_, _*_, _<_, eqb, eqb-true, eqb-false}
 use Rattle.definitions.specs.ContractFile.{Expression, NodeRecord, nodeCount, dataTypeOf, ownerOfCode, operatorOf}
 use Rattle.file_accepted.specs.Context.{Context}
 use Rattle.theory_trees.proofs.ByKind.{constant-is, field-is, entry-is, parameter-is, operator-is, negation-is, reveal-is, other-is}

@@ -1,9 +1,5 @@
 -- What code finds of a node: its owner code where it is supplied or read, and the numbers of its parts.
-use mathlib.Core.Path.{_≡_}
-use mathlib.Core.Bool.{not}
-use mathlib.Core.List.{List}
-use Prim.Native.Nat.{ℕ, suc, _<_, _≤_}
-use lib.Dec.{eqb}
+use Rattle.kit.specs.Names.{_≡_, not, List, ℕ, suc, _<_, _≤_, eqb}
 use Rattle.definitions.specs.ContractFile.{Expression, Scope, ownerCode}
 use Rattle.definitions.specs.Owners.{ownerOf}
 use Rattle.theory_trees.specs.Trees.{expressionIn}

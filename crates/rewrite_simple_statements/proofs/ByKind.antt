@@ -1,10 +1,5 @@
 -- A statement holds no other if and only if its node's kind is not a sequence's or a conditional's.
-use mathlib.Core.Path.{_≡_, refl, ap, sym, _∙_}
-use mathlib.Core.Bool.{Bool, true, false, false≢true}
-use mathlib.Core.List.{List}
-use Prim.Native.Nat.{ℕ, _<_}
-use borrow.Author.Tests.{eqb-true, eqb-false}
-use lib.Dec.{eqb}
+use Rattle.kit.specs.Names.{_≡_, refl, ap, sym, _∙_, Bool, true, false, false≢true, List, ℕ, _<_, eqb, eqb-true, eqb-false}
 use Rattle.definitions.specs.ContractFile.{NodeRecord, nodeCount}
 use Rattle.theory_trees.specs.Trees.{statementIn}
 use Rattle.file_decoded.specs.Slices.{recordAt}

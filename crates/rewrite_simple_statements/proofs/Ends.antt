@@ -1,8 +1,5 @@
 -- The log of events and of their end.
-use mathlib.Core.Path.{_≡_, sym, subst}
-use mathlib.Core.Bool.{true}
-use mathlib.Core.List.{List}
-use Prim.Native.Nat.{ℕ}
+use Rattle.kit.specs.Names.{_≡_, sym, subst, true, List, ℕ}
 use Rattle.theory_trees.specs.Trees.{statementIn}
 use Rattle.file_accepted.specs.Context.{nodesIn, scopeIn}
 use Rattle.rewrite_events.specs.Events.{Events, ended}

@@ -1,6 +1,5 @@
 -- The events of a file's condition, and those of a statement that holds no other but for their end.
-use mathlib.Core.List.{List}
-use Prim.Native.Nat.{ℕ}
+use Rattle.kit.specs.Names.{List, ℕ}
 use Rattle.theory_trees.specs.Trees.{statementIn}
 use Rattle.file_accepted.specs.Context.{nodesIn, scopeIn}
 use Rattle.rewrite_events.specs.Events.{Events, ended}

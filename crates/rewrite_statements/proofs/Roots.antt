@@ -1,7 +1,5 @@
 -- A function's root node, as it is read.
-use mathlib.Core.Path.{_≡_, ap, sym, subst, _∙_}
-use mathlib.Core.List.{List}
-use Prim.Native.Nat.{ℕ, _-_}
+use Rattle.kit.specs.Names.{_≡_, ap, sym, subst, _∙_, List, ℕ, _-_}
 use Rattle.definitions.specs.ContractFile.{twoBytesAt, functionEnd}
 use Rattle.file_accepted.specs.Context.{nodesIn}
 use Rattle.file_accepted.specs.Functions.{rootAt}

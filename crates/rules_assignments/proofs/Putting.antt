@@ -1,10 +1,5 @@
 -- Those faults are the ones that the definitions tell of statements.
-use mathlib.Core.Path.{_≡_, _∙_}
-use mathlib.Core.Bool.{not}
-use mathlib.Core.List.{_++_}
-use mathlib.Core.Option.{none}
-use Prim.Native.Nat.{ℕ, _≤_}
-use lib.Dec.{eqb}
+use Rattle.kit.specs.Names.{_≡_, _∙_, not, _++_, none, ℕ, _≤_, eqb}
 use Rattle.definitions.specs.ContractFile.{Expression, Statement, Scope, Owner, fieldAt, shapeCode}
 use Rattle.definitions.specs.Owners.{Links, nameOf, placeOwner}
 use Rattle.definitions.specs.Numbers.{fault, expressionFaults, entryFaults, valueFaults, conditionFaults, statementFaults}

@@ -7,7 +7,7 @@ use rules_faults::number_if;
 use rules_judgements::Judged;
 use rules_scopes::Declared;
 use rules_values::value_fault;
-ghost use mathlib.Core.Path.{_≡_};
+ghost use Rattle.kit.specs.Names.{_≡_};
 ghost use Rattle.rules_links.specs.Classes.{linkedBy};
 ghost use Rattle.rules_codes.specs.Codes.{HasClass, placeNumber};
 ghost use Rattle.rules_values.specs.Putting.{fieldFault, entryPutFault};

@@ -1,10 +1,5 @@
 -- An array whose front was lent and came back as some list: its length, and its front.
-use mathlib.Core.Path.{_≡_, ap, sym, _∙_}
-use mathlib.Core.List.{List, _++_}
-use Prim.Native.Nat.{ℕ, _≤_}
-use native.Mathlib.Omega.{arith}
-use lib.ListN.{length, take, drop, length-append, length-drop}
-use lib.Seq.{take-append-seam}
+use Rattle.kit.specs.Names.{_≡_, ap, sym, _∙_, List, _++_, ℕ, _≤_, arith, length, take, drop, length-append, length-drop, take-append-seam}
 
 pub array-long : (front room : List ℕ) (count : ℕ) → length front ≡ count → count ≤ length room → length (front ++ drop count room) ≡ length room
 array-long front room count e h =

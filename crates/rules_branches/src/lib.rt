@@ -5,10 +5,7 @@ use rules_faults::least;
 use rules_links::class_room;
 use rules_links::copy_classes;
 use rules_meet::behind;
-ghost use mathlib.Core.Path.{_≡_};
-ghost use mathlib.Core.Bool.{false, _||_};
-ghost use Prim.Native.Nat.{_≤_, min};
-ghost use lib.ListN.{length, take};
+ghost use Rattle.kit.specs.Names.{_≡_, false, _||_, _≤_, min, length, take};
 ghost use Rattle.rules_links.specs.Classes.{Classed};
 ghost use Rattle.rules_meet.specs.Branches.{Behind};
 

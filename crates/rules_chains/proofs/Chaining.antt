@@ -1,13 +1,6 @@
 -- The chains of the numbers passed: each number's link back, and each class's last number so far.
-use mathlib.Core.Path.{_≡_, refl, sym, _∙_}
-use mathlib.Core.Bool.{Bool, true, false}
-use mathlib.Core.List.{List}
-use Prim.Native.Nat.{ℕ, _+_, _≤_, _<_}
-use native.Mathlib.Omega.{arith}
-use borrow.Author.Tests.{eqb-true, eqb-false}
-use lib.Dec.{eqb}
-use lib.ListN.{length, getD, set, replicate, length-set, length-replicate, getD-replicate}
-use lib.Seq.{getD-set-same, getD-set-other}
+use Rattle.kit.specs.Names.{_≡_, refl, sym, _∙_, Bool, true, false, List, ℕ, _+_, _≤_, _<_, arith, eqb, length, getD, set, replicate}
+use Rattle.kit.specs.Names.{length-set, length-replicate, getD-replicate, getD-set-same, getD-set-other, eqb-true, eqb-false}
 use Rattle.rules_links.specs.Classes.{Classed}
 use Rattle.rules_chains.specs.Chains.{Latest, ChainsOf}
 

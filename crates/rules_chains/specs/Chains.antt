@@ -1,10 +1,5 @@
 -- The numbers of each class as a chain, and the number that stands for a pair of classes. Number 0 is no name, and says that there is none.
-use mathlib.Core.Path.{_≡_}
-use mathlib.Core.Bool.{cond}
-use mathlib.Core.List.{List}
-use Prim.Native.Nat.{ℕ, _<_}
-use lib.Dec.{eqb}
-use lib.ListN.{length, getD}
+use Rattle.kit.specs.Names.{_≡_, cond, List, ℕ, _<_, eqb, length, getD}
 
 -- The last number of a class that is below another.
 pub record Latest (classes : List ℕ) (class below number : ℕ) : Type 0 where

@@ -1,6 +1,6 @@
 // 02, Note 1: what the visit of names, class by class, goes by: the numbers of each class as a chain, and the number that stands for a
 // pair of classes. Apart from the visit, so that each is proved by itself.
-ghost use mathlib.Core.Path.{_≡_};
+ghost use Rattle.kit.specs.Names.{_≡_};
 ghost use Rattle.rules_links.specs.Classes.{Classed};
 ghost use Rattle.rules_chains.specs.Chains.{ChainsOf, standingFor};
 

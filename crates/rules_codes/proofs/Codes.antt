@@ -1,13 +1,6 @@
 -- Rules told of numbers are the rules that the definitions tell of data types and owners.
-use mathlib.Core.Path.{_≡_, refl, sym}
-use mathlib.Core.Bool.{Bool, true, false, not, cond, _&&_, _||_}
-use mathlib.Core.List.{List}
-use mathlib.Core.Option.{none, some}
-use Prim.Native.Nat.{ℕ, zero, suc, _+_, _-_, _≤_, _<_}
-use native.Mathlib.Omega.{arith}
-use borrow.Author.Tests.{eqb-false, ne-eqb, le-ltb}
-use lib.Dec.{eqb}
-use lib.ListN.{getD}
+use Rattle.kit.specs.Names.{_≡_, refl, sym, Bool, true, false, not, cond, _&&_, _||_, List, none, some, ℕ, zero, suc, _+_, _-_, _≤_, _<_}
+use Rattle.kit.specs.Names.{arith, eqb, getD, eqb-false, ne-eqb, le-ltb}
 use Rattle.definitions.specs.ContractFile.{DataType, meName, everyone, ownedBy, toEveryone, toKey, toFinal, Operator, dataTypeCode, isDivision, isEveryone, operatorOf, operandsFit, resultType, Field}
 use Rattle.definitions.specs.Owners.{isReader, placeOwner, ownerOfParts}
 use Rattle.definitions.specs.Numbers.{isTagged, isNone, mayBePut, fault}

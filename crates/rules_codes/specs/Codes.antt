@@ -1,9 +1,5 @@
 -- Rules on data types and owners, told of their numbers.
-use mathlib.Core.Bool.{Bool, _&&_, cond}
-use mathlib.Core.List.{List}
-use Prim.Native.Nat.{ℕ, _<_, _≤_}
-use lib.Dec.{eqb, leb}
-use lib.ListN.{length}
+use Rattle.kit.specs.Names.{Bool, _&&_, cond, List, ℕ, _<_, _≤_, eqb, leb, length}
 use Rattle.definitions.specs.ContractFile.{Operator, operatorCode}
 use Rattle.rules_scopes.specs.declared.Declared.{Declared}
 

@@ -1,13 +1,6 @@
 -- The column that judging fills holds, at each node of each function, its owner in that function's scope.
-use mathlib.Core.Path.{_≡_, refl, _∙_}
-use mathlib.Core.Bool.{Bool, true, false}
-use mathlib.Core.List.{List, [], _∷_, map, List·Memᴰ, List·Memᴰ·head, List·Memᴰ·tail}
-use Prim.Native.Nat.{ℕ, zero, suc, _<_, _≤_}
-use native.Mathlib.Omega.{arith}
-use borrow.Author.Tests.{eqb-true, eqb-false}
-use lib.Dec.{eqb}
-use lib.ListN.{length, getD, set, length-set}
-use lib.Seq.{getD-set-same, getD-set-other}
+use Rattle.kit.specs.Names.{_≡_, refl, _∙_, Bool, true, false, List, [], _∷_, map, List·Memᴰ, List·Memᴰ·head, List·Memᴰ·tail, ℕ, zero, suc}
+use Rattle.kit.specs.Names.{_<_, _≤_, arith, eqb, length, getD, set, length-set, getD-set-same, getD-set-other, eqb-true, eqb-false}
 use Rattle.definitions.specs.ContractFile.{FunctionRecord, Field, Sections, Node, fieldOf, nodeOf}
 use Rattle.definitions.specs.Numbers.{namesNothing, usedOtherThanOnce}
 use Rattle.rules_marks.specs.Marks.{statementsUnder, marked, ownerAt}

@@ -1,13 +1,7 @@
 -- Members of lists: of lists one behind another, of a list whose tests all hold, and how often they are counted.
-use mathlib.Core.Path.{_≡_, refl}
-use mathlib.Core.Bool.{Bool, true, false}
-use mathlib.Core.Logic.{_⊎_, inl, inr}
-use mathlib.Core.List.{List, [], _∷_, List·Memᴰ, List·Memᴰ·head, List·Memᴰ·tail, List·Memᴰ·not-nil, List·Memᴰ·append-cases, Memᴰ·append-left, Memᴰ·append-right}
-use Prim.Native.Nat.{ℕ, zero, suc, _<_, _≤_}
-use native.Mathlib.Omega.{arith}
-use borrow.Author.Tests.{eq-eqb}
-use lib.Dec.{eqb}
-use lib.ListN.{length, getD}
+use Rattle.kit.specs.Names.{_≡_, refl, Bool, true, false, List, [], _∷_, List·Memᴰ, List·Memᴰ·head, List·Memᴰ·tail, List·Memᴰ·not-nil}
+use Rattle.kit.specs.Names.{List·Memᴰ·append-cases, Memᴰ·append-left, Memᴰ·append-right, _⊎_, inl, inr, ℕ, zero, suc, _<_, _≤_, arith, eqb}
+use Rattle.kit.specs.Names.{length, getD, eq-eqb}
 use Rattle.definitions.specs.Basics.{all, any, countIf, flatMap}
 use Rattle.theory_laws.proofs.TruthValues.{and-left, and-right, or-left, or-right}
 use Rattle.theory_laws.proofs.Lists.{count-append}

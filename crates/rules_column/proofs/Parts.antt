@@ -1,8 +1,5 @@
 -- A column that holds the owners of all nodes under a node holds those of the nodes under its parts.
-use mathlib.Core.Path.{_≡_, refl}
-use mathlib.Core.List.{List, [], _∷_, _++_, List·Memᴰ, List·Memᴰ·head, Memᴰ·append-left, Memᴰ·append-right}
-use Prim.Native.Nat.{ℕ}
-use lib.ListN.{getD}
+use Rattle.kit.specs.Names.{_≡_, refl, List, [], _∷_, _++_, List·Memᴰ, List·Memᴰ·head, Memᴰ·append-left, Memᴰ·append-right, ℕ, getD}
 use Rattle.definitions.specs.Basics.{flatMap}
 use Rattle.definitions.specs.ContractFile.{Node, nodeAt}
 use Rattle.theory_trees.specs.Trees.{Falling}

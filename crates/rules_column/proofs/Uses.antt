@@ -1,13 +1,7 @@
 -- A node is under the root of one function only: from a node go up to what uses it, which number 5 leaves no choice of.
-use mathlib.Core.Path.{_≡_, refl, ap}
-use mathlib.Core.Bool.{false, not, _||_}
-use mathlib.Core.Logic.{_⊎_, inl, inr}
-use mathlib.Core.List.{List, [], _∷_, _++_, map, List·Memᴰ, List·Memᴰ·head, List·Memᴰ·not-nil, List·Memᴰ·append-cases, List·Memᴰ·eq-of-singleton, Memᴰ·append-left, Memᴰ·append-right}
-use Prim.Native.Nat.{ℕ, zero, suc, _+_, _<_}
-use native.Mathlib.Omega.{arith}
-use borrow.Author.Tests.{ltb-true, leb-false, eqb-true, not-false}
-use lib.Dec.{eqb, leb, ltb}
-use lib.ListN.{length, getD, length-map}
+use Rattle.kit.specs.Names.{_≡_, refl, ap, false, not, _||_, List, [], _∷_, _++_, map, List·Memᴰ, List·Memᴰ·head, List·Memᴰ·not-nil}
+use Rattle.kit.specs.Names.{List·Memᴰ·append-cases, List·Memᴰ·eq-of-singleton, Memᴰ·append-left, Memᴰ·append-right, _⊎_, inl, inr, ℕ, zero}
+use Rattle.kit.specs.Names.{suc, _+_, _<_, arith, eqb, leb, ltb, length, getD, length-map, ltb-true, leb-false, eqb-true, not-false}
 use Rattle.definitions.specs.Basics.{any, countIf, flatMap}
 use Rattle.definitions.specs.ContractFile.{FunctionRecord, NodeRecord, Sections, node, Node, expressionNode, statementNode, unknownNode, fieldOf, nodeOf, nodeAt, children, expressionParts, statementParts}
 use Rattle.definitions.specs.Numbers.{namesNothing, usesOf, usedOtherThanOnce, fieldOfDeclaredOwner}

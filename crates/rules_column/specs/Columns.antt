@@ -1,9 +1,5 @@
 -- What the column of owners holds, and why no function overwrites what another marked: number 5 lets no node be under two roots.
-use mathlib.Core.Path.{_≡_}
-use mathlib.Core.List.{List, List·Memᴰ}
-use Prim.Native.Nat.{ℕ, _<_, _≤_}
-use lib.Dec.{eqb}
-use lib.ListN.{length, getD}
+use Rattle.kit.specs.Names.{_≡_, List, List·Memᴰ, ℕ, _<_, _≤_, eqb, length, getD}
 use Rattle.definitions.specs.Basics.{countIf}
 use Rattle.definitions.specs.ContractFile.{Sections, Node, nodeAt, children}
 use Rattle.definitions.specs.Numbers.{usesOf}

@@ -4,7 +4,7 @@ use rules_faults::least;
 use rules_faults::number_if;
 use rules_judgements::Judged;
 use rules_owners::EVERYONE;
-ghost use mathlib.Core.Path.{_≡_};
+ghost use Rattle.kit.specs.Names.{_≡_};
 ghost use Rattle.rules_values.specs.Putting.{conditionFault};
 
 // "9. .. conditions are bools."; "14. The condition of a require or an if isn't public."

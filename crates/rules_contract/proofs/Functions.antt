@@ -1,12 +1,6 @@
 -- The functions of a contract one after another: the least fault so far, and the column so far, with those of the functions ahead.
-use mathlib.Core.Path.{_≡_, refl, ap, sym, _∙_}
-use mathlib.Core.Bool.{false, not}
-use mathlib.Core.List.{List, [], _∷_, map}
-use Prim.Native.Nat.{ℕ, zero, suc, _+_, _*_, _-_, _/_, _<_, _≤_, min}
-use native.Mathlib.Omega.{arith}
-use borrow.Author.Tests.{ne-eqb}
-use lib.ListN.{length, take, drop, length-drop}
-use lib.Seq.{getD-take, getD-drop, length-take-le}
+use Rattle.kit.specs.Names.{_≡_, refl, ap, sym, _∙_, false, not, List, [], _∷_, map, ℕ, zero, suc, _+_, _*_, _-_, _/_, _<_, _≤_, min, arith}
+use Rattle.kit.specs.Names.{length, take, drop, length-drop, getD-take, getD-drop, length-take-le, ne-eqb}
 use Rattle.definitions.specs.Basics.{any, flatMap, firstThatHolds}
 use Rattle.definitions.specs.ContractFile.{FunctionRecord, functionOf, contractOf}
 use Rattle.definitions.specs.Numbers.{functionFaults, fieldFaults, parameterInTables, contractFaults, contractSentences}

@@ -1,12 +1,6 @@
 -- What numbers 2, 3 and 4 leave, record by record: all that judging relies on.
-use mathlib.Core.Path.{_≡_, refl, sym}
-use mathlib.Core.Bool.{Bool, true, false, not, _||_}
-use mathlib.Core.List.{List}
-use Prim.Native.Nat.{ℕ, zero, suc, _+_, _*_, _/_, _<_, _≤_}
-use native.Mathlib.Omega.{arith}
-use borrow.Author.Tests.{ltb-false, leb-false}
-use lib.Dec.{leb, ltb}
-use lib.ListN.{length}
+use Rattle.kit.specs.Names.{_≡_, refl, sym, Bool, true, false, not, _||_, List, ℕ, zero, suc, _+_, _*_, _/_, _<_, _≤_, arith, leb, ltb}
+use Rattle.kit.specs.Names.{length, ltb-false, leb-false}
 use Rattle.definitions.specs.Basics.{any, anyNumbered}
 use Rattle.definitions.specs.ContractFile.{FieldRecord, ParameterRecord, FunctionRecord, NodeRecord, fieldOf, nodeOf, fieldsNamed, children}
 use Rattle.definitions.specs.Numbers.{fieldInTables, parameterInTables, nodeInTables, fieldOfDeclaredOwner, outsideTables, namesNothing}

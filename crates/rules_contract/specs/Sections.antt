@@ -1,10 +1,5 @@
 -- The least faults of a contract's functions, and the column of owners, as the decoded slices give them.
-use mathlib.Core.Path.{_≡_}
-use mathlib.Core.Bool.{false, not}
-use mathlib.Core.List.{List, [], _∷_, map}
-use Prim.Native.Nat.{ℕ, _+_, _*_, _/_, _<_, _≤_}
-use lib.Dec.{ltb}
-use lib.ListN.{length}
+use Rattle.kit.specs.Names.{_≡_, false, not, List, [], _∷_, map, ℕ, _+_, _*_, _/_, _<_, _≤_, ltb, length}
 use Rattle.definitions.specs.Basics.{any, flatMap}
 use Rattle.definitions.specs.ContractFile.{Field, Scope, Node, FunctionRecord, parameterOf, functionOf}
 use Rattle.definitions.specs.Owners.{noLinks}

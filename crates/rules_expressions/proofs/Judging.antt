@@ -1,10 +1,5 @@
 -- What judging a node of each kind answers, and leaves in the column of owners, from what judging its parts did.
-use mathlib.Core.Path.{_≡_, ap, sym, _∙_}
-use mathlib.Core.Bool.{Bool}
-use mathlib.Core.List.{List, map}
-use Prim.Native.Nat.{ℕ, _+_, _*_, _/_, _<_, _≤_}
-use native.Mathlib.Omega.{arith}
-use lib.ListN.{length, set, length-map}
+use Rattle.kit.specs.Names.{_≡_, ap, sym, _∙_, Bool, List, map, ℕ, _+_, _*_, _/_, _<_, _≤_, arith, length, set, length-map}
 use Rattle.definitions.specs.ContractFile.{Expression, NodeRecord, ownerOfCode, constantValue, parameterOf, nodeOf, nodeAt}
 use Rattle.definitions.specs.Numbers.{ownerFits}
 use Rattle.theory_trees.specs.Trees.{expressionIn}

@@ -1,8 +1,5 @@
 -- What judging an expression's node answers, and leaves in the column of owners.
-use mathlib.Core.Path.{_≡_}
-use mathlib.Core.List.{List}
-use Prim.Native.Nat.{ℕ}
-use lib.ListN.{length}
+use Rattle.kit.specs.Names.{_≡_, List, ℕ, length}
 use Rattle.theory_trees.specs.Trees.{expressionIn}
 use Rattle.rules_links.specs.Classes.{linkedBy}
 use Rattle.rules_scopes.specs.Trees.{nodesIn}

@@ -21,8 +21,7 @@ use rules_reveals::reveal_judged;
 use rules_scopes::field_from;
 use rules_scopes::parameter_from;
 use rules_scopes::target_fits;
-ghost use Prim.Native.Nat.{_/_, _<_, _≤_};
-ghost use lib.ListN.{length};
+ghost use Rattle.kit.specs.Names.{_/_, _<_, _≤_, length};
 ghost use Rattle.rules_scopes.specs.Scopes.{Ready};
 ghost use Rattle.rules_expressions.specs.Marking.{MarkedAs};
 

@@ -1,10 +1,5 @@
 -- The least fault of lists put together, of one sentence, and of a contract.
-use mathlib.Core.Path.{_≡_, refl}
-use mathlib.Core.Bool.{Bool, true, false, cond, _||_}
-use mathlib.Core.List.{List, [], _∷_, _++_}
-use Prim.Native.Nat.{ℕ, zero, suc, _+_, _≤_, min}
-use native.Mathlib.Omega.{arith}
-use lib.Dec.{eqb}
+use Rattle.kit.specs.Names.{_≡_, refl, Bool, true, false, cond, _||_, List, [], _∷_, _++_, ℕ, zero, suc, _+_, _≤_, min, arith, eqb}
 use Rattle.definitions.specs.Basics.{any, firstThatHolds}
 use Rattle.definitions.specs.Numbers.{fault, contractFaults, contractSentences}
 use Rattle.definitions.specs.ContractFile.{Contract}

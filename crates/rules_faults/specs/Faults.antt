@@ -1,8 +1,5 @@
 -- The least of the numbers 8 to 15 in a list of faults.
-use mathlib.Core.Bool.{Bool, cond}
-use mathlib.Core.List.{List}
-use Prim.Native.Nat.{ℕ, zero, suc}
-use lib.Dec.{eqb}
+use Rattle.kit.specs.Names.{Bool, cond, List, ℕ, zero, suc, eqb}
 use Rattle.definitions.specs.Basics.{any}
 
 -- The first of `count` numbers from n on that passes a test, or the number after them.

@@ -1,7 +1,5 @@
 // The least of the numbers 8 to 15 that a tree is refused by, 16 standing for none.
-ghost use mathlib.Core.Path.{_≡_};
-ghost use mathlib.Core.Bool.{cond, _&&_};
-ghost use Prim.Native.Nat.{min};
+ghost use Rattle.kit.specs.Names.{_≡_, cond, _&&_, min};
 
 // "The first sentence that holds gives the number": of two faults the lower counts.
 pub fn least(a: u8, b: u8) -> u8

@@ -1,14 +1,6 @@
 -- Faults of a list's elements one after another, and of a field's own owner code.
-use mathlib.Core.Path.{_≡_, ap, sym, _∙_}
-use mathlib.Core.Bool.{Bool, true, false, not, cond}
-use mathlib.Core.List.{List, [], _∷_, _++_}
-use Prim.Native.Nat.{ℕ, suc, _+_, _-_, _/_, _<_, _≤_, min}
-use native.Mathlib.Omega.{arith}
-use native.Mathlib.Numerals.{add-one}
-use borrow.Author.Tests.{ne-eqb}
-use lib.Dec.{eqb}
-use lib.ListN.{length, getD, drop, length-map, drop-of-length-le}
-use lib.Seq.{drop-cons}
+use Rattle.kit.specs.Names.{_≡_, ap, sym, _∙_, Bool, true, false, not, cond, List, [], _∷_, _++_, ℕ, suc, _+_, _-_, _/_, _<_, _≤_, min}
+use Rattle.kit.specs.Names.{arith, add-one, eqb, length, getD, drop, length-map, drop-of-length-le, drop-cons, ne-eqb}
 use Rattle.definitions.specs.Basics.{flatMap}
 use Rattle.definitions.specs.ContractFile.{fieldOf}
 use Rattle.definitions.specs.Numbers.{fault}

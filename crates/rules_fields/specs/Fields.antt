@@ -1,7 +1,5 @@
 -- A contract's fields as the decoded slice holds them, and the least fault of one and of all.
-use mathlib.Core.List.{List, map}
-use Prim.Native.Nat.{ℕ, _/_}
-use lib.ListN.{length}
+use Rattle.kit.specs.Names.{List, map, ℕ, _/_, length}
 use Rattle.definitions.specs.Basics.{flatMap}
 use Rattle.definitions.specs.ContractFile.{Field, fieldAt, fieldOf}
 use Rattle.definitions.specs.Numbers.{fieldFaults}

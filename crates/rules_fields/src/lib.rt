@@ -5,9 +5,7 @@ use rules_faults::number_if;
 use rules_owners::EVERYONE;
 use rules_owners::FINALS;
 use rules_scopes::field_from;
-ghost use mathlib.Core.Path.{_≡_};
-ghost use Prim.Native.Nat.{_/_, _<_};
-ghost use lib.ListN.{length};
+ghost use Rattle.kit.specs.Names.{_≡_, _/_, _<_, length};
 ghost use Rattle.rules_scopes.specs.Scopes.{FieldsReady};
 ghost use Rattle.rules_fields.specs.Fields.{ownerFault, allFieldsFault};
 

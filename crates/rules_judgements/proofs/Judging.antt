@@ -1,13 +1,6 @@
 -- The judgement that code makes of each kind of expression is right if those of its parts are.
-use mathlib.Core.Path.{_≡_, refl, sym, _∙_}
-use mathlib.Core.Bool.{Bool, true, false, not, cond, _&&_, _||_}
-use mathlib.Core.List.{_++_}
-use mathlib.Core.Option.{none, some}
-use Prim.Native.Nat.{ℕ, zero, suc, _+_, _≤_, _<_}
-use native.Mathlib.Omega.{arith}
-use borrow.Author.Tests.{eqb-true}
-use lib.Dec.{eqb, leb}
-use lib.ListN.{length}
+use Rattle.kit.specs.Names.{_≡_, refl, sym, _∙_, Bool, true, false, not, cond, _&&_, _||_, _++_, none, some, ℕ, zero, suc, _+_, _≤_, _<_}
+use Rattle.kit.specs.Names.{arith, eqb, leb, length, eqb-true}
 use Rattle.definitions.specs.ContractFile.{finalName, parameterName, Expression, constant, me, field, entry, parameter, Scope, fieldAt, parameterAt, dataTypeOf, dataTypeCode, typeOf}
 use Rattle.definitions.specs.Owners.{Links, ownerOf, nameOf, placeOwner}
 use Rattle.definitions.specs.Numbers.{expressionFaults, entryFaults, fault, readFault}

@@ -1,8 +1,5 @@
 -- What the judgement of an expression says, and how it comes from those of its parts.
-use mathlib.Core.Path.{_≡_}
-use mathlib.Core.Bool.{not, cond, _&&_, _||_}
-use Prim.Native.Nat.{ℕ, _+_, _<_, min}
-use lib.Dec.{eqb, leb}
+use Rattle.kit.specs.Names.{_≡_, not, cond, _&&_, _||_, ℕ, _+_, _<_, min, eqb, leb}
 use Rattle.definitions.specs.ContractFile.{Expression, Scope, dataTypeCode, typeOf}
 use Rattle.definitions.specs.Owners.{Links, ownerOf, nameOf, isReader}
 use Rattle.definitions.specs.Numbers.{expressionFaults, fault}

@@ -1,8 +1,5 @@
 -- The links that a condition's node gives, by its kind.
-use mathlib.Core.Path.{_≡_, refl}
-use mathlib.Core.List.{List}
-use Prim.Native.Nat.{ℕ, zero, suc, _+_, _/_}
-use lib.ListN.{length}
+use Rattle.kit.specs.Names.{_≡_, refl, List, ℕ, zero, suc, _+_, _/_, length}
 use Rattle.definitions.specs.ContractFile.{Expression, Scope, operatorOf}
 use Rattle.definitions.specs.Owners.{Links, linksOfCondition, withLinkOf, nameOf}
 use Rattle.rules_owners.specs.Numbering.{nameWith}

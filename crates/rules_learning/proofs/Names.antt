@@ -1,9 +1,5 @@
 -- The name that a node's expression is, by its kind.
-use mathlib.Core.Path.{_≡_, refl}
-use mathlib.Core.List.{List, []}
-use Prim.Native.Nat.{ℕ, _+_, _*_, _/_, _<_}
-use native.Mathlib.Omega.{arith}
-use lib.ListN.{length}
+use Rattle.kit.specs.Names.{_≡_, refl, List, [], ℕ, _+_, _*_, _/_, _<_, arith, length}
 use Rattle.definitions.specs.ContractFile.{NodeRecord}
 use Rattle.definitions.specs.Owners.{nameOf}
 use Rattle.theory_trees.specs.Trees.{expressionIn}

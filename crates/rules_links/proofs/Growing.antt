@@ -1,9 +1,5 @@
 -- Links learnt one after the other, and none learnt.
-use mathlib.Core.Path.{_≡_, refl, _∙_}
-use mathlib.Core.Bool.{Bool, true, false, _||_, true≢false}
-use mathlib.Core.List.{List}
-use Prim.Native.Nat.{ℕ}
-use lib.ListN.{length}
+use Rattle.kit.specs.Names.{_≡_, refl, _∙_, Bool, true, false, _||_, true≢false, List, ℕ, length}
 use Rattle.definitions.specs.Owners.{Links}
 use Rattle.theory_laws.proofs.TruthValues.{or-left, or-right}
 use Rattle.rules_links.specs.Classes.{Classed, linkedBy, Learnt}

@@ -1,14 +1,7 @@
 -- What classes stand for: at the start, in a test, and after two of them are joined.
-use mathlib.Core.Path.{_≡_, refl, ap, sym, _∙_, fun-ext}
-use mathlib.Core.Bool.{Bool, true, false, cond, _&&_, _||_, true≢false}
-use mathlib.Core.List.{List}
-use Prim.Native.Nat.{ℕ, _+_, _≤_, _<_}
-use native.Mathlib.Numerals.{add-one}
-use native.Mathlib.Omega.{arith}
-use borrow.Author.Tests.{ltb-true, ltb-false, eqb-true, eqb-false, eq-eqb, ne-eqb}
-use lib.Dec.{eqb, ltb}
-use lib.ListN.{length, getD, set, take, length-set, List·getD-eq-default}
-use lib.Seq.{getD-set-same, getD-set-other, take-suc, take-suc-set, take-all}
+use Rattle.kit.specs.Names.{_≡_, refl, ap, sym, _∙_, fun-ext, Bool, true, false, cond, _&&_, _||_, true≢false, List, ℕ, _+_, _≤_, _<_}
+use Rattle.kit.specs.Names.{arith, add-one, eqb, ltb, length, getD, set, take, length-set, List·getD-eq-default, getD-set-same}
+use Rattle.kit.specs.Names.{getD-set-other, take-suc, take-suc-set, take-all, ltb-true, ltb-false, eqb-true, eqb-false, eq-eqb, ne-eqb}
 use Rattle.definitions.specs.ContractFile.{Name, meName, finalName, parameterName, sameName}
 use Rattle.definitions.specs.Owners.{Links, noLinks, withLink, withLinkOf}
 use Rattle.rules_owners.specs.Numbering.{nameNumbered, nameWith, numberOfName}

@@ -1,9 +1,5 @@
 -- Names that have a class of their own, and their numbers.
-use mathlib.Core.Path.{_≡_}
-use mathlib.Core.Bool.{true}
-use Prim.Native.Nat.{ℕ, _+_, _≤_, _<_}
-use native.Mathlib.Omega.{arith}
-use borrow.Author.Tests.{ltb-true, lt-ltb}
+use Rattle.kit.specs.Names.{_≡_, true, ℕ, _+_, _≤_, _<_, arith, ltb-true, lt-ltb}
 use Rattle.definitions.specs.ContractFile.{Name, meName, finalName, parameterName}
 use Rattle.rules_owners.specs.Numbering.{nameNumbered, numberOfName}
 use Rattle.rules_owners.proofs.Numbering.{Numbered, caller, argument, final, numbered, argument-numbered, final-numbered}

@@ -1,10 +1,5 @@
 -- The links that a list of class numbers stands for, one class number at each owner's number.
-use mathlib.Core.Path.{_≡_}
-use mathlib.Core.Bool.{Bool, true, false, _&&_, cond}
-use mathlib.Core.List.{List}
-use Prim.Native.Nat.{ℕ, _+_, _<_, _≤_}
-use lib.Dec.{eqb, ltb}
-use lib.ListN.{length, getD}
+use Rattle.kit.specs.Names.{_≡_, Bool, true, false, _&&_, cond, List, ℕ, _+_, _<_, _≤_, eqb, ltb, length, getD}
 use Rattle.definitions.specs.ContractFile.{Name, meName, finalName, parameterName, sameName}
 use Rattle.definitions.specs.Owners.{Links}
 use Rattle.rules_owners.specs.Numbering.{numberOfName}

@@ -1,10 +1,7 @@
 // Links between names as classes: names of one class are linked. A class number stands at each name's owner's number, and is changed in
 // place. A caller is told whether a link was added: where one of an if's branches has added none, the links behind the if are those before
 // it, and no class need be looked at.
-ghost use mathlib.Core.Path.{_≡_};
-ghost use Prim.Native.Nat.{_<_, _≤_};
-ghost use lib.Dec.{eqb};
-ghost use lib.ListN.{length, getD};
+ghost use Rattle.kit.specs.Names.{_≡_, _<_, _≤_, eqb, length, getD};
 ghost use Rattle.definitions.specs.Owners.{noLinks, withLinkOf};
 ghost use Rattle.rules_owners.specs.Numbering.{nameWith};
 ghost use Rattle.rules_links.specs.Classes.{Classed, linkedBy, exchanged, Exchanged, Learnt};

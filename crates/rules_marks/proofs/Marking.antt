@@ -1,12 +1,6 @@
 -- Marking one list of nodes after another, and the nodes under a node: those under its parts, and then its own.
-use mathlib.Core.Path.{_≡_, refl, ap, ap₂, _∙_}
-use mathlib.Core.Bool.{true}
-use mathlib.Core.List.{List, [], _∷_, _++_}
-use Prim.Native.Nat.{ℕ, zero, suc, _<_}
-use native.Mathlib.Omega.{arith}
-use borrow.Author.Tests.{ltb-true}
-use lib.Dec.{ltb}
-use lib.ListN.{length, set, length-set}
+use Rattle.kit.specs.Names.{_≡_, refl, ap, ap₂, _∙_, true, List, [], _∷_, _++_, ℕ, zero, suc, _<_, arith, ltb, length, set, length-set}
+use Rattle.kit.specs.Names.{ltb-true}
 use Rattle.definitions.specs.Basics.{all, flatMap}
 use Rattle.definitions.specs.ContractFile.{Node, expressionNode, statementNode, unknownNode, nodeAt, children, expressionParts, statementParts}
 use Rattle.theory_laws.proofs.TruthValues.{and-left, and-right}

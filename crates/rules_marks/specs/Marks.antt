@@ -1,7 +1,5 @@
 -- What judging leaves in the column of owners.
-use mathlib.Core.List.{List, [], _∷_, _++_}
-use Prim.Native.Nat.{ℕ, zero, suc}
-use lib.ListN.{set}
+use Rattle.kit.specs.Names.{List, [], _∷_, _++_, ℕ, zero, suc, set}
 use Rattle.definitions.specs.Basics.{flatMap}
 use Rattle.definitions.specs.ContractFile.{Scope, Node, expressionNode, statementNode, unknownNode, nodeAt}
 use Rattle.definitions.specs.Owners.{ownerOf}

@@ -1,8 +1,6 @@
 // The column of owners: the number of each judged expression's owner, at its node's number.
 use rules_judgements::Judged;
-ghost use mathlib.Core.Path.{_≡_};
-ghost use Prim.Native.Nat.{_<_};
-ghost use lib.ListN.{length, set};
+ghost use Rattle.kit.specs.Names.{_≡_, _<_, length, set};
 
 // A judgement is handed on when its owner stands in the column.
 pub fn mark(owners: &mut [u16], n: usize, judged: Judged) -> Judged

@@ -1,8 +1,5 @@
 -- Where one branch has added no link, what both have is what was there before.
-use mathlib.Core.Path.{_≡_, refl, sym, fun-ext}
-use mathlib.Core.Bool.{Bool, true, false, _&&_}
-use mathlib.Core.List.{List}
-use Prim.Native.Nat.{ℕ}
+use Rattle.kit.specs.Names.{_≡_, refl, sym, fun-ext, Bool, true, false, _&&_, List, ℕ}
 use Rattle.definitions.specs.Owners.{linkedInBoth}
 use Rattle.rules_links.specs.Classes.{Classed, linkedBy, Learnt}
 use Rattle.rules_links.proofs.Growing.{nothing-learnt}

@@ -1,13 +1,7 @@
 -- Class by class of the one branch, the names that are of one class in both branches get one number.
-use mathlib.Core.Path.{_≡_, refl, sym, ap, _∙_, fun-ext}
-use mathlib.Core.Bool.{Bool, true, false, cond, _&&_}
-use mathlib.Core.List.{List}
-use Prim.Native.Nat.{ℕ, _+_, _*_, _≤_, _<_}
-use native.Mathlib.Omega.{arith}
-use borrow.Author.Tests.{ltb-true, ltb-false, eqb-true, eqb-false, eq-eqb, ne-eqb}
-use lib.Dec.{eqb, ltb}
-use lib.ListN.{length, getD, set, replicate, length-set, length-replicate, getD-replicate}
-use lib.Seq.{getD-set-same, getD-set-other}
+use Rattle.kit.specs.Names.{_≡_, refl, sym, ap, _∙_, fun-ext, Bool, true, false, cond, _&&_, List, ℕ, _+_, _*_, _≤_, _<_, arith, eqb, ltb}
+use Rattle.kit.specs.Names.{length, getD, set, replicate, length-set, length-replicate, getD-replicate, getD-set-same, getD-set-other}
+use Rattle.kit.specs.Names.{ltb-true, ltb-false, eqb-true, eqb-false, eq-eqb, ne-eqb}
 use Rattle.definitions.specs.ContractFile.{Name, sameName}
 use Rattle.definitions.specs.Owners.{linkedInBoth}
 use Rattle.rules_owners.specs.Numbering.{numberOfName}

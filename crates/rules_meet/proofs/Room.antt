@@ -1,10 +1,6 @@
 -- The front of an array, as long as the classes: what is written there is read there.
-use mathlib.Core.Path.{_≡_, ap, _∙_}
-use mathlib.Core.List.{List, _++_}
-use Prim.Native.Nat.{ℕ, _≤_}
-use native.Mathlib.Omega.{arith}
-use lib.ListN.{length, getD, take, drop, replicate, length-append}
-use lib.Seq.{length-take-le, take-append-seam, getD-take}
+use Rattle.kit.specs.Names.{_≡_, ap, _∙_, List, _++_, ℕ, _≤_, arith, length, getD, take, drop, replicate, length-append, length-take-le}
+use Rattle.kit.specs.Names.{take-append-seam, getD-take}
 use Rattle.rules_meet.specs.Branches.{Met}
 
 abbrev zeros : List ℕ

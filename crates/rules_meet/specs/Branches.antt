@@ -1,9 +1,5 @@
 -- What a branch does to the links that an if gives it, and the links behind the if.
-use mathlib.Core.Path.{_≡_}
-use mathlib.Core.Bool.{Bool, true, false}
-use mathlib.Core.List.{List}
-use Prim.Native.Nat.{ℕ}
-use lib.ListN.{length}
+use Rattle.kit.specs.Names.{_≡_, Bool, true, false, List, ℕ, length}
 use Rattle.definitions.specs.ContractFile.{Name}
 use Rattle.definitions.specs.Owners.{linkedInBoth}
 use Rattle.rules_links.specs.Classes.{Classed, linkedBy, Learnt}

@@ -3,8 +3,7 @@
 use rules_chains::chained;
 use rules_chains::standing;
 use rules_links::copy_classes;
-ghost use mathlib.Core.Path.{_≡_};
-ghost use lib.ListN.{length, getD};
+ghost use Rattle.kit.specs.Names.{_≡_, length, getD};
 ghost use Rattle.rules_links.specs.Classes.{Classed};
 ghost use Rattle.rules_meet.specs.Branches.{Met, Behind};
 

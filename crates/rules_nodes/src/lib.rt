@@ -1,9 +1,7 @@
 // A node's five numbers read at once, so that a function which goes by a node's kind has one step before its match.
 use file_decoded::number_from;
 use file_decoded::short_from;
-ghost use mathlib.Core.Path.{_≡_};
-ghost use Prim.Native.Nat.{_*_, _/_, _<_, _≤_};
-ghost use lib.ListN.{length};
+ghost use Rattle.kit.specs.Names.{_≡_, _*_, _/_, _<_, _≤_, length};
 ghost use Rattle.definitions.specs.ContractFile.{node};
 ghost use Rattle.file_decoded.specs.Slices.{nodeFrom};
 

@@ -1,9 +1,5 @@
 -- The judgement that code makes of an operator, not or reveal is right if those of its operands are.
-use mathlib.Core.Path.{_≡_, refl}
-use mathlib.Core.Bool.{Bool, not, _&&_, _||_}
-use Prim.Native.Nat.{ℕ, _≤_, _<_}
-use native.Mathlib.Omega.{arith}
-use lib.Dec.{eqb}
+use Rattle.kit.specs.Names.{_≡_, refl, Bool, not, _&&_, _||_, ℕ, _≤_, _<_, arith, eqb}
 use Rattle.definitions.specs.ContractFile.{Expression, operator, negation, reveal, Scope, isDivision, operatorOf, typeOf}
 use Rattle.definitions.specs.Owners.{Links, ownerOf, nameOf}
 use Rattle.definitions.specs.Numbers.{expressionFaults, fault, ownerFits}

@@ -1,7 +1,5 @@
 -- The judgements of operators, not and reveal, from those of their operands.
-use mathlib.Core.Bool.{Bool, not, cond, _&&_, _||_}
-use Prim.Native.Nat.{ℕ, min}
-use lib.Dec.{eqb}
+use Rattle.kit.specs.Names.{Bool, not, cond, _&&_, _||_, ℕ, min, eqb}
 use Rattle.definitions.specs.ContractFile.{dataTypeCode, isDivision, operatorOf, resultType}
 use Rattle.definitions.specs.Owners.{Links}
 use Rattle.rules_codes.specs.Codes.{fitCodes, partsNumber}

@@ -1,10 +1,6 @@
 -- Owners by number are the owners that the file's codes name.
-use mathlib.Core.Path.{_≡_, refl, sym}
-use mathlib.Core.Bool.{Bool, true, false, cond, _&&_, _||_, false≢true}
-use Prim.Native.Nat.{ℕ, zero, suc, _+_, _-_, _≤_, _<_}
-use native.Mathlib.Omega.{arith}
-use borrow.Author.Tests.{ltb-true, ltb-false, leb-true, leb-false, eqb-true, eqb-false, lt-ltb, le-ltb, le-leb, ne-eqb}
-use lib.Dec.{eqb, leb, ltb}
+use Rattle.kit.specs.Names.{_≡_, refl, sym, Bool, true, false, cond, _&&_, _||_, false≢true, ℕ, zero, suc, _+_, _-_, _≤_, _<_, arith, eqb}
+use Rattle.kit.specs.Names.{leb, ltb, ltb-true, ltb-false, leb-true, leb-false, eqb-true, eqb-false, lt-ltb, le-ltb, le-leb, ne-eqb}
 use Rattle.definitions.specs.Basics.{isZero, any}
 use Rattle.definitions.specs.ContractFile.{finalName, parameterName, everyone, ownedBy, toFinal, isFinalCode}
 use Rattle.definitions.specs.ContractFile.{isParameterCode, ownerOfCode, fieldOwnerOfCode, fieldOfOwner, FieldRecord}

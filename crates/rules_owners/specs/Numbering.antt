@@ -1,8 +1,5 @@
 -- Owners and names by number: 0 all, 1 the caller, 2 + k parameter k (k 0 to 7), 10 + f final f.
-use mathlib.Core.Bool.{Bool, _||_, cond}
-use mathlib.Core.Option.{Option, none, some}
-use Prim.Native.Nat.{ℕ, _+_, _-_}
-use lib.Dec.{eqb, ltb}
+use Rattle.kit.specs.Names.{Bool, _||_, cond, Option, none, some, ℕ, _+_, _-_, eqb, ltb}
 use Rattle.definitions.specs.Basics.{isZero}
 use Rattle.definitions.specs.ContractFile.{Name, meName, finalName, parameterName, Owner, everyone, ownedBy, FieldOwner, toEveryone, toKey}
 use Rattle.definitions.specs.ContractFile.{toFinal, isFinalCode}

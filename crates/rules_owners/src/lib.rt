@@ -3,8 +3,7 @@
 use file_kinds::FINAL_CODES_END_SHORT;
 use file_kinds::FINAL_CODES_SHORT;
 use file_kinds::PARAMETER_CODES_SHORT;
-ghost use mathlib.Core.Path.{_≡_};
-ghost use mathlib.Core.Bool.{true};
+ghost use Rattle.kit.specs.Names.{_≡_, true};
 ghost use Rattle.definitions.specs.ContractFile.{ownerOfCode};
 ghost use Rattle.definitions.specs.Numbers.{targetInTables};
 ghost use Rattle.rules_owners.specs.Numbering.{numberOfOwner, isFieldCode, declaredNumber};

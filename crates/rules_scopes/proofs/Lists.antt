@@ -1,11 +1,5 @@
 -- The record at an index of a slice, and what a test that no number of a list passes says of its first one.
-use mathlib.Core.Path.{_≡_, refl}
-use mathlib.Core.Bool.{true, false}
-use mathlib.Core.List.{List, _∷_, map}
-use Prim.Native.Nat.{ℕ, zero, suc, _+_, _*_, _<_, _≤_}
-use native.Mathlib.Omega.{arith}
-use borrow.Author.Tests.{leb-false}
-use lib.Dec.{leb}
+use Rattle.kit.specs.Names.{_≡_, refl, true, false, List, _∷_, map, ℕ, zero, suc, _+_, _*_, _<_, _≤_, arith, leb, leb-false}
 use Rattle.definitions.specs.Basics.{any}
 use Rattle.definitions.specs.ContractFile.{boolean, fieldAt, fieldOf, parameterAt, parameterOf}
 use Rattle.theory_laws.proofs.TruthValues.{or-left}

@@ -1,11 +1,6 @@
 -- What a node names is there: fields, an owner's name; a condition that is no operator gives no links.
-use mathlib.Core.Path.{_≡_, refl, ap, _∙_}
-use mathlib.Core.Bool.{Bool, true, false, cond, _&&_}
-use mathlib.Core.List.{List, []}
-use Prim.Native.Nat.{ℕ, _+_, _*_, _/_, _<_, _≤_}
-use borrow.Author.Tests.{leb-true, ne-eqb}
-use lib.Dec.{eqb, leb}
-use lib.ListN.{length}
+use Rattle.kit.specs.Names.{_≡_, refl, ap, _∙_, Bool, true, false, cond, _&&_, List, [], ℕ, _+_, _*_, _/_, _<_, _≤_, eqb, leb, length}
+use Rattle.kit.specs.Names.{leb-true, ne-eqb}
 use Rattle.definitions.specs.Basics.{any, isZero}
 use Rattle.definitions.specs.ContractFile.{Expression, Scope, NodeRecord, dataTypeOf, ownerOfCode, fieldOfOwner, isOfType, constantKind, meKind, fieldKind, entryKind, parameterKind, operatorKind, negationKind, revealKind, skipKind, sequenceKind, assignFieldKind, assignEntryKind, requireKind, conditionalKind, noKind, kindOf, nodeOf, nodeOfKind, constantValue, fieldsNamed, expressionOf}
 use Rattle.definitions.specs.Numbers.{nodeInTables, kindInTables, targetInTables}

@@ -1,12 +1,6 @@
 -- The node that a number names among the decoded ones; the numbers of the nodes fall from parent to child.
-use mathlib.Core.Path.{_≡_, refl, ap, sym, _∙_}
-use mathlib.Core.Bool.{Bool, true, false}
-use mathlib.Core.List.{List}
-use Prim.Native.Nat.{ℕ, _+_, _*_, _/_, _<_}
-use native.Mathlib.Omega.{arith}
-use borrow.Author.Tests.{ltb-false, ltb-true}
-use lib.Dec.{ltb}
-use lib.ListN.{length}
+use Rattle.kit.specs.Names.{_≡_, refl, ap, sym, _∙_, Bool, true, false, List, ℕ, _+_, _*_, _/_, _<_, arith, ltb, length, ltb-false}
+use Rattle.kit.specs.Names.{ltb-true}
 use Rattle.definitions.specs.Basics.{all}
 use Rattle.definitions.specs.ContractFile.{NodeRecord, node, unknownNode, nodeOf, nodeAt, children, expressionParts, statementParts}
 use Rattle.theory_trees.specs.Trees.{Falling, Reads}

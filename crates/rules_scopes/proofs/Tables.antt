@@ -1,12 +1,6 @@
 -- What the tables say of the fields and parameters that decoded slices hold.
-use mathlib.Core.Path.{_≡_, refl, ap, sym, _∙_}
-use mathlib.Core.Bool.{Bool, true, false, not, _&&_, _||_}
-use mathlib.Core.List.{List}
-use Prim.Native.Nat.{ℕ, zero, suc, _+_, _*_, _-_, _/_, _<_, _≤_}
-use native.Mathlib.Omega.{arith}
-use borrow.Author.Tests.{leb-true}
-use lib.Dec.{eqb, leb}
-use lib.ListN.{length}
+use Rattle.kit.specs.Names.{_≡_, refl, ap, sym, _∙_, Bool, true, false, not, _&&_, _||_, List, ℕ, zero, suc, _+_, _*_, _-_, _/_, _<_, _≤_}
+use Rattle.kit.specs.Names.{arith, eqb, leb, length, leb-true}
 use Rattle.definitions.specs.Basics.{isZero}
 use Rattle.definitions.specs.ContractFile.{shapeCode, shapeOf, fieldOf, parameterOf, isFinalCode, FieldRecord}
 use Rattle.definitions.specs.Numbers.{fieldInTables, parameterInTables, ownerFits}

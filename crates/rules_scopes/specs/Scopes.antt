@@ -1,10 +1,5 @@
 -- A function's scope as the decoded slices hold it, and what numbers 2 to 4 leave of them: all that judging relies on.
-use mathlib.Core.Path.{_≡_}
-use mathlib.Core.Bool.{true, false, not}
-use mathlib.Core.List.{List, map}
-use Prim.Native.Nat.{ℕ, _+_, _*_, _/_, _<_, _≤_}
-use lib.Dec.{eqb, leb}
-use lib.ListN.{length}
+use Rattle.kit.specs.Names.{_≡_, true, false, not, List, map, ℕ, _+_, _*_, _/_, _<_, _≤_, eqb, leb, length}
 use Rattle.definitions.specs.Basics.{any}
 use Rattle.definitions.specs.ContractFile.{Field, Parameter, Scope, fieldAt, parameterAt, dataTypeCode, shapeCode, fieldOf, parameterOf}
 use Rattle.definitions.specs.ContractFile.{nodeOf, children, fieldsNamed}

@@ -1,7 +1,5 @@
 -- The trees of the decoded nodes: n + 1 levels hold the whole of node n's.
-use mathlib.Core.List.{List, map}
-use Prim.Native.Nat.{ℕ, _/_}
-use lib.ListN.{length}
+use Rattle.kit.specs.Names.{List, map, ℕ, _/_, length}
 use Rattle.definitions.specs.ContractFile.{Node, nodeOf}
 use Rattle.file_decoded.specs.Slices.{nodesFrom}
 

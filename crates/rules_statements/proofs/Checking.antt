@@ -1,8 +1,5 @@
 -- What is found of each kind of statement is right if what is found of its parts is.
-use mathlib.Core.Path.{_≡_, refl, ap, ap₂, _∙_}
-use mathlib.Core.Bool.{Bool, false, _||_}
-use mathlib.Core.List.{List, _++_}
-use Prim.Native.Nat.{ℕ, min}
+use Rattle.kit.specs.Names.{_≡_, refl, ap, ap₂, _∙_, Bool, false, _||_, List, _++_, ℕ, min}
 use Rattle.definitions.specs.ContractFile.{Expression, Statement, Scope}
 use Rattle.definitions.specs.Owners.{Links, linkedInBoth, linksAfter, linksOfCondition}
 use Rattle.definitions.specs.Numbers.{statementFaults, conditionFaults}

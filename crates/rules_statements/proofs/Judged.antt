@@ -1,9 +1,5 @@
 -- What judging a statement's node of each kind answers, and leaves in the classes and the column, from what judging its parts did.
-use mathlib.Core.Path.{_≡_, refl, ap, sym, _∙_}
-use mathlib.Core.Bool.{Bool, false, _||_}
-use mathlib.Core.List.{List}
-use Prim.Native.Nat.{ℕ, _*_, _/_, _<_, min}
-use lib.ListN.{length}
+use Rattle.kit.specs.Names.{_≡_, refl, ap, sym, _∙_, Bool, false, _||_, List, ℕ, _*_, _/_, _<_, min, length}
 use Rattle.definitions.specs.ContractFile.{Statement, Scope, NodeRecord, nodeOf, nodeAt}
 use Rattle.definitions.specs.Owners.{linksOfCondition}
 use Rattle.definitions.specs.Numbers.{statementFaults, conditionFaults}

@@ -1,7 +1,5 @@
 -- What is found of a statement, and what judging it leaves in the classes and in the column of owners.
-use mathlib.Core.Path.{_≡_}
-use mathlib.Core.List.{List}
-use Prim.Native.Nat.{ℕ}
+use Rattle.kit.specs.Names.{_≡_, List, ℕ}
 use Rattle.definitions.specs.ContractFile.{Statement, Scope}
 use Rattle.definitions.specs.Owners.{linksAfter}
 use Rattle.definitions.specs.Numbers.{statementFaults}

@@ -1,7 +1,5 @@
 -- Faults of assignments and conditions, from the judgements of their expressions.
-use mathlib.Core.Bool.{not, cond}
-use Prim.Native.Nat.{ℕ, min}
-use lib.Dec.{eqb}
+use Rattle.kit.specs.Names.{not, cond, ℕ, min, eqb}
 use Rattle.definitions.specs.Owners.{Links}
 use Rattle.definitions.specs.Numbers.{fault, mayBePut}
 use Rattle.rules_faults.specs.Faults.{leastFault}

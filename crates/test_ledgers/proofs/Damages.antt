@@ -1,13 +1,6 @@
 -- Damage by its kind, and the wrong answers counted one by one.
-use mathlib.Core.Path.{_≡_, refl, ap, sym, _∙_}
-use mathlib.Core.Bool.{Bool, true, false, cond, _&&_, not}
-use mathlib.Core.List.{List, [], _∷_}
-use Prim.Native.Nat.{ℕ, suc, _+_, _-_, _<_, _≤_}
-use native.Mathlib.Numerals.{add-one}
-use native.Mathlib.Omega.{arith}
-use borrow.Author.Tests.{eq-eqb, ne-eqb, lt-ltb, le-ltb}
-use lib.Dec.{eqb}
-use lib.ListN.{set}
+use Rattle.kit.specs.Names.{_≡_, refl, ap, sym, _∙_, Bool, true, false, cond, _&&_, not, List, [], _∷_, ℕ, suc, _+_, _-_, _<_, _≤_, arith}
+use Rattle.kit.specs.Names.{add-one, eqb, set, eq-eqb, ne-eqb, lt-ltb, le-ltb}
 use Rattle.definitions.specs.Basics.{isZero, countIf}
 use Rattle.definitions.specs.Original.{numbersFrom}
 use Rattle.definitions.specs.Ledger.{deployed, callNumber, ledgerAfterCall}

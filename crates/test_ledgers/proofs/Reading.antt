@@ -1,11 +1,5 @@
 -- What is read of a recorded run, step by step, is what the record says.
-use mathlib.Core.Path.{_≡_, refl, ap, _∙_}
-use mathlib.Core.Bool.{Bool, cond, _&&_}
-use mathlib.Core.List.{List}
-use Prim.Native.Nat.{ℕ, _+_, _*_, _-_, _≤_}
-use native.Mathlib.Omega.{arith}
-use lib.Dec.{eqb}
-use lib.ListN.{take}
+use Rattle.kit.specs.Names.{_≡_, refl, ap, _∙_, Bool, cond, _&&_, List, ℕ, _+_, _*_, _-_, _≤_, arith, eqb, take}
 use Rattle.definitions.specs.Basics.{isZero}
 use Rattle.definitions.specs.ContractFile.{byteAt}
 use Rattle.definitions.specs.Ledger.{deployNumber, deployed, callNumber, ledgerAfterCall}

@@ -1,9 +1,5 @@
 -- The counts stay in order.
-use mathlib.Core.Path.{_≡_}
-use mathlib.Core.Bool.{Bool, true, false, cond, _&&_}
-use Prim.Native.Nat.{ℕ, _<_, _≤_}
-use native.Mathlib.Omega.{arith}
-use lib.Dec.{leb}
+use Rattle.kit.specs.Names.{_≡_, Bool, true, false, cond, _&&_, ℕ, _<_, _≤_, arith, leb}
 use Rattle.test_ledgers.specs.declared.recorded.Tally.{Tally}
 use Rattle.test_ledgers.specs.Tallies.{noRuns, Counted}
 

@@ -1,10 +1,5 @@
 -- Damaged ledgers, and how many of the answers on them are wrong.
-use mathlib.Core.Path.{_≡_}
-use mathlib.Core.Bool.{Bool, cond, _&&_, not}
-use mathlib.Core.List.{List, [], _∷_}
-use Prim.Native.Nat.{ℕ, _+_}
-use lib.Dec.{eqb, ltb}
-use lib.ListN.{set}
+use Rattle.kit.specs.Names.{_≡_, Bool, cond, _&&_, not, List, [], _∷_, ℕ, _+_, eqb, ltb, set}
 use Rattle.definitions.specs.Basics.{isZero, countIf}
 use Rattle.definitions.specs.Original.{numbersFrom}
 use Rattle.definitions.specs.Ledger.{deployNumber, deployed, callNumber, ledgerAfterCall}

@@ -1,10 +1,5 @@
 -- What is read of a recorded run: its deployment, and its calls one after another. It serves document 01's "Runs and views".
-use mathlib.Core.Path.{_≡_}
-use mathlib.Core.Bool.{cond, _&&_}
-use mathlib.Core.List.{List}
-use Prim.Native.Nat.{ℕ, _+_, _*_, _-_, _≤_}
-use lib.Dec.{eqb}
-use lib.ListN.{length, take}
+use Rattle.kit.specs.Names.{_≡_, cond, _&&_, List, ℕ, _+_, _*_, _-_, _≤_, eqb, length, take}
 use Rattle.definitions.specs.Basics.{isZero}
 use Rattle.definitions.specs.ContractFile.{byteAt}
 use Rattle.definitions.specs.Ledger.{deployNumber, deployed, callNumber, ledgerAfterCall}

@@ -1,8 +1,5 @@
 -- How many runs there were, and how many of them differ.
-use mathlib.Core.Path.{_≡_}
-use mathlib.Core.Bool.{Bool, cond, _&&_}
-use Prim.Native.Nat.{ℕ, _+_}
-use lib.Dec.{leb}
+use Rattle.kit.specs.Names.{_≡_, Bool, cond, _&&_, ℕ, _+_, leb}
 use Rattle.test_ledgers.specs.declared.recorded.Tally.{Tally}
 
 abbrev pub noRuns : Tally

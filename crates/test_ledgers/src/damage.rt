@@ -8,9 +8,7 @@ use ledger_contents::Content;
 use ledger_contents::Place;
 use ledger_struct::Ledger;
 use view::view;
-ghost use mathlib.Core.Path.{_≡_};
-ghost use Prim.Native.Nat.{_<_};
-ghost use lib.ListN.{set};
+ghost use Rattle.kit.specs.Names.{_≡_, _<_, set};
 ghost use Rattle.test_ledgers.specs.Damage.{plainPlace, cellPlace, withItems, damagedHead, damagedItem, damagedLedger};
 ghost use Rattle.test_ledgers.specs.Damage.{isAnswered, wrongAnswers, WrongOn};
 

@@ -9,9 +9,7 @@ use file_bytes::byte_at;
 use file_bytes::two_bytes_at;
 use rehearse_scripts::four_bytes_at;
 use test_shared::part;
-ghost use mathlib.Core.Path.{_≡_};
-ghost use Prim.Native.Nat.{_+_, _*_, _-_, _<_, _≤_};
-ghost use lib.ListN.{length};
+ghost use Rattle.kit.specs.Names.{_≡_, _+_, _*_, _-_, _<_, _≤_, length};
 
 // Whether some values are those that stand from a place on.
 fn are_values(input: &[u8], from: usize, count: usize, values: &[u32]) -> bool

@@ -11,8 +11,7 @@ use recorded::counted;
 use recorded::no_runs;
 use test_shared::part;
 use test_shared::print;
-ghost use Prim.Native.Nat.{_<_, _≤_};
-ghost use lib.ListN.{length};
+ghost use Rattle.kit.specs.Names.{_<_, _≤_, length};
 
 fn print_runs(tally: Tally) -> usize {
     print(

@@ -8,8 +8,7 @@ use ledger_struct::Ledger;
 use test_shared::part;
 use test_shared::same_bytes;
 use test_shared::view_room;
-ghost use mathlib.Core.Path.{_≡_};
-ghost use Prim.Native.Nat.{_+_, _<_, _≤_};
+ghost use Rattle.kit.specs.Names.{_≡_, _+_, _<_, _≤_};
 
 fn view_is(ledger: Ledger, party: u8, due: &[u8]) -> bool {
     let mut view = view_room();

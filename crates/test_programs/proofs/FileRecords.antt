@@ -1,13 +1,7 @@
 -- Writing and reporting a recorded file, held against its record.
-use mathlib.Core.Path.{_≡_, refl, ap, sym, subst, _∙_}
-use mathlib.Core.Bool.{Bool, true, false, cond, _&&_, not}
-use mathlib.Core.List.{List, [], _∷_, _++_}
-use Prim.Native.Nat.{ℕ, zero, suc, _+_, _-_, _<_, _≤_}
-use native.Mathlib.Nat.{zero-add}
-use native.Mathlib.Omega.{arith}
-use borrow.Author.Tests.{eq-eqb, ne-eqb, lt-ltb, le-ltb, ltb-true, le-leb, lt-leb}
-use lib.Dec.{eqb, ltb}
-use lib.ListN.{length, take, drop}
+use Rattle.kit.specs.Names.{_≡_, refl, ap, sym, subst, _∙_, Bool, true, false, cond, _&&_, not, List, [], _∷_, _++_, ℕ, zero, suc, _+_, _-_}
+use Rattle.kit.specs.Names.{_<_, _≤_, arith, zero-add, eqb, ltb, length, take, drop, eq-eqb, ne-eqb, lt-ltb, le-ltb, ltb-true, le-leb}
+use Rattle.kit.specs.Names.{lt-leb}
 use Rattle.definitions.specs.Basics.{isZero, firstThatHolds, countIf}
 use Rattle.definitions.specs.ContractFile.{byteAt, twoBytesAt}
 use Rattle.definitions.specs.Numbers.{checkNumber, orElse}

@@ -1,14 +1,8 @@
 -- An output before and after something is written to its front, and how it is held against what is due.
-use mathlib.Core.Path.{_≡_, refl, ap, sym, _∙_}
-use mathlib.Core.Bool.{Bool, true, false, cond, _&&_}
-use mathlib.Core.List.{List, [], _∷_, _++_, append-assoc}
-use Prim.Native.Nat.{ℕ, zero, suc, _+_, _-_, _<_, _≤_}
-use native.Mathlib.Numerals.{add-one}
-use native.Mathlib.Omega.{arith}
-use borrow.Author.Tests.{eqb-true, eq-eqb, ne-eqb}
-use lib.Dec.{eqb}
-use lib.ListN.{length, getD, take, drop, set, length-append, length-replicate, getD-replicate, replicate-append-replicate, List·getD-append}
-use lib.Seq.{take-all, take-suc-set, getD-append-add}
+use Rattle.kit.specs.Names.{_≡_, refl, ap, sym, _∙_, Bool, true, false, cond, _&&_, List, [], _∷_, _++_, append-assoc, ℕ, zero, suc, _+_}
+use Rattle.kit.specs.Names.{_-_, _<_, _≤_, arith, add-one, eqb, length, getD, take, drop, set, length-append, length-replicate}
+use Rattle.kit.specs.Names.{getD-replicate, replicate-append-replicate, List·getD-append, take-all, take-suc-set, getD-append-add, eqb-true}
+use Rattle.kit.specs.Names.{eq-eqb, ne-eqb}
 use Rattle.test_shared.specs.Bytes.{sameBytes}
 use Rattle.test_shared.proofs.Bytes.{same-itself, lengths-differ, same-next, same-stops, same-ends}
 use Rattle.test_programs.specs.Outputs.{unwritten, outputWith, isAnswer}

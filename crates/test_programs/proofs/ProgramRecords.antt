@@ -1,13 +1,6 @@
 -- A record of a program as it is read, and records one by one.
-use mathlib.Core.Path.{_≡_, ap, sym, subst, _∙_}
-use mathlib.Core.Bool.{Bool, true, false, cond, not}
-use mathlib.Core.List.{List}
-use Prim.Native.Nat.{ℕ, _+_, _-_, _<_, _≤_}
-use native.Mathlib.Nat.{zero-add}
-use native.Mathlib.Omega.{arith}
-use borrow.Author.Tests.{eq-eqb, ne-eqb, le-leb, lt-leb}
-use lib.Dec.{leb}
-use lib.ListN.{length}
+use Rattle.kit.specs.Names.{_≡_, ap, sym, subst, _∙_, Bool, true, false, cond, not, List, ℕ, _+_, _-_, _<_, _≤_, arith, zero-add, leb}
+use Rattle.kit.specs.Names.{length, eq-eqb, ne-eqb, le-leb, lt-leb}
 use Rattle.definitions.specs.Basics.{countIf}
 use Rattle.definitions.specs.ContractFile.{byteAt}
 use Rattle.rehearse_scripts.specs.Scripts.{fourBytesAt}

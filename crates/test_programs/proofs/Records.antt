@@ -1,12 +1,6 @@
 -- Counting records one behind another: one more, the last, none left.
-use mathlib.Core.Path.{_≡_, refl, ap, _∙_}
-use mathlib.Core.Bool.{Bool, cond}
-use mathlib.Core.List.{List, [], _∷_}
-use Prim.Native.Nat.{ℕ, zero, suc, _+_, _-_, _<_, _≤_}
-use native.Mathlib.Omega.{arith}
-use borrow.Author.Tests.{lt-ltb, le-ltb}
-use lib.Dec.{ltb}
-use lib.ListN.{length}
+use Rattle.kit.specs.Names.{_≡_, refl, ap, _∙_, Bool, cond, List, [], _∷_, ℕ, zero, suc, _+_, _-_, _<_, _≤_, arith, ltb, length, lt-ltb}
+use Rattle.kit.specs.Names.{le-ltb}
 use Rattle.definitions.specs.Basics.{countIf}
 use Rattle.test_programs.specs.Records.{startsFrom}
 

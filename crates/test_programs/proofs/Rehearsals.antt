@@ -1,13 +1,8 @@
 -- A rehearsal's lines, one behind another, held against what is expected.
-use mathlib.Core.Path.{_≡_, refl, ap, ap₂, sym, subst, _∙_}
-use mathlib.Core.Bool.{Bool, true, false, cond, _&&_, _||_, not}
-use mathlib.Core.List.{List, [], _∷_, _++_}
-use Prim.Native.Nat.{ℕ, suc, _+_, _-_, _*_, _<_, _≤_, min}
-use native.Mathlib.Omega.{arith}
-use borrow.Author.Tests.{eq-eqb, ne-eqb, lt-ltb, le-ltb, ltb-false, le-leb, leb-true, leb-false, eqb-true, eqb-false}
-use lib.Dec.{eqb, ltb, leb}
-use lib.ListN.{length, take, drop, length-append, length-take, length-drop, take-append-drop}
-use lib.Seq.{length-take-le, take-at, drop-drop, drop-length}
+use Rattle.kit.specs.Names.{_≡_, refl, ap, ap₂, sym, subst, _∙_, Bool, true, false, cond, _&&_, _||_, not, List, [], _∷_, _++_, ℕ, suc, _+_}
+use Rattle.kit.specs.Names.{_-_, _*_, _<_, _≤_, min, arith, eqb, ltb, leb, length, take, drop, length-append, length-take, length-drop}
+use Rattle.kit.specs.Names.{take-append-drop, length-take-le, take-at, drop-drop, drop-length, eq-eqb, ne-eqb, lt-ltb, le-ltb, ltb-false}
+use Rattle.kit.specs.Names.{le-leb, leb-true, leb-false, eqb-true, eqb-false}
 use Rattle.definitions.specs.Basics.{firstThatHolds}
 use Rattle.definitions.specs.ContractFile.{byteAt}
 use Rattle.definitions.specs.Report.{decimal, refusedLine}

@@ -1,13 +1,7 @@
 -- What a program shows, held against what is expected.
-use mathlib.Core.Path.{_≡_, refl, ap, ap₂, sym, subst, _∙_}
-use mathlib.Core.Bool.{Bool, true, false, cond, _&&_}
-use mathlib.Core.List.{List, [], _∷_, _++_}
-use Prim.Native.Nat.{ℕ, zero, suc, _+_, _<_, _≤_, min}
-use native.Mathlib.Omega.{arith}
-use borrow.Author.Tests.{eq-eqb, ne-eqb, lt-ltb, le-ltb, le-leb, lt-leb, leb-true, leb-false}
-use lib.Dec.{eqb, ltb, leb}
-use lib.ListN.{length, take, drop, getD, length-take, length-drop}
-use lib.Seq.{length-take-le, take-all, take-at, getD-take, getD-drop}
+use Rattle.kit.specs.Names.{_≡_, refl, ap, ap₂, sym, subst, _∙_, Bool, true, false, cond, _&&_, List, [], _∷_, _++_, ℕ, zero, suc, _+_, _<_}
+use Rattle.kit.specs.Names.{_≤_, min, arith, eqb, ltb, leb, length, take, drop, getD, length-take, length-drop, length-take-le, take-all}
+use Rattle.kit.specs.Names.{take-at, getD-take, getD-drop, eq-eqb, ne-eqb, lt-ltb, le-ltb, le-leb, lt-leb, leb-true, leb-false}
 use Rattle.definitions.specs.Basics.{firstThatHolds}
 use Rattle.definitions.specs.Numbers.{checkNumber, orElse}
 use Rattle.definitions.specs.Report.{reportText, reportNumber, reportLength, outputAfterReport, refusedLine}

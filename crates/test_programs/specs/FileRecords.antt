@@ -1,11 +1,6 @@
 -- Recorded contract files. A record is: length of the file (2), the file, its number (1), length of the written file (2), that file, length
 -- of the report (2), the report.
-use mathlib.Core.Path.{_≡_}
-use mathlib.Core.Bool.{Bool, true, cond, _&&_, not}
-use mathlib.Core.List.{List}
-use Prim.Native.Nat.{ℕ, _+_}
-use lib.Dec.{eqb, leb}
-use lib.ListN.{length}
+use Rattle.kit.specs.Names.{_≡_, Bool, true, cond, _&&_, not, List, ℕ, _+_, eqb, leb, length}
 use Rattle.definitions.specs.Basics.{isZero, countIf}
 use Rattle.definitions.specs.ContractFile.{byteAt, twoBytesAt}
 use Rattle.definitions.specs.Numbers.{checkNumber}

@@ -1,9 +1,5 @@
 -- What entries leave in an output, held against what is due.
-use mathlib.Core.Bool.{Bool, true, cond, _&&_}
-use mathlib.Core.List.{List, _++_}
-use Prim.Native.Nat.{ℕ, _-_}
-use lib.Dec.{eqb, ltb}
-use lib.ListN.{length, replicate}
+use Rattle.kit.specs.Names.{Bool, true, cond, _&&_, List, _++_, ℕ, _-_, eqb, ltb, length, replicate}
 use Rattle.definitions.specs.Basics.{isZero}
 use Rattle.definitions.specs.Rewriting.{writtenFile}
 use Rattle.test_shared.specs.Bytes.{sameBytes}

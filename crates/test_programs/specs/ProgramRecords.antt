@@ -1,11 +1,6 @@
 -- Recorded inputs of our programs. A record is: length of the program's name (1), the name, length of the options (1), the options, length
 -- of the input (4), the input, length of the expected output (4), that output.
-use mathlib.Core.Path.{_≡_}
-use mathlib.Core.Bool.{Bool, cond, _&&_, not}
-use mathlib.Core.List.{List, [], _∷_, _++_}
-use Prim.Native.Nat.{ℕ, zero, suc, _+_}
-use lib.Dec.{eqb, leb, ltb}
-use lib.ListN.{length, take, drop}
+use Rattle.kit.specs.Names.{_≡_, Bool, cond, _&&_, not, List, [], _∷_, _++_, ℕ, zero, suc, _+_, eqb, leb, ltb, length, take, drop}
 use Rattle.definitions.specs.Basics.{isZero, countIf}
 use Rattle.definitions.specs.ContractFile.{byteAt}
 use Rattle.definitions.specs.Numbers.{checkNumber}

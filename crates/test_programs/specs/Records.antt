@@ -1,8 +1,5 @@
 -- Records that stand one behind another.
-use mathlib.Core.Bool.{cond}
-use mathlib.Core.List.{List, [], _∷_}
-use Prim.Native.Nat.{ℕ, zero, suc}
-use lib.Dec.{ltb}
+use Rattle.kit.specs.Names.{cond, List, [], _∷_, ℕ, zero, suc, ltb}
 
 -- Where the records begin, from a place on: each begins where the one before it ends. As many levels as there can be records.
 unfoldable pub startsFrom : (ℕ → ℕ) → ℕ → ℕ → ℕ → List ℕ

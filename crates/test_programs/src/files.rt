@@ -3,9 +3,7 @@
 // report.
 use file_bytes::two_bytes_at;
 use test_shared::Tally;
-ghost use mathlib.Core.Path.{_≡_};
-ghost use Prim.Native.Nat.{_≤_, _+_};
-ghost use lib.ListN.{length};
+ghost use Rattle.kit.specs.Names.{_≡_, _≤_, _+_, length};
 ghost use Rattle.definitions.specs.Numbers.{checkNumber};
 ghost use Rattle.test_shared.specs.Bytes.{sameBytes};
 ghost use Rattle.test_programs.specs.FileRecords.{partEnd, fileAgrees, isWrittenAs, isReportedAs, FilesTally};

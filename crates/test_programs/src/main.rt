@@ -5,8 +5,7 @@ mod files;
 mod programs;
 
 use test_shared::Tally;
-ghost use Prim.Native.Nat.{_≤_};
-ghost use lib.ListN.{length};
+ghost use Rattle.kit.specs.Names.{_≤_, length};
 
 // The records of the file that the argument at a place names.
 fn compare(place: usize, input: &[u8], out: &mut [u8]) -> Tally

@@ -1,14 +1,6 @@
 -- Bytes are the same exactly where the lists are equal; and how a comparison from the front goes on.
-use mathlib.Core.Path.{_≡_, refl, ap, ap₂, sym, _∙_}
-use mathlib.Core.Bool.{Bool, true, false, _&&_, false≢true}
-use mathlib.Core.List.{List, [], _∷_}
-use Prim.Native.Nat.{ℕ, suc, _+_, _<_, _≤_}
-use native.Mathlib.Numerals.{add-one}
-use native.Mathlib.Omega.{arith}
-use borrow.Author.Tests.{eqb-true, eq-eqb, ne-eqb}
-use lib.Dec.{eqb}
-use lib.ListN.{length, getD, drop}
-use lib.Seq.{drop-cons, drop-length}
+use Rattle.kit.specs.Names.{_≡_, refl, ap, ap₂, sym, _∙_, Bool, true, false, _&&_, false≢true, List, [], _∷_, ℕ, suc, _+_, _<_, _≤_, arith}
+use Rattle.kit.specs.Names.{add-one, eqb, length, getD, drop, drop-cons, drop-length, eqb-true, eq-eqb, ne-eqb}
 use Rattle.theory_laws.proofs.TruthValues.{and-parts, and-both}
 use Rattle.test_shared.specs.Bytes.{sameBytes}
 

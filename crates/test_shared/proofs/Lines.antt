@@ -1,8 +1,5 @@
 -- The line fits its room.
-use mathlib.Core.List.{List, _++_}
-use Prim.Native.Nat.{ℕ, _+_, _≤_}
-use native.Mathlib.Omega.{arith}
-use lib.ListN.{length, length-append}
+use Rattle.kit.specs.Names.{List, _++_, ℕ, _+_, _≤_, arith, length, length-append}
 use Rattle.definitions.specs.Report.{decimal}
 use Rattle.report_text.proofs.Digits.{digits-length}
 use Rattle.test_shared.specs.Lines.{tallyLine}

@@ -1,10 +1,5 @@
 -- A part that is not all there, one that ends before it starts, and any other.
-use mathlib.Core.Path.{_≡_, ap, sym, _∙_}
-use mathlib.Core.List.{List, []}
-use Prim.Native.Nat.{ℕ, _-_, _<_, _≤_}
-use native.Mathlib.Omega.{arith}
-use borrow.Author.Tests.{le-leb, lt-leb}
-use lib.ListN.{length, take, drop}
+use Rattle.kit.specs.Names.{_≡_, ap, sym, _∙_, List, [], ℕ, _-_, _<_, _≤_, arith, length, take, drop, le-leb, lt-leb}
 use Rattle.rehearse_scripts.specs.Scripts.{part}
 use Rattle.test_shared.specs.Parts.{partIn}
 

@@ -1,8 +1,5 @@
 -- Whether two lists of bytes are the same.
-use mathlib.Core.Bool.{Bool, true, false, _&&_}
-use mathlib.Core.List.{List, [], _∷_}
-use Prim.Native.Nat.{ℕ}
-use lib.Dec.{eqb}
+use Rattle.kit.specs.Names.{Bool, true, false, _&&_, List, [], _∷_, ℕ, eqb}
 
 -- As many bytes on both sides, and each equal to the one at its place.
 unfoldable pub sameBytes : List ℕ → List ℕ → Bool

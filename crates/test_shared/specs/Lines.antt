@@ -1,6 +1,5 @@
 -- The line that says how many records there were, and how many of them are wrong.
-use mathlib.Core.List.{List, _++_}
-use Prim.Native.Nat.{ℕ}
+use Rattle.kit.specs.Names.{List, _++_, ℕ}
 use Rattle.definitions.specs.Report.{decimal}
 
 -- The count and what is counted, then how many of them are wrong and how.

@@ -1,9 +1,5 @@
 -- Parts of recorded bytes.
-use mathlib.Core.Bool.{cond}
-use mathlib.Core.List.{List, []}
-use Prim.Native.Nat.{ℕ}
-use lib.Dec.{leb}
-use lib.ListN.{length}
+use Rattle.kit.specs.Names.{cond, List, [], ℕ, leb, length}
 use Rattle.rehearse_scripts.specs.Scripts.{part}
 
 -- The bytes from one place up to another; none where they are not all there.

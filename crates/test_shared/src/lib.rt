@@ -2,10 +2,7 @@
 use memory_append::append;
 use program_input::Input;
 use report_text::append_digits;
-ghost use mathlib.Core.Path.{_≡_};
-ghost use Prim.Native.Nat.{_+_, _≤_};
-ghost use mathlib.Core.List.{_++_};
-ghost use lib.ListN.{length};
+ghost use Rattle.kit.specs.Names.{_≡_, _++_, _+_, _≤_, length};
 ghost use Rattle.definitions.specs.Report.{decimal};
 ghost use Rattle.io.specs.Counts.{Counts};
 ghost use Rattle.memory_append.specs.Append.{Appended};

@@ -1,10 +1,5 @@
 -- "0 means accepted": of an accepted file no sentence holds.
-use mathlib.Core.Path.{_≡_, refl}
-use mathlib.Core.Bool.{Bool, true, false}
-use mathlib.Core.List.{List, [], _∷_}
-use Prim.Native.Nat.{ℕ, zero, suc}
-use native.Mathlib.Omega.{arith}
-use lib.ListN.{getD}
+use Rattle.kit.specs.Names.{_≡_, refl, Bool, true, false, List, [], _∷_, ℕ, zero, suc, arith, getD}
 use Rattle.definitions.specs.Basics.{firstThatHolds}
 use Rattle.definitions.specs.Numbers.{checkNumber}
 use Rattle.theory_accepted.specs.Settled.{sentences, Settled}

@@ -1,8 +1,5 @@
 -- The sentences of a check by their places, and a contract file that numbers 1 to 7 let pass.
-use mathlib.Core.Path.{_≡_}
-use mathlib.Core.Bool.{Bool, false}
-use mathlib.Core.List.{List, _∷_}
-use Prim.Native.Nat.{ℕ}
+use Rattle.kit.specs.Names.{_≡_, Bool, false, List, _∷_, ℕ}
 use Rattle.definitions.specs.ContractFile.{sectionsOf, contractOf}
 use Rattle.definitions.specs.Numbers.{endsWrongly, countOffLimits, outsideTables, namesNothing, usedOtherThanOnce, tooDeep, wrongSort}
 use Rattle.definitions.specs.Numbers.{contractSentences}

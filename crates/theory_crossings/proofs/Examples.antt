@@ -1,9 +1,6 @@
 -- The law cited at a written contract with a guard among its variables; and what its hypothesis rules out: a count that two bytes don't hold.
-use mathlib.Core.Path.{_≡_, refl, ap, ap₂}
-use mathlib.Core.List.{List, [], _∷_, map}
-use Prim.Native.Nat.{ℕ, zero, suc, _+_, _*_, _%_, _/_}
-use native.Mathlib.Omega.{arith}
-use lib.ListN.{length, replicate, length-replicate}
+use Rattle.kit.specs.Names.{_≡_, refl, ap, ap₂, List, [], _∷_, map, ℕ, zero, suc, _+_, _*_, _%_, _/_, arith, length, replicate}
+use Rattle.kit.specs.Names.{length-replicate}
 use Rattle.definitions.specs.Basics.{countIf, flatMap}
 use Rattle.definitions.specs.ContractFile.{Expression, everyone, ownedBy, meName}
 use Rattle.definitions.specs.Rewriting.{Variable, supplied, guard, readFrom, Command, WrittenContract, sizes, size, commandTree}

@@ -1,11 +1,6 @@
 -- 02, Note 2: the origins in the written file, byte by byte, are those of the variables that rewriting makes, and so are their counts.
-use mathlib.Core.Path.{_≡_, refl, ap, ap₂, _∙_}
-use mathlib.Core.Bool.{Bool, true, false, cond}
-use mathlib.Core.List.{List, [], _∷_, _++_, map, append-assoc}
-use Prim.Native.Nat.{ℕ, _+_, _*_, _-_, _≤_}
-use native.Mathlib.Omega.{arith}
-use lib.Dec.{leb}
-use lib.ListN.{length, length-append}
+use Rattle.kit.specs.Names.{_≡_, refl, ap, ap₂, _∙_, Bool, true, false, cond, List, [], _∷_, _++_, map, append-assoc, ℕ, _+_, _*_, _-_, _≤_}
+use Rattle.kit.specs.Names.{arith, leb, length, length-append}
 use Rattle.definitions.specs.Basics.{countIf, flatMap, twoBytes}
 use Rattle.definitions.specs.ContractFile.{Field, Parameter, byteAt, twoBytesAt, functionsAt}
 use Rattle.definitions.specs.Rewriting.{Variable, origin, Claim, equals, opensForCaller, Constraint, WrittenFunction, WrittenContract}

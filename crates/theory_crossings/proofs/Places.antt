@@ -1,10 +1,6 @@
 -- What is read at a place of a file, where the bytes from there on are known.
-use mathlib.Core.Path.{_≡_, refl, ap, ap₂, sym, _∙_}
-use mathlib.Core.List.{List, [], _∷_, _++_}
-use Prim.Native.Nat.{ℕ, _+_, _*_, _%_, _/_, _≤_}
-use native.Mathlib.Omega.{arith}
-use lib.ListN.{length, getD, drop}
-use lib.Seq.{getD-drop, drop-drop, drop-at}
+use Rattle.kit.specs.Names.{_≡_, refl, ap, ap₂, sym, _∙_, List, [], _∷_, _++_, ℕ, _+_, _*_, _%_, _/_, _≤_, arith, length, getD, drop}
+use Rattle.kit.specs.Names.{getD-drop, drop-drop, drop-at}
 use Rattle.definitions.specs.Basics.{twoBytes}
 use Rattle.definitions.specs.ContractFile.{byteAt, twoBytesAt}
 

@@ -1,8 +1,5 @@
 -- 02, Note 3: the count over a whole written file is the sum of its functions' counts.
-use mathlib.Core.Path.{_≡_, refl, ap, _∙_}
-use mathlib.Core.List.{List, [], _∷_, map}
-use Prim.Native.Nat.{ℕ, _+_}
-use lib.Dec.{leb}
+use Rattle.kit.specs.Names.{_≡_, refl, ap, _∙_, List, [], _∷_, map, ℕ, _+_, leb}
 use Rattle.definitions.specs.Basics.{countIf, flatMap}
 use Rattle.definitions.specs.Crossings.{upToThree, originsIn, crossingsIn, totalIn}
 use Rattle.theory_laws.proofs.Lists.{count-append}

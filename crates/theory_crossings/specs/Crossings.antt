@@ -1,7 +1,5 @@
 -- 02, Note 2: a function's crossings where they come from, among the variables that rewriting makes. Note 3: the sum of counts.
-use mathlib.Core.List.{List, [], _∷_}
-use Prim.Native.Nat.{ℕ, _+_}
-use lib.Dec.{leb}
+use Rattle.kit.specs.Names.{List, [], _∷_, ℕ, _+_, leb}
 use Rattle.definitions.specs.Basics.{countIf}
 use Rattle.definitions.specs.Rewriting.{origin, WrittenFunction}
 

@@ -1,10 +1,5 @@
 -- Two taken calls that are alike for a party, on ledgers that it cannot tell apart, and that disclose the same to it, leave two such ledgers.
-use mathlib.Core.Path.{_≡_, refl, ap, sym, _∙_, subst, fun-ext}
-use mathlib.Core.Bool.{Bool, true, false, _||_, cond, not}
-use mathlib.Core.List.{List}
-use Prim.Native.Nat.{ℕ, suc}
-use lib.Dec.{eqb}
-use lib.ListN.{length, getD}
+use Rattle.kit.specs.Names.{_≡_, refl, ap, sym, _∙_, subst, fun-ext, Bool, true, false, _||_, cond, not, List, ℕ, suc, eqb, length, getD}
 use Rattle.definitions.specs.ContractFile.{Name, meName, finalName, parameterName, Parameter, Scope, fieldAt, parameterAt, isFinal, contractIn}
 use Rattle.definitions.specs.Owners.{parameterOwner}
 use Rattle.definitions.specs.Original.{position, finalAddress, Reader, anyone, mayRead, readerOf, completes, disclosedBy}

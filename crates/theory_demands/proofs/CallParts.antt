@@ -1,7 +1,5 @@
 -- The parts of a call with given parameters and supplied values, each by a name of its own: `callWith` is `afterDone` where `isDone`, else `afterFailed`.
-use mathlib.Core.Bool.{Bool}
-use mathlib.Core.List.{List, [], map}
-use Prim.Native.Nat.{ℕ}
+use Rattle.kit.specs.Names.{Bool, List, [], map, ℕ}
 use Rattle.definitions.specs.ContractFile.{Name, scopeOf, contractIn}
 use Rattle.definitions.specs.Rewriting.{WrittenFunction, rewriteFunction}
 use Rattle.definitions.specs.Original.{addressIn}

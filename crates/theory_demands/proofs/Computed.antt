@@ -1,10 +1,5 @@
 -- What the definitions compute of the example's calls, with one list of names to unfold.
-use mathlib.Core.Path.{_≡_, refl, ap}
-use mathlib.Core.Bool.{true, false, _||_, not, false≢true}
-use mathlib.Core.List.{List, [], _∷_, zipWith}
-use Prim.Native.Nat.{ℕ, zero, suc}
-use lib.Dec.{eqb, ltb}
-use lib.ListN.{length, getD}
+use Rattle.kit.specs.Names.{_≡_, refl, ap, true, false, _||_, not, false≢true, List, [], _∷_, zipWith, ℕ, zero, suc, eqb, ltb, length, getD}
 use Rattle.definitions.specs.ContractFile.{everyone, Contract, parameterAt, functionAt, fieldOf, parameterOf, typeOf, kindOf}
 use Rattle.definitions.specs.ContractFile.{nodeOfKind, expressionParts, statementParts, fieldsNamed, chainLength, expressionOf}
 use Rattle.definitions.specs.ContractFile.{expressionAt, statementOf, statementAt, contractOf, sameName, contractIn}

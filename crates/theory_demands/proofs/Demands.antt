@@ -1,9 +1,5 @@
 -- The theorems, in the words of the demands: for every accepted deployment and every list of calls from it.
-use mathlib.Core.Path.{_≡_, refl}
-use mathlib.Core.Bool.{true}
-use mathlib.Core.List.{List}
-use Prim.Native.Nat.{ℕ, suc}
-use lib.ListN.{take}
+use Rattle.kit.specs.Names.{_≡_, refl, true, List, ℕ, suc, take}
 use Rattle.definitions.specs.Ledger.{deployNumber, isWellFormed, deployed}
 use Rattle.definitions.specs.View.{Request, Run, runAtDeployment, isTaken, viewsAfter, disclosures, disclosedIn, disclosedOn, Paired}
 use Rattle.theory_demands.specs.Claims.{runAfterAll, PlacesStand, CallFaithful, SerialsUpTo, MadeSerials}

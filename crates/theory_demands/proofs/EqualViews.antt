@@ -1,10 +1,5 @@
 -- Demand 3, by induction over two lists of calls.
-use mathlib.Core.Path.{_≡_, ap, ap₂, sym, _∙_, subst}
-use mathlib.Core.Bool.{true, _||_, cond, not}
-use mathlib.Core.List.{List, [], _∷_}
-use Prim.Native.Nat.{ℕ, zero, suc}
-use lib.Dec.{eqb}
-use lib.ListN.{getD, take}
+use Rattle.kit.specs.Names.{_≡_, ap, ap₂, sym, _∙_, subst, true, _||_, cond, not, List, [], _∷_, ℕ, zero, suc, eqb, getD, take}
 use Rattle.definitions.specs.ContractFile.{parameterAt, contractIn}
 use Rattle.definitions.specs.Original.{originalDiscloses}
 use Rattle.definitions.specs.Ledger.{Ledger, functionOfLedger, callNumber, ledgerAfterCall}

@@ -1,10 +1,6 @@
 -- The theorems cited at the example's calls, each for something that is seen there: a theorem that says less does not give it.
-use mathlib.Core.Path.{_≡_, ap, sym, _∙_, subst}
-use mathlib.Core.Bool.{true, false, _||_, cond, not, false≢true}
-use mathlib.Core.List.{List, [], _∷_}
-use Prim.Native.Nat.{ℕ, suc, _≤_}
-use native.Mathlib.Omega.{arith}
-use lib.ListN.{getD, take}
+use Rattle.kit.specs.Names.{_≡_, ap, sym, _∙_, subst, true, false, _||_, cond, not, false≢true, List, [], _∷_, ℕ, suc, _≤_, arith, getD}
+use Rattle.kit.specs.Names.{take}
 use Rattle.definitions.specs.Basics.{all, firstThatHolds}
 use Rattle.definitions.specs.Original.{Reader, anyone, only}
 use Rattle.definitions.specs.Rewriting.{Constraint}

@@ -1,9 +1,5 @@
 -- Demand 2, second half, and the ledger's own test, over whole lists of calls.
-use mathlib.Core.Path.{_≡_, refl, ap, sym, _∙_, subst}
-use mathlib.Core.Bool.{Bool, true, false, cond, false≢true}
-use mathlib.Core.List.{List, [], _∷_, map}
-use Prim.Native.Nat.{ℕ}
-use borrow.Author.Tests.{eqb-true}
+use Rattle.kit.specs.Names.{_≡_, refl, ap, sym, _∙_, subst, Bool, true, false, cond, false≢true, List, [], _∷_, map, ℕ, eqb-true}
 use Rattle.definitions.specs.Basics.{all, isZero}
 use Rattle.definitions.specs.ContractFile.{contractIn}
 use Rattle.definitions.specs.Original.{placeReaders, originalCompletes, originalAfter}

@@ -1,8 +1,5 @@
 -- A taken call: what the ledger is after it, in terms of the original alone.
-use mathlib.Core.Path.{_≡_, refl, ap, _∙_}
-use mathlib.Core.Bool.{Bool, cond}
-use mathlib.Core.List.{List, map}
-use Prim.Native.Nat.{ℕ, suc}
+use Rattle.kit.specs.Names.{_≡_, refl, ap, _∙_, Bool, cond, List, map, ℕ, suc}
 use Rattle.definitions.specs.Basics.{isZero}
 use Rattle.definitions.specs.ContractFile.{Name, Statement, Scope, scopeOf, contractIn}
 use Rattle.definitions.specs.Original.{completes, placesAfter}

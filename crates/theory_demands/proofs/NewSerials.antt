@@ -1,8 +1,5 @@
 -- From deployment on, the cells of a ledger have serials of calls up to its last, so the next call's serials are new.
-use mathlib.Core.Bool.{Bool, true, false, cond}
-use mathlib.Core.List.{List, [], _∷_, zipWith}
-use Prim.Native.Nat.{ℕ, suc}
-use native.Mathlib.Omega.{arith}
+use Rattle.kit.specs.Names.{Bool, true, false, cond, List, [], _∷_, zipWith, ℕ, suc, arith}
 use Rattle.definitions.specs.Basics.{isZero}
 use Rattle.definitions.specs.ContractFile.{contractIn}
 use Rattle.definitions.specs.Original.{Reader, anyone, only}

@@ -1,10 +1,5 @@
 -- The parameters of an honest call have the forms that a ledger's own test asks, all of them or the public ones alone.
-use mathlib.Core.Path.{_≡_, refl}
-use mathlib.Core.Bool.{Bool, true, false, cond}
-use mathlib.Core.List.{List, [], _∷_, map}
-use Prim.Native.Nat.{ℕ, suc}
-use native.Mathlib.Omega.{arith}
-use lib.ListN.{length, getD}
+use Rattle.kit.specs.Names.{_≡_, refl, Bool, true, false, cond, List, [], _∷_, map, ℕ, suc, arith, length, getD}
 use Rattle.definitions.specs.ContractFile.{Parameter, parameterAt, isOfType}
 use Rattle.definitions.specs.Original.{anyone, only}
 use Rattle.definitions.specs.Ledger.{Content, contentFor, Form, fits, allFit, parameterForm, publicOf, honestParameters}

@@ -1,9 +1,5 @@
 -- A call makes cells with its own serials, and the walk makes none: it copies.
-use mathlib.Core.Path.{refl}
-use mathlib.Core.Bool.{Bool, true, false, cond}
-use mathlib.Core.List.{List, [], _∷_, _++_}
-use Prim.Native.Nat.{ℕ, zero, suc, _+_}
-use lib.ListN.{length, set, replicate}
+use Rattle.kit.specs.Names.{refl, Bool, true, false, cond, List, [], _∷_, _++_, ℕ, zero, suc, _+_, length, set, replicate}
 use Rattle.definitions.specs.Basics.{isTrue}
 use Rattle.definitions.specs.ContractFile.{Name, Statement, Field, Parameter, Scope}
 use Rattle.definitions.specs.Owners.{ownerOf}

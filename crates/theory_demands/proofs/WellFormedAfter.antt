@@ -1,12 +1,6 @@
 -- The ledger that a taken call returns passes the ledger's own test again.
-use mathlib.Core.Path.{_≡_, refl, ap, sym, _∙_, subst, fun-ext}
-use mathlib.Core.Bool.{Bool, true, false, _&&_, _||_, cond}
-use mathlib.Core.List.{List, map}
-use Prim.Native.Nat.{ℕ, suc, _<_, _≤_}
-use native.Mathlib.Omega.{arith}
-use borrow.Author.Tests.{lt-ltb, le-leb}
-use lib.Dec.{leb, ltb}
-use lib.ListN.{length}
+use Rattle.kit.specs.Names.{_≡_, refl, ap, sym, _∙_, subst, fun-ext, Bool, true, false, _&&_, _||_, cond, List, map, ℕ, suc, _<_, _≤_}
+use Rattle.kit.specs.Names.{arith, leb, ltb, length, lt-ltb, le-leb}
 use Rattle.definitions.specs.Basics.{isZero}
 use Rattle.definitions.specs.ContractFile.{Name, meName, finalName, parameterName, Field, fieldAt, isFinal, contractIn}
 use Rattle.definitions.specs.Numbers.{checkNumber}

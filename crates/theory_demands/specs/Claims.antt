@@ -1,8 +1,5 @@
 -- What the theorems claim of a run: that its ledger stands for the original, and that a call's cells have new serials.
-use mathlib.Core.Path.{_≡_}
-use mathlib.Core.Bool.{true, cond}
-use mathlib.Core.List.{List, [], _∷_}
-use Prim.Native.Nat.{ℕ, suc, _≤_}
+use Rattle.kit.specs.Names.{_≡_, true, cond, List, [], _∷_, ℕ, suc, _≤_}
 use Rattle.definitions.specs.Basics.{all}
 use Rattle.definitions.specs.ContractFile.{contractIn}
 use Rattle.definitions.specs.Original.{placeReaders, originalCompletes}

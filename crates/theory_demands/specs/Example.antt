@@ -1,7 +1,5 @@
 -- The contract and the calls at which the theorems are cited: one call is done, one is refused, one discloses, one fails.
-use mathlib.Core.List.{List, [], _∷_}
-use Prim.Native.Nat.{ℕ}
-use lib.ListN.{take}
+use Rattle.kit.specs.Names.{List, [], _∷_, ℕ, take}
 use Rattle.definitions.specs.Ledger.{Ledger}
 use Rattle.definitions.specs.View.{Request, Run, runAtDeployment, runAfter}
 use Rattle.theory_demands.specs.Claims.{runAfterAll}

@@ -1,9 +1,5 @@
 -- What the example of theory_demands gives the theorems on the entries: its answers, paired for address 4 with different secrets.
-use mathlib.Core.Path.{_≡_, refl, ap, sym, _∙_}
-use mathlib.Core.Bool.{false≢true}
-use mathlib.Core.List.{List, [], _∷_}
-use Prim.Native.Nat.{ℕ}
-use lib.ListN.{take}
+use Rattle.kit.specs.Names.{_≡_, refl, ap, sym, _∙_, false≢true, List, [], _∷_, ℕ, take}
 use Rattle.definitions.specs.Basics.{isZero}
 use Rattle.definitions.specs.ContractFile.{contractIn}
 use Rattle.theory_demands.specs.Example.{tagged, pay, show, calls, start}

@@ -1,9 +1,5 @@
 -- The demands, of the running entries: for every trace of answers that the contracts of `deploy`, `call` and `view` allow.
-use mathlib.Core.Path.{_≡_, refl, ap, sym, _∙_, subst}
-use mathlib.Core.Bool.{true, cond}
-use mathlib.Core.List.{List, [], _∷_, zipWith}
-use Prim.Native.Nat.{ℕ, zero, suc}
-use lib.ListN.{getD, take}
+use Rattle.kit.specs.Names.{_≡_, refl, ap, sym, _∙_, subst, true, cond, List, [], _∷_, zipWith, ℕ, zero, suc, getD, take}
 use Rattle.definitions.specs.ContractFile.{contractIn}
 use Rattle.definitions.specs.Original.{originalCompletes}
 use Rattle.definitions.specs.View.{Request, Run, runAtDeployment, viewsAfter, disclosures, disclosedOn}

@@ -1,10 +1,5 @@
 -- The theorems on the entries cited at the example's calls, for whatever the entries answer there.
-use mathlib.Core.Path.{_≡_, ap, sym, _∙_, subst}
-use mathlib.Core.Bool.{true, cond}
-use mathlib.Core.List.{List, [], _∷_}
-use Prim.Native.Nat.{ℕ, _<_}
-use native.Mathlib.Omega.{arith}
-use lib.ListN.{length, getD, take}
+use Rattle.kit.specs.Names.{_≡_, ap, sym, _∙_, subst, true, cond, List, [], _∷_, ℕ, _<_, arith, length, getD, take}
 use Rattle.definitions.specs.ContractFile.{contractIn}
 use Rattle.definitions.specs.Original.{Reader, anyone, only, placeReaders, originalCompletes}
 use Rattle.definitions.specs.Ledger.{Content, contentAt, openedNumber, isContentOf}

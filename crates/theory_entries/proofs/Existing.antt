@@ -1,8 +1,5 @@
 -- There is a trace for every accepted deployment and every list of calls: the theorems on the entries are not empty.
-use mathlib.Core.Path.{_≡_, refl, ap, sym}
-use mathlib.Core.List.{List, [], _∷_}
-use Prim.Native.Nat.{ℕ, suc}
-use lib.ListN.{length, replicate}
+use Rattle.kit.specs.Names.{_≡_, refl, ap, sym, List, [], _∷_, ℕ, suc, length, replicate}
 use Rattle.definitions.specs.Ledger.{deployNumber, deployed, callNumber}
 use Rattle.definitions.specs.View.{viewNumber, viewLength, outputAfterView, Request}
 use Rattle.ledger_struct.specs.declared.Ledger as code

@@ -1,10 +1,6 @@
 -- A trace of the entries follows the run of the definitions, call by call: its numbers, its structs, and what its looks show.
-use mathlib.Core.Path.{_≡_, refl, ap, ap₂, sym, _∙_}
-use mathlib.Core.Bool.{Bool, true, _||_, cond, not, false≢true}
-use mathlib.Core.List.{List, [], _∷_, _++_, zipWith}
-use Prim.Native.Nat.{ℕ, zero, suc}
-use lib.Dec.{eqb, ltb}
-use lib.ListN.{length, take, drop, getD}
+use Rattle.kit.specs.Names.{_≡_, refl, ap, ap₂, sym, _∙_, Bool, true, _||_, cond, not, false≢true, List, [], _∷_, _++_, zipWith, ℕ, zero}
+use Rattle.kit.specs.Names.{suc, eqb, ltb, length, take, drop, getD}
 use Rattle.definitions.specs.Basics.{isZero, firstThatHolds}
 use Rattle.definitions.specs.ContractFile.{contractIn}
 use Rattle.definitions.specs.Original.{deployedNumbers, originalAfter}

@@ -1,9 +1,5 @@
 -- Two lists of calls that are paired by the numbers that `call` answered are paired by document 01's numbers.
-use mathlib.Core.Path.{_≡_, ap, sym, _∙_, subst}
-use mathlib.Core.Bool.{false}
-use mathlib.Core.List.{List, _∷_}
-use Prim.Native.Nat.{ℕ}
-use borrow.Author.Tests.{ne-eqb}
+use Rattle.kit.specs.Names.{_≡_, ap, sym, _∙_, subst, false, List, _∷_, ℕ, ne-eqb}
 use Rattle.definitions.specs.Basics.{isZero}
 use Rattle.definitions.specs.ContractFile.{contractIn}
 use Rattle.definitions.specs.View.{Request, Run, isTaken, runAfter, AlikeFor, Paired}

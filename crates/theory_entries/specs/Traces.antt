@@ -1,10 +1,6 @@
 -- 01, Runs and views, and demands 2 and 3: what the entries `deploy`, `call` and `view` may answer one after the other, by their contracts;
 -- what is read off such a trace; and when two traces are paired for a party.
-use mathlib.Core.Path.{_≡_}
-use mathlib.Core.Bool.{cond}
-use mathlib.Core.List.{List, [], _∷_}
-use Prim.Native.Nat.{ℕ, zero, suc, _<_}
-use lib.ListN.{length, getD, take}
+use Rattle.kit.specs.Names.{_≡_, cond, List, [], _∷_, ℕ, zero, suc, _<_, length, getD, take}
 use Rattle.definitions.specs.Basics.{isZero}
 use Rattle.definitions.specs.ContractFile.{Contract, contractIn}
 use Rattle.definitions.specs.Original.{anyone, placeReaders, deployedNumbers, originalAfter}

@@ -1,10 +1,5 @@
 -- Types, shapes, operators and owners by their codes.
-use mathlib.Core.Path.{_≡_, refl}
-use mathlib.Core.Bool.{Bool, true, false, cond, false≢true}
-use Prim.Native.Nat.{ℕ, zero, suc, _<_, _≤_}
-use lib.Dec.{eqb}
-use borrow.Author.Tests.{ltb-true, ne-eqb}
-use native.Mathlib.Omega.{arith}
+use Rattle.kit.specs.Names.{_≡_, refl, Bool, true, false, cond, false≢true, ℕ, zero, suc, _<_, _≤_, arith, eqb, ltb-true, ne-eqb}
 use Rattle.definitions.specs.ContractFile.{DataType, boolean, uint, address, plainField, mapping, Owner, everyone, ownedBy, dataTypeCode, isFinal, isEveryone, isDivision, dataTypeOf, shapeOf, operatorOf, isOfType}
 
 pub type-code : (code : ℕ) → code ≤ 2 → dataTypeCode (dataTypeOf code) ≡ code

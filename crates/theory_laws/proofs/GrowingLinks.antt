@@ -1,7 +1,5 @@
 -- Links grow along a statement, and more links before it give more behind it.
-use mathlib.Core.Path.{_≡_, refl}
-use mathlib.Core.Bool.{Bool, true, false, _&&_, _||_, cond, false≢true}
-use mathlib.Core.Option.{Option, none, some}
+use Rattle.kit.specs.Names.{_≡_, refl, Bool, true, false, _&&_, _||_, cond, false≢true, Option, none, some}
 use Rattle.definitions.specs.ContractFile.{Name, equal, conjunction, Expression, constant, me, field, entry, parameter, operator, negation}
 use Rattle.definitions.specs.ContractFile.{reveal, Statement, skip, sequence, assignField, assignEntry, require, conditional, Scope, isOperator}
 use Rattle.definitions.specs.Owners.{Links, withLink, withLinkOf, linkedInBoth, nameOf, linksOfCondition, linksAfter}

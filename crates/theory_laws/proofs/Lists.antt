@@ -1,11 +1,6 @@
 -- The lists' functions on lists one behind another, and a list's entries by number.
-use mathlib.Core.Path.{_≡_, refl, ap, sym, _∙_}
-use mathlib.Core.Bool.{Bool, false, true, cond, _||_}
-use mathlib.Core.List.{List, [], _∷_, _++_, map, append-assoc}
-use Prim.Native.Nat.{ℕ, zero, suc, _+_, _<_, _≤_}
-use lib.ListN.{length, replicate, getD, drop, length-append}
-use lib.Seq.{drop-cons}
-use native.Mathlib.Omega.{arith}
+use Rattle.kit.specs.Names.{_≡_, refl, ap, sym, _∙_, Bool, false, true, cond, _||_, List, [], _∷_, _++_, map, append-assoc, ℕ, zero, suc}
+use Rattle.kit.specs.Names.{_+_, _<_, _≤_, arith, length, replicate, getD, drop, length-append, drop-cons}
 use Rattle.definitions.specs.Basics.{any, anyNumbered, countIf, flatMap}
 use Rattle.definitions.specs.Original.{numbersFrom}
 use Rattle.theory_laws.proofs.TruthValues.{or-left, or-right}

@@ -1,9 +1,5 @@
 -- The records of a file's sections: as many as counted, and a field's by its number.
-use mathlib.Core.Path.{_≡_, refl, ap, sym, _∙_}
-use mathlib.Core.List.{List}
-use Prim.Native.Nat.{ℕ, zero, suc, _+_, _*_, _<_}
-use lib.ListN.{length, getD}
-use native.Mathlib.Omega.{arith}
+use Rattle.kit.specs.Names.{_≡_, refl, ap, sym, _∙_, List, ℕ, zero, suc, _+_, _*_, _<_, arith, length, getD}
 use Rattle.definitions.specs.Basics.{force}
 use Rattle.definitions.specs.ContractFile.{FieldRecord, NodeRecord, byteAt, functionEnd, fieldRecords, parameterRecords, functionRecords, nodeRecords}
 use Rattle.definitions.specs.Reading.{fieldsRead, parametersRead, functionsRead, nodesRead}

@@ -1,11 +1,5 @@
 -- A length that is handed out where no sentence holds, the last being that the room is too short, stays inside the room.
-use mathlib.Core.Path.{_≡_, refl}
-use mathlib.Core.Bool.{Bool, true, false, cond}
-use mathlib.Core.List.{[], _∷_}
-use Prim.Native.Nat.{ℕ, zero, suc, _≤_}
-use native.Mathlib.Omega.{arith}
-use borrow.Author.Tests.{ltb-false, ne-eqb}
-use lib.Dec.{eqb, ltb}
+use Rattle.kit.specs.Names.{_≡_, refl, Bool, true, false, cond, [], _∷_, ℕ, zero, suc, _≤_, arith, eqb, ltb, ltb-false, ne-eqb}
 use Rattle.definitions.specs.Basics.{firstThatHolds}
 use Rattle.definitions.specs.Numbers.{orElse}
 

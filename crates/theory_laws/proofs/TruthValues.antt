@@ -1,7 +1,5 @@
 -- What "and", "or" and "not" tell of their parts, and the first of two numbers that refuses.
-use mathlib.Core.Path.{_≡_, refl, sym}
-use mathlib.Core.Bool.{Bool, true, false, _&&_, _||_, not, true≢false, false≢true}
-use Prim.Native.Nat.{ℕ, zero, suc}
+use Rattle.kit.specs.Names.{_≡_, refl, sym, Bool, true, false, _&&_, _||_, not, true≢false, false≢true, ℕ, zero, suc}
 use Rattle.definitions.specs.Numbers.{orElse}
 
 pub and-left : (a b : Bool) → (a && b) ≡ true → a ≡ true

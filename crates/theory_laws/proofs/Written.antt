@@ -1,9 +1,5 @@
 -- How much rewriting makes: variables and claims of openings, nodes of trees, bytes of nodes.
-use mathlib.Core.Path.{_≡_, refl, ap}
-use mathlib.Core.List.{List, [], _∷_, _++_}
-use Prim.Native.Nat.{ℕ, suc, _+_, _*_}
-use lib.ListN.{length, length-append}
-use native.Mathlib.Omega.{arith}
+use Rattle.kit.specs.Names.{_≡_, refl, ap, List, [], _∷_, _++_, ℕ, suc, _+_, _*_, arith, length, length-append}
 use Rattle.definitions.specs.Basics.{flatMap}
 use Rattle.definitions.specs.ContractFile.{NodeRecord}
 use Rattle.definitions.specs.Rewriting.{always, heldUnder, openings, Tree, leaf, oneChild, twoChildren, threeChildren, setting, size, sizes, numbered, numberedAll, nodeBytes}

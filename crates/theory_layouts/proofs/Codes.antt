@@ -1,10 +1,6 @@
 -- An owner code of document 01's tables is written in two bytes, and reads as itself again.
-use mathlib.Core.Path.{_≡_, refl}
-use mathlib.Core.Bool.{Bool, true, false, _||_, _&&_}
-use Prim.Native.Nat.{ℕ, _+_, _-_, _<_, _≤_}
-use native.Mathlib.Omega.{arith}
-use borrow.Author.Tests.{leb-true, ltb-true, eqb-true, le-leb, lt-leb, lt-ltb, le-ltb}
-use lib.Dec.{eqb, leb}
+use Rattle.kit.specs.Names.{_≡_, refl, Bool, true, false, _||_, _&&_, ℕ, _+_, _-_, _<_, _≤_, arith, eqb, leb, leb-true, ltb-true, eqb-true}
+use Rattle.kit.specs.Names.{le-leb, lt-leb, lt-ltb, le-ltb}
 use Rattle.definitions.specs.Basics.{isZero}
 use Rattle.definitions.specs.ContractFile.{FieldRecord, ParameterRecord, isFinalCode, isParameterCode}
 use Rattle.definitions.specs.Numbers.{fieldInTables, parameterInTables, targetInTables}

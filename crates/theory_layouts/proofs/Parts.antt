@@ -1,12 +1,6 @@
 -- Fields, parameters, functions and nodes that are laid out wide read as themselves again.
-use mathlib.Core.Path.{_≡_, refl, ap, _∙_, sym}
-use mathlib.Core.Bool.{Bool, true, false, cond, not}
-use mathlib.Core.List.{List, [], _∷_, _++_}
-use Prim.Native.Nat.{ℕ, suc, _+_, _*_, _-_, _≤_}
-use native.Mathlib.Omega.{arith}
-use borrow.Author.Tests.{eqb-true, not-false}
-use lib.Dec.{eqb}
-use lib.ListN.{length}
+use Rattle.kit.specs.Names.{_≡_, refl, ap, _∙_, sym, Bool, true, false, cond, not, List, [], _∷_, _++_, ℕ, suc, _+_, _*_, _-_, _≤_, arith}
+use Rattle.kit.specs.Names.{eqb, length, eqb-true, not-false}
 use Rattle.definitions.specs.Basics.{any, twoBytes}
 use Rattle.definitions.specs.Reading.{twoBytesAt, FieldRecord, ParameterRecord, FunctionRecord, NodeRecord, functionPassed, functionsPassed, fieldsRead, parametersRead, functionsRead, nodesRead}
 use Rattle.definitions.specs.ContractFile.{kindOf}

@@ -1,10 +1,5 @@
 -- 02, Note 9: a file that number 3 lets pass and its widened copy have the same sections, so all that stands behind reading says the same of both.
-use mathlib.Core.Path.{_≡_, refl, ap, _∙_}
-use mathlib.Core.Bool.{false, _||_, not}
-use mathlib.Core.List.{List, [], _∷_, _++_}
-use Prim.Native.Nat.{ℕ, zero, suc, _+_, _*_, _<_, _≤_}
-use native.Mathlib.Omega.{arith}
-use lib.ListN.{length}
+use Rattle.kit.specs.Names.{_≡_, refl, ap, _∙_, false, _||_, not, List, [], _∷_, _++_, ℕ, zero, suc, _+_, _*_, _<_, _≤_, arith, length}
 use Rattle.definitions.specs.Basics.{any, twoBytes}
 use Rattle.definitions.specs.Reading.{byteAt, twoBytesAt, Sections, narrow, fieldsCounted, functionsBegin, functionsCounted, functionPassed, functionsPassed, nodesBegin, nodesCounted, fieldsRead, functionsRead, nodesRead, sectionsRead}
 use Rattle.definitions.specs.Numbers.{fieldInTables, parameterInTables, outsideTables}

@@ -1,6 +1,5 @@
 -- Numbers of two bytes are below 65,536.
-use mathlib.Core.List.{List, [], _∷_}
-use Prim.Native.Nat.{_≤_}
+use Rattle.kit.specs.Names.{List, [], _∷_, _≤_}
 use Rattle.definitions.specs.Reading.{FunctionRecord, NodeRecord}
 
 unfoldable pub RootsFit : List FunctionRecord → Type 0

@@ -1,9 +1,5 @@
 -- A layout beside document 01's own, to try reading with, and a file's sections laid out in it.
-use mathlib.Core.Bool.{true, cond, _&&_}
-use mathlib.Core.List.{List, [], _∷_, _++_}
-use Prim.Native.Nat.{ℕ, _+_, _-_}
-use lib.Dec.{eqb, leb, ltb}
-use lib.ListN.{length}
+use Rattle.kit.specs.Names.{true, cond, _&&_, List, [], _∷_, _++_, ℕ, _+_, _-_, eqb, leb, ltb, length}
 use Rattle.definitions.specs.Basics.{twoBytes}
 use Rattle.definitions.specs.Reading.{Layout, FieldRecord, ParameterRecord, FunctionRecord, NodeRecord, Sections}
 use Rattle.definitions.specs.ContractFile.{isFinalCode, isParameterCode, sectionsOf}

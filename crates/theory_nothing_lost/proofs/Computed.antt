@@ -1,7 +1,5 @@
 -- Contracts by which the base's rule is told from the amended one, and their numbers by both.
-use mathlib.Core.Path.{_≡_, refl}
-use mathlib.Core.List.{List, [], _∷_}
-use Prim.Native.Nat.{ℕ}
+use Rattle.kit.specs.Names.{_≡_, refl, List, [], _∷_, ℕ}
 use Rattle.definitions.specs.Basics.{any, anyNumbered, countIf, largest, flatMap, firstThatHolds}
 use Rattle.definitions.specs.ContractFile.{fieldOf, parameterOf, typeOf, kindOf, nodeOfKind, expressionParts}
 use Rattle.definitions.specs.ContractFile.{statementParts, fieldsNamed, chainLength, expressionOf, expressionAt, statementOf}

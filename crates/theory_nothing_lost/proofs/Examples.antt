@@ -1,9 +1,6 @@
 -- The theorem cited at a contract that the base accepted, with an if between its links and their use; and two that it refused: the Note
 -- gains them, so that the theorem has no converse.
-use mathlib.Core.Path.{_≡_, sym, _∙_}
-use mathlib.Core.List.{List}
-use Prim.Native.Nat.{ℕ}
-use native.Mathlib.Omega.{arith}
+use Rattle.kit.specs.Names.{_≡_, sym, _∙_, List, ℕ, arith}
 use Rattle.definitions.specs.Numbers.{checkNumber}
 use Rattle.definitions.specs.Rewriting.{outputAfterWriting}
 use Rattle.theory_nothing_lost.specs.Base.{baseCheckNumber, baseOutputAfterWriting}

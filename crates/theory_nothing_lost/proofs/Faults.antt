@@ -1,11 +1,5 @@
 -- Links only ever help: with more of them a tree has no fault that it had not.
-use mathlib.Core.Path.{_≡_, refl}
-use mathlib.Core.Bool.{true, _&&_, _||_, not}
-use mathlib.Core.List.{List, _++_}
-use mathlib.Core.Option.{none}
-use Prim.Native.Nat.{ℕ}
-use lib.Dec.{leb}
-use lib.ListN.{length}
+use Rattle.kit.specs.Names.{_≡_, refl, true, _&&_, _||_, not, List, _++_, none, ℕ, leb, length}
 use Rattle.definitions.specs.Basics.{isZero}
 use Rattle.definitions.specs.ContractFile.{boolean, meName, Owner, everyone, ownedBy, Expression, constant, me, field, entry, parameter}
 use Rattle.definitions.specs.ContractFile.{operator, negation, reveal, Statement, skip, sequence, assignField, assignEntry, require}

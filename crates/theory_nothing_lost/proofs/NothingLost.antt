@@ -1,8 +1,5 @@
 -- 02, Note 1: "files accepted before stay accepted and are written as before".
-use mathlib.Core.Path.{_≡_}
-use mathlib.Core.Bool.{Bool, true}
-use mathlib.Core.List.{List, [], _∷_}
-use Prim.Native.Nat.{ℕ}
+use Rattle.kit.specs.Names.{_≡_, Bool, true, List, [], _∷_, ℕ}
 use Rattle.definitions.specs.Basics.{flatMap}
 use Rattle.definitions.specs.ContractFile.{Function, Contract, sectionsOf, contractOf}
 use Rattle.definitions.specs.Owners.{noLinks}

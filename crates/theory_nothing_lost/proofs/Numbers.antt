@@ -1,10 +1,5 @@
 -- Lists of numbers among others, and the first sentence that holds.
-use mathlib.Core.Path.{_≡_, refl, sym, _∙_}
-use mathlib.Core.Bool.{Bool, true, false, not, cond, false≢true}
-use mathlib.Core.List.{List, [], _∷_, _++_, map}
-use Prim.Native.Nat.{ℕ, suc}
-use native.Mathlib.Omega.{arith}
-use lib.Dec.{eqb}
+use Rattle.kit.specs.Names.{_≡_, refl, sym, _∙_, Bool, true, false, not, cond, false≢true, List, [], _∷_, _++_, map, ℕ, suc, arith, eqb}
 use Rattle.definitions.specs.Basics.{any, flatMap, firstThatHolds}
 use Rattle.definitions.specs.Numbers.{fault}
 use Rattle.theory_laws.proofs.Lists.{any-append}

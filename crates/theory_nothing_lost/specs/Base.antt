@@ -1,10 +1,6 @@
 -- Document 01's rule on links as it stood before 02's Note 1, and what checking and writing then answered: kept for one theorem, that the
 -- Note loses nothing.
-use mathlib.Core.Bool.{Bool, cond}
-use mathlib.Core.List.{List, [], _∷_, _++_, map}
-use Prim.Native.Nat.{ℕ}
-use lib.Dec.{eqb, ltb}
-use lib.ListN.{length, drop}
+use Rattle.kit.specs.Names.{Bool, cond, List, [], _∷_, _++_, map, ℕ, eqb, ltb, length, drop}
 use Rattle.definitions.specs.Basics.{any, flatMap, firstThatHolds}
 use Rattle.definitions.specs.ContractFile.{Statement, skip, sequence, assignField, assignEntry, require, conditional, Field, Function}
 use Rattle.definitions.specs.ContractFile.{Contract, Scope, sectionsOf, contractOf}

@@ -1,9 +1,5 @@
 -- 02, Note 1: "files accepted before stay accepted and are written as before"
-use mathlib.Core.Path.{_≡_}
-use mathlib.Core.Bool.{true}
-use mathlib.Core.List.{List}
-use Prim.Native.Nat.{ℕ}
-use lib.Dec.{eqb}
+use Rattle.kit.specs.Names.{_≡_, true, List, ℕ, eqb}
 use Rattle.definitions.specs.Basics.{any}
 use Rattle.definitions.specs.Numbers.{checkNumber}
 use Rattle.definitions.specs.Rewriting.{writeNumber, outputAfterWriting}

@@ -1,8 +1,5 @@
 -- What acceptance gives of a contract's trees: numbers 3 and 8 to 15, as the theorems use them.
-use mathlib.Core.Path.{_≡_}
-use mathlib.Core.Bool.{Bool, true, _&&_}
-use mathlib.Core.List.{List, []}
-use Prim.Native.Nat.{ℕ}
+use Rattle.kit.specs.Names.{_≡_, Bool, true, _&&_, List, [], ℕ}
 use Rattle.definitions.specs.ContractFile.{DataType, address, toEveryone, toFinal, Expression, constant, me, field, entry, parameter}
 use Rattle.definitions.specs.ContractFile.{operator, negation, reveal, Statement, skip, sequence, assignField, assignEntry, require}
 use Rattle.definitions.specs.ContractFile.{conditional, Field, Scope, fieldAt, isFinal, isMapping, isOfType}

@@ -1,9 +1,5 @@
 -- What holds of a call's names, arguments and plain numbers while the original is worked out.
-use mathlib.Core.Path.{_≡_}
-use mathlib.Core.Bool.{true}
-use mathlib.Core.List.{List}
-use Prim.Native.Nat.{ℕ}
-use lib.ListN.{length, getD}
+use Rattle.kit.specs.Names.{_≡_, true, List, ℕ, length, getD}
 use Rattle.definitions.specs.ContractFile.{DataType, boolean, address, Name, meName, finalName, parameterName, Field, Scope, fieldAt}
 use Rattle.definitions.specs.ContractFile.{parameterAt, isFinal, isOfType}
 use Rattle.definitions.specs.Owners.{isPublicAddress}

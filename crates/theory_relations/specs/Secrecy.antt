@@ -1,10 +1,5 @@
 -- What a party may tell apart: contents with the values hidden that it may not read, and numbers that agree where it may read.
-use mathlib.Core.Path.{_≡_}
-use mathlib.Core.Bool.{true, cond}
-use mathlib.Core.List.{List, map}
-use Prim.Native.Nat.{ℕ}
-use lib.Dec.{eqb}
-use lib.ListN.{getD}
+use Rattle.kit.specs.Names.{_≡_, true, cond, List, map, ℕ, eqb, getD}
 use Rattle.definitions.specs.ContractFile.{Name, Field, Scope, parameterAt}
 use Rattle.definitions.specs.Owners.{parameterOwner}
 use Rattle.definitions.specs.Original.{anyone, mayRead, readerOf}

@@ -1,8 +1,5 @@
 -- When the contents of a ledger stand for the original's numbers.
-use mathlib.Core.Path.{_≡_}
-use mathlib.Core.List.{List}
-use Prim.Native.Nat.{ℕ, _<_}
-use lib.ListN.{length, getD}
+use Rattle.kit.specs.Names.{_≡_, List, ℕ, _<_, length, getD}
 use Rattle.definitions.specs.ContractFile.{Name, finalName, Field, Scope, parameterAt}
 use Rattle.definitions.specs.Owners.{parameterOwner}
 use Rattle.definitions.specs.Original.{perPlace, Reader, anyone, readerOf, placeReader}

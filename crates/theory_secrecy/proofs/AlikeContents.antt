@@ -1,9 +1,5 @@
 -- Lists of contents that a party cannot tell apart, and contents made for a reader.
-use mathlib.Core.Path.{_≡_, refl, ap, ap₂, sym, _∙_}
-use mathlib.Core.Bool.{Bool, true, false, cond}
-use mathlib.Core.List.{List, _∷_, _++_, map-append}
-use Prim.Native.Nat.{ℕ}
-use lib.Dec.{eqb}
+use Rattle.kit.specs.Names.{_≡_, refl, ap, ap₂, sym, _∙_, Bool, true, false, cond, List, _∷_, _++_, map-append, ℕ, eqb}
 use Rattle.definitions.specs.Original.{Reader, anyone, only, mayRead}
 use Rattle.definitions.specs.Ledger.{Content, plain, cell, openedNumber, contentFor}
 use Rattle.theory_relations.specs.Secrecy.{hidden, allHidden}

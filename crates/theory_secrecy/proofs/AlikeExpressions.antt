@@ -1,7 +1,5 @@
 -- What two runs have in common of an expression, for a party: its value if the party may read it, and all that is supplied for it.
-use mathlib.Core.Path.{_≡_, refl}
-use mathlib.Core.List.{List, []}
-use Prim.Native.Nat.{ℕ, suc, _+_}
+use Rattle.kit.specs.Names.{_≡_, refl, List, [], ℕ, suc, _+_}
 use Rattle.definitions.specs.ContractFile.{Name, Owner, everyone, ownedBy, Expression, Scope}
 use Rattle.definitions.specs.Owners.{ownerOf, isPublic}
 use Rattle.definitions.specs.Original.{readerOf, value}

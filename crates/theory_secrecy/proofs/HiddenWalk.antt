@@ -1,9 +1,5 @@
 -- The walk of a written body opens no cell: to hide a state and walk is to walk and hide.
-use mathlib.Core.Path.{_≡_, refl, ap}
-use mathlib.Core.Bool.{Bool, true, false, cond}
-use mathlib.Core.List.{List, [], _∷_, map}
-use Prim.Native.Nat.{ℕ, zero, suc}
-use lib.ListN.{set, List·getD-map}
+use Rattle.kit.specs.Names.{_≡_, refl, ap, Bool, true, false, cond, List, [], _∷_, map, ℕ, zero, suc, set, List·getD-map}
 use Rattle.definitions.specs.ContractFile.{Name, Field}
 use Rattle.definitions.specs.Original.{position}
 use Rattle.definitions.specs.Rewriting.{BodyExpression, Command}

@@ -1,11 +1,5 @@
 -- The honest parameters of two calls whose arguments agree where the party may read.
-use mathlib.Core.Path.{_≡_, refl, ap₂}
-use mathlib.Core.Bool.{Bool, true, false, _||_, cond, not}
-use mathlib.Core.List.{List, [], _∷_}
-use Prim.Native.Nat.{ℕ, suc}
-use native.Mathlib.Omega.{arith}
-use lib.Dec.{eqb}
-use lib.ListN.{length, getD}
+use Rattle.kit.specs.Names.{_≡_, refl, ap₂, Bool, true, false, _||_, cond, not, List, [], _∷_, ℕ, suc, arith, eqb, length, getD}
 use Rattle.definitions.specs.ContractFile.{Name, meName, Parameter, Scope, parameterAt}
 use Rattle.definitions.specs.Owners.{parameterOwner}
 use Rattle.definitions.specs.Original.{anyone, only, mayRead, readerOf}

@@ -1,7 +1,5 @@
 -- What a party may read of a value, by the value's owner and the owners of its parts.
-use mathlib.Core.Path.{_≡_, refl}
-use mathlib.Core.Bool.{true, false≢true}
-use Prim.Native.Nat.{ℕ}
+use Rattle.kit.specs.Names.{_≡_, refl, true, false≢true, ℕ}
 use Rattle.definitions.specs.ContractFile.{Name, meName, Owner, everyone, ownedBy, isEveryone}
 use Rattle.definitions.specs.Owners.{Links, isReader, ownerOfParts}
 use Rattle.definitions.specs.Numbers.{mayBePut}

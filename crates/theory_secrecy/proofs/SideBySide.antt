@@ -1,8 +1,6 @@
 -- Two runs side by side. A run has a Boolean, whether it completes, and the list of what it discloses.
-use mathlib.Core.Path.{_≡_, refl}
-use mathlib.Core.Bool.{Bool, true, false, _&&_, cond, false≢true, true≢false}
-use mathlib.Core.List.{List, [], _∷_, _++_, append-assoc, append-nil}
-use Prim.Native.Nat.{ℕ}
+use Rattle.kit.specs.Names.{_≡_, refl, Bool, true, false, _&&_, cond, false≢true, true≢false, List, [], _∷_, _++_, append-assoc, append-nil}
+use Rattle.kit.specs.Names.{ℕ}
 
 -- Where the disclosed lists agree, with whatever follows them, both runs complete or neither does; if they do, what follows
 -- agrees and the outcome holds.

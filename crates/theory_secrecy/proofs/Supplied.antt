@@ -1,7 +1,5 @@
 -- What holds of every supplied variable of a piece of the rewriting, by its owner and its expression.
-use mathlib.Core.Bool.{Bool, true, false, cond}
-use mathlib.Core.List.{List, [], _∷_, _++_}
-use Prim.Native.Nat.{ℕ, suc}
+use Rattle.kit.specs.Names.{Bool, true, false, cond, List, [], _∷_, _++_, ℕ, suc}
 use Rattle.definitions.specs.ContractFile.{Owner, Expression}
 use Rattle.definitions.specs.Rewriting.{BodyExpression, Circuit, Variable, supplied, readFrom, Generator, kept, onePart, twoParts, supplying, reading}
 

@@ -1,9 +1,5 @@
 -- Two runs of the original work out an expression: if they disclose the same to a party, they look the same to it.
-use mathlib.Core.Path.{_≡_, refl, ap, ap₂, _∙_}
-use mathlib.Core.Bool.{Bool, true, false, _&&_, _||_, not}
-use mathlib.Core.List.{List, []}
-use Prim.Native.Nat.{ℕ}
-use lib.ListN.{getD}
+use Rattle.kit.specs.Names.{_≡_, refl, ap, ap₂, _∙_, Bool, true, false, _&&_, _||_, not, List, [], ℕ, getD}
 use Rattle.definitions.specs.Basics.{isZero}
 use Rattle.definitions.specs.ContractFile.{Name, meName, everyone, ownedBy, Operator, Expression, constant, me, field, entry, parameter, operator, negation, reveal, Scope, isDivision}
 use Rattle.definitions.specs.Owners.{Links, isReader, ownerOf, isPublic}

@@ -1,9 +1,5 @@
 -- Two runs of one body that agree on what a party may read, and disclose the same to it: they look the same to it to the end.
-use mathlib.Core.Path.{_≡_, ap}
-use mathlib.Core.Bool.{true}
-use mathlib.Core.List.{List, [], _∷_, _++_}
-use Prim.Native.Nat.{ℕ, suc}
-use lib.ListN.{length}
+use Rattle.kit.specs.Names.{_≡_, ap, true, List, [], _∷_, _++_, ℕ, suc, length}
 use Rattle.definitions.specs.ContractFile.{Name, Owner, Expression, Statement, Scope}
 use Rattle.definitions.specs.Owners.{noLinks}
 use Rattle.definitions.specs.Original.{completes, disclosedBy}

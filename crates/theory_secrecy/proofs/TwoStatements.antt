@@ -1,11 +1,6 @@
 -- Two runs of the original complete a statement: if they disclose the same to a party, they look the same to it afterwards.
-use mathlib.Core.Path.{_≡_, refl, ap, sym, _∙_}
-use mathlib.Core.Bool.{Bool, true, false, _&&_, cond, false≢true, true≢false}
-use mathlib.Core.List.{List, [], _∷_}
-use mathlib.Core.Option.{none}
-use Prim.Native.Nat.{ℕ, zero, suc, _+_}
-use native.Mathlib.Omega.{arith}
-use lib.ListN.{length, getD, set, replicate}
+use Rattle.kit.specs.Names.{_≡_, refl, ap, sym, _∙_, Bool, true, false, _&&_, cond, false≢true, true≢false, List, [], _∷_, none, ℕ, zero}
+use Rattle.kit.specs.Names.{suc, _+_, arith, length, getD, set, replicate}
 use Rattle.definitions.specs.Basics.{isTrue}
 use Rattle.definitions.specs.ContractFile.{Name, Owner, Expression, Statement, skip, sequence, assignField, assignEntry, require, conditional, Field, Scope, fieldAt}
 use Rattle.definitions.specs.Owners.{Links, placeOwner, nameOf, ownerOf, linksOfCondition, linksAfter}

@@ -1,10 +1,5 @@
 -- What a party's view shows is what hiding leaves; and back from hidden places to the numbers that the party may read.
-use mathlib.Core.Path.{_≡_, refl, ap, ap₂, sym, _∙_}
-use mathlib.Core.Bool.{Bool, true, false, cond}
-use mathlib.Core.List.{List, [], _∷_, map}
-use Prim.Native.Nat.{ℕ}
-use lib.Dec.{eqb}
-use lib.ListN.{getD}
+use Rattle.kit.specs.Names.{_≡_, refl, ap, ap₂, sym, _∙_, Bool, true, false, cond, List, [], _∷_, map, ℕ, eqb, getD}
 use Rattle.definitions.specs.Basics.{flatMap}
 use Rattle.definitions.specs.ContractFile.{Name, Field}
 use Rattle.definitions.specs.Original.{anyone}

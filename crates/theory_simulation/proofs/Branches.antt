@@ -1,9 +1,6 @@
 -- One of two branches is walked, by a public condition; the other's variables stay plain 0.
-use mathlib.Core.Path.{_≡_, ap, sym, _∙_}
-use mathlib.Core.Bool.{Bool, true, false, _&&_, cond, and-assoc}
-use mathlib.Core.List.{List, _++_, append-assoc}
-use Prim.Native.Nat.{ℕ, _+_}
-use lib.ListN.{length, replicate, length-append, length-replicate}
+use Rattle.kit.specs.Names.{_≡_, ap, sym, _∙_, Bool, true, false, _&&_, cond, and-assoc, List, _++_, append-assoc, ℕ, _+_, length}
+use Rattle.kit.specs.Names.{replicate, length-append, length-replicate}
 use Rattle.definitions.specs.Basics.{isTrue}
 use Rattle.definitions.specs.ContractFile.{everyone}
 use Rattle.definitions.specs.Rewriting.{BodyExpression, Guard, Generator, heldUnder, StatementGenerator, inBranch, inBranches}

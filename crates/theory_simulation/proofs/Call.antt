@@ -1,9 +1,5 @@
 -- The honest rewritten call stands for the original's call.
-use mathlib.Core.Path.{_≡_, refl, ap, _∙_}
-use mathlib.Core.Bool.{Bool, true, false}
-use mathlib.Core.List.{List, [], _∷_, _++_, append-nil}
-use Prim.Native.Nat.{ℕ}
-use lib.ListN.{length}
+use Rattle.kit.specs.Names.{_≡_, refl, ap, _∙_, Bool, true, false, List, [], _∷_, _++_, append-nil, ℕ, length}
 use Rattle.definitions.specs.Basics.{all}
 use Rattle.definitions.specs.ContractFile.{Name, Statement, Scope}
 use Rattle.definitions.specs.Owners.{noLinks}

@@ -1,11 +1,6 @@
 -- Constraints under a guard, and those of a branch that is not taken: its guard is plain 0, and they hold.
-use mathlib.Core.Path.{_≡_, refl}
-use mathlib.Core.Bool.{Bool, true, false, _&&_, not}
-use mathlib.Core.List.{List, [], _∷_, _++_}
-use Prim.Native.Nat.{ℕ, suc, _+_, _-_, _≤_, _<_}
-use native.Mathlib.Omega.{arith}
-use lib.ListN.{length, replicate, length-append, length-replicate, List·getD-append, getD-replicate}
-use lib.Seq.{getD-append-add}
+use Rattle.kit.specs.Names.{_≡_, refl, Bool, true, false, _&&_, not, List, [], _∷_, _++_, ℕ, suc, _+_, _-_, _≤_, _<_, arith, length}
+use Rattle.kit.specs.Names.{replicate, length-append, length-replicate, List·getD-append, getD-replicate, getD-append-add}
 use Rattle.definitions.specs.Basics.{all}
 use Rattle.definitions.specs.ContractFile.{Scope, Statement, skip, sequence, assignField, assignEntry, require, conditional}
 use Rattle.definitions.specs.Owners.{ownerOf}

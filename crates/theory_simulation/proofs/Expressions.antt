@@ -1,9 +1,5 @@
 -- The rewritten expressions of an accepted one: its body form gives a content that stands for its value, its circuit form the value.
-use mathlib.Core.Path.{_≡_, refl, ap, sym}
-use mathlib.Core.Bool.{Bool, true, false, _&&_, _||_, cond, not, and-true}
-use mathlib.Core.List.{List, []}
-use Prim.Native.Nat.{ℕ, suc, _+_}
-use lib.ListN.{length, getD}
+use Rattle.kit.specs.Names.{_≡_, refl, ap, sym, Bool, true, false, _&&_, _||_, cond, not, and-true, List, [], ℕ, suc, _+_, length, getD}
 use Rattle.definitions.specs.ContractFile.{Name, meName, Owner, everyone, ownedBy, Operator, Expression, constant, me, field, entry, parameter, operator, negation, reveal, Field, Scope, isEveryone, isDivision, isOfType, typeOf}
 use Rattle.definitions.specs.Owners.{Links, ownerOfParts, ownerOf}
 use Rattle.definitions.specs.Numbers.{expressionFaults}

@@ -1,9 +1,5 @@
 -- The variables of a call in the end: each is plain 0, or holds a content that stands for a number of its type.
-use mathlib.Core.Path.{_≡_, refl, ap}
-use mathlib.Core.Bool.{true, _||_}
-use mathlib.Core.List.{List, [], _∷_, _++_, map}
-use Prim.Native.Nat.{ℕ, suc}
-use lib.ListN.{length, replicate}
+use Rattle.kit.specs.Names.{_≡_, refl, ap, true, _||_, List, [], _∷_, _++_, map, ℕ, suc, length, replicate}
 use Rattle.definitions.specs.ContractFile.{Name, Scope, isOfType}
 use Rattle.definitions.specs.Rewriting.{Variable, variableOwner}
 use Rattle.definitions.specs.Original.{readerOf}

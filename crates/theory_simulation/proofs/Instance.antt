@@ -1,9 +1,5 @@
 -- The theorem's conditions can be met: a call that moves a private argument into a private field of its caller.
-use mathlib.Core.Path.{_≡_, refl}
-use mathlib.Core.Bool.{true, false≢true}
-use mathlib.Core.List.{List, [], _∷_, zipWith}
-use Prim.Native.Nat.{ℕ, zero, suc}
-use lib.ListN.{getD}
+use Rattle.kit.specs.Names.{_≡_, refl, true, false≢true, List, [], _∷_, zipWith, ℕ, zero, suc, getD}
 use Rattle.definitions.specs.ContractFile.{DataType, boolean, uint, plainField, finalField, Name, meName, finalName, parameterName, toEveryone, toFinal, equal, me, field, parameter, operator, Statement, sequence, assignField, require, Field, Scope, fieldAt, parameterAt, isFinal, isMapping, sameName, isOfType, typeOf}
 use Rattle.definitions.specs.Owners.{isPublicAddress, nameOf, ownerOf, linksAfter, linksOfCondition, withLink}
 use Rattle.definitions.specs.Numbers.{isTagged, expressionFaults, statementFaults}

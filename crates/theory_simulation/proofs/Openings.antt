@@ -1,12 +1,6 @@
 -- The private parameters of a call are read first, and open for the caller.
-use mathlib.Core.Path.{_≡_, refl, ap, sym, _∙_}
-use mathlib.Core.Bool.{Bool, true, false, cond}
-use mathlib.Core.List.{List, [], _∷_, _++_}
-use Prim.Native.Nat.{ℕ, suc, _+_, _<_}
-use native.Mathlib.Omega.{arith}
-use native.Mathlib.Nat.{add-zero, zero-add}
-use lib.ListN.{length, getD, set}
-use lib.Seq.{getD-at, set-at, append-snoc}
+use Rattle.kit.specs.Names.{_≡_, refl, ap, sym, _∙_, Bool, true, false, cond, List, [], _∷_, _++_, ℕ, suc, _+_, _<_, arith, add-zero}
+use Rattle.kit.specs.Names.{zero-add, length, getD, set, getD-at, set-at, append-snoc}
 use Rattle.definitions.specs.Basics.{all}
 use Rattle.definitions.specs.ContractFile.{meName, Parameter, parameterAt, typeOf}
 use Rattle.definitions.specs.Rewriting.{privateParameters, openings}

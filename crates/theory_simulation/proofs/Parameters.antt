@@ -1,10 +1,5 @@
 -- The honest parameters of a call stand for its arguments.
-use mathlib.Core.Path.{_≡_, refl}
-use mathlib.Core.Bool.{Bool, true, false, cond}
-use mathlib.Core.List.{List, [], _∷_}
-use Prim.Native.Nat.{ℕ, zero, suc, _<_}
-use native.Mathlib.Omega.{arith}
-use lib.ListN.{length, getD}
+use Rattle.kit.specs.Names.{_≡_, refl, Bool, true, false, cond, List, [], _∷_, ℕ, zero, suc, _<_, arith, length, getD}
 use Rattle.definitions.specs.ContractFile.{Name, meName, everyone, ownedBy, Parameter, Scope, parameterAt}
 use Rattle.definitions.specs.Owners.{parameterOwner}
 use Rattle.definitions.specs.Original.{anyone, only, readerOf}

@@ -1,10 +1,6 @@
 -- The walk of what rewriting makes of statements, by its combinators: single, in sequence, in a branch, and steps before the rest.
-use mathlib.Core.Path.{_≡_, refl, ap, ap₂, sym, _∙_}
-use mathlib.Core.Bool.{Bool, true, false, _&&_, cond, false≢true, and-assoc}
-use mathlib.Core.List.{List, [], _∷_, _++_, append-assoc}
-use Prim.Native.Nat.{ℕ, suc, _+_}
-use lib.ListN.{length, set, length-append}
-use lib.Seq.{set-at, append-snoc}
+use Rattle.kit.specs.Names.{_≡_, refl, ap, ap₂, sym, _∙_, Bool, true, false, _&&_, cond, false≢true, and-assoc, List, [], _∷_, _++_}
+use Rattle.kit.specs.Names.{append-assoc, ℕ, suc, _+_, length, set, length-append, set-at, append-snoc}
 use Rattle.definitions.specs.Basics.{isTrue}
 use Rattle.definitions.specs.ContractFile.{boolean}
 use Rattle.definitions.specs.Rewriting.{BodyExpression, Command, Guard, under, Step, Generator, stepsBefore, Passage, StatementGenerator, single, inSequence, inBranch}

@@ -1,10 +1,6 @@
 -- The pieces that rewriting makes, in a call: what stands in their variables after their steps, whatever stands before and after them.
-use mathlib.Core.Path.{_≡_, refl, ap, ap₂, sym, _∙_}
-use mathlib.Core.Bool.{Bool, true, _&&_, and-assoc}
-use mathlib.Core.List.{List, [], _∷_, _++_, append-assoc}
-use Prim.Native.Nat.{ℕ, suc, _+_}
-use native.Mathlib.Nat.{add-zero, add-suc, suc-add}
-use lib.ListN.{length, set}
+use Rattle.kit.specs.Names.{_≡_, refl, ap, ap₂, sym, _∙_, Bool, true, _&&_, and-assoc, List, [], _∷_, _++_, append-assoc, ℕ, suc, _+_}
+use Rattle.kit.specs.Names.{add-zero, add-suc, suc-add, length, set}
 use Rattle.definitions.specs.Basics.{all}
 use Rattle.definitions.specs.ContractFile.{Name, Scope}
 use Rattle.definitions.specs.Rewriting.{BodyExpression, Variable, Claim, Constraint, Step, Generator, kept, onePart, twoParts}

@@ -1,11 +1,6 @@
 -- Contents that stand for numbers: what they open to, who reads them, and places after one of them is written.
-use mathlib.Core.Path.{_≡_, refl, ap, sym, _∙_}
-use mathlib.Core.Bool.{true, false, false≢true, true≢false}
-use mathlib.Core.List.{List, [], _∷_, zipWith}
-use Prim.Native.Nat.{ℕ, zero, suc}
-use native.Mathlib.Omega.{arith}
-use borrow.Author.Tests.{eq-eqb}
-use lib.ListN.{length, getD, set, length-set}
+use Rattle.kit.specs.Names.{_≡_, refl, ap, sym, _∙_, true, false, false≢true, true≢false, List, [], _∷_, zipWith, ℕ, zero, suc, arith}
+use Rattle.kit.specs.Names.{length, getD, set, length-set, eq-eqb}
 use Rattle.definitions.specs.ContractFile.{Name, meName, Owner, everyone, ownedBy, isEveryone}
 use Rattle.definitions.specs.Owners.{ownerOfParts}
 use Rattle.definitions.specs.Original.{Reader, anyone, only, readerOf}

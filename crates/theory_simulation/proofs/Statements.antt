@@ -1,10 +1,6 @@
 -- The rewritten statements of accepted ones: the walk ends where the original completes, on places that stand for its places then.
-use mathlib.Core.Path.{_≡_, refl, ap, sym}
-use mathlib.Core.Bool.{Bool, true, false, _&&_, cond, and-true, true≢false, false≢true}
-use mathlib.Core.List.{List, []}
-use mathlib.Core.Option.{none}
-use Prim.Native.Nat.{ℕ, suc, _+_}
-use lib.ListN.{length, set}
+use Rattle.kit.specs.Names.{_≡_, refl, ap, sym, Bool, true, false, _&&_, cond, and-true, true≢false, false≢true, List, [], none, ℕ, suc}
+use Rattle.kit.specs.Names.{_+_, length, set}
 use Rattle.definitions.specs.Basics.{isTrue}
 use Rattle.definitions.specs.ContractFile.{Name, Owner, everyone, ownedBy, Expression, Statement, skip, sequence, assignField, assignEntry, require, conditional, fieldAt, isEveryone}
 use Rattle.definitions.specs.Owners.{Links, placeOwner, nameOf, ownerOf, isPublic, linksOfCondition, linksAfter}

@@ -1,10 +1,6 @@
 -- Laws of truth values, and of lists that are cut where two of their parts meet.
-use mathlib.Core.Path.{_≡_, refl, sym}
-use mathlib.Core.Bool.{Bool, true, false, _&&_, _||_, and-assoc}
-use mathlib.Core.List.{List, [], _∷_, _++_, append-assoc}
-use Prim.Native.Nat.{ℕ, suc, _+_}
-use native.Mathlib.Numerals.{add-one}
-use lib.ListN.{length, length-append}
+use Rattle.kit.specs.Names.{_≡_, refl, sym, Bool, true, false, _&&_, _||_, and-assoc, List, [], _∷_, _++_, append-assoc, ℕ, suc, _+_}
+use Rattle.kit.specs.Names.{add-one, length, length-append}
 use Rattle.definitions.specs.Basics.{all}
 
 pub or-of-right : (a b : Bool) → b ≡ true → a || b ≡ true

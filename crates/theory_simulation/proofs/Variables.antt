@@ -1,10 +1,6 @@
 -- Supplied and read variables: a supplied one holds the value of its expression, and a read one gives a circuit what it was set to.
-use mathlib.Core.Path.{_≡_, refl, sym, _∙_}
-use mathlib.Core.Bool.{Bool, true, _&&_, and-true}
-use mathlib.Core.List.{List, [], _∷_, _++_, append-assoc}
-use Prim.Native.Nat.{ℕ, suc, _+_}
-use lib.ListN.{length}
-use lib.Seq.{getD-at, set-at, append-snoc}
+use Rattle.kit.specs.Names.{_≡_, refl, sym, _∙_, Bool, true, _&&_, and-true, List, [], _∷_, _++_, append-assoc, ℕ, suc, _+_, length}
+use Rattle.kit.specs.Names.{getD-at, set-at, append-snoc}
 use Rattle.definitions.specs.Basics.{all}
 use Rattle.definitions.specs.ContractFile.{Name, Owner, everyone, ownedBy, Expression, isOfType, typeOf}
 use Rattle.definitions.specs.Rewriting.{BodyExpression, Circuit, readFrom, Generator, supplying, reading, readForm}

@@ -1,10 +1,5 @@
 -- The tree of a node by its kind; the numbers of its parts are below its own.
-use mathlib.Core.Path.{_≡_, refl, ap, _∙_}
-use mathlib.Core.Bool.{Bool, true, false, cond}
-use mathlib.Core.List.{List, [], _∷_}
-use Prim.Native.Nat.{ℕ, _+_, _*_, _<_}
-use borrow.Author.Tests.{ne-eqb, ltb-true}
-use lib.Dec.{eqb, ltb}
+use Rattle.kit.specs.Names.{_≡_, refl, ap, _∙_, Bool, true, false, cond, List, [], _∷_, ℕ, _+_, _*_, _<_, eqb, ltb, ne-eqb, ltb-true}
 use Rattle.definitions.specs.Basics.{all}
 use Rattle.definitions.specs.ContractFile.{Expression, Statement, NodeRecord, dataTypeOf, operatorOf, ownerOfCode, constantKind, meKind, fieldKind, entryKind, parameterKind, operatorKind, negationKind, revealKind, skipKind, sequenceKind, assignFieldKind, assignEntryKind, requireKind, conditionalKind, noKind, kindOf, Node, nodeOf, nodeOfKind, children, expressionParts, statementParts, expressionOf, statementOf}
 use Rattle.theory_laws.proofs.TruthValues.{and-left, and-right}

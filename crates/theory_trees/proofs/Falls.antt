@@ -1,12 +1,6 @@
 -- A file whose numbers name something, number 4, has nodes that fall from parent to child.
-use mathlib.Core.Path.{_≡_, refl}
-use mathlib.Core.Bool.{Bool, true, false, _||_}
-use mathlib.Core.List.{List, [], _∷_, map}
-use Prim.Native.Nat.{ℕ, zero, suc, _+_}
-use native.Mathlib.Omega.{arith}
-use borrow.Author.Tests.{leb-false, lt-ltb}
-use lib.Dec.{leb, ltb}
-use lib.ListN.{length}
+use Rattle.kit.specs.Names.{_≡_, refl, Bool, true, false, _||_, List, [], _∷_, map, ℕ, zero, suc, _+_, arith, leb, ltb, length, leb-false}
+use Rattle.kit.specs.Names.{lt-ltb}
 use Rattle.definitions.specs.Basics.{all, any, anyNumbered}
 use Rattle.definitions.specs.ContractFile.{NodeRecord, Sections, fieldOf, nodeOf, nodeAt, children, fieldsNamed, expressionParts, statementParts}
 use Rattle.definitions.specs.Numbers.{namesNothing, fieldOfDeclaredOwner}

@@ -1,6 +1,5 @@
 -- What every node keeps of its children's trees holds of every tree that nodes make.
-use mathlib.Core.List.{List}
-use Prim.Native.Nat.{ℕ, zero, suc}
+use Rattle.kit.specs.Names.{List, ℕ, zero, suc}
 use Rattle.definitions.specs.ContractFile.{Expression, Statement, Node, unknownNode, nodeAt, expressionOf, expressionAt, statementOf, statementAt}
 use Rattle.theory_trees.specs.Trees.{Keeps}
 

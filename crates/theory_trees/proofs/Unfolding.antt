@@ -1,10 +1,5 @@
 -- The tree of a node unfolds into its children's trees: more levels than a node's number change nothing.
-use mathlib.Core.Path.{_≡_, refl, ap, ap₂}
-use mathlib.Core.Bool.{true}
-use mathlib.Core.List.{List, [], _∷_, map}
-use Prim.Native.Nat.{ℕ, zero, suc, _<_}
-use native.Mathlib.Omega.{arith}
-use lib.Dec.{ltb, ltb→lt}
+use Rattle.kit.specs.Names.{_≡_, refl, ap, ap₂, true, List, [], _∷_, map, ℕ, zero, suc, _<_, arith, ltb, ltb→lt}
 use Rattle.definitions.specs.Basics.{all}
 use Rattle.definitions.specs.ContractFile.{Expression, Statement, NodeRecord, node, ownerOfCode, operatorOf, Kind, constantKind, meKind, fieldKind, entryKind, parameterKind, operatorKind, negationKind, revealKind, skipKind, sequenceKind, assignFieldKind, assignEntryKind, requireKind, conditionalKind, noKind, kindOf, Node, nodeOfKind, nodeOf, nodeAt, expressionParts, statementParts, children, expressionOf, expressionAt, statementOf, statementAt}
 use Rattle.theory_laws.proofs.TruthValues.{and-left, and-right}

@@ -1,5 +1,5 @@
 -- How many nodes a tree has.
-use Prim.Native.Nat.{ℕ, _+_}
+use Rattle.kit.specs.Names.{ℕ, _+_}
 use Rattle.definitions.specs.ContractFile.{Expression, Statement}
 
 unfoldable pub expressionSize : Expression → ℕ

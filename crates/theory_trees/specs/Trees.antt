@@ -1,9 +1,5 @@
 -- The tree of a node, with just the levels that it needs, and when the nodes' numbers fall from parent to child.
-use mathlib.Core.Path.{_≡_}
-use mathlib.Core.Bool.{true}
-use mathlib.Core.List.{List}
-use Prim.Native.Nat.{ℕ, suc}
-use lib.Dec.{ltb}
+use Rattle.kit.specs.Names.{_≡_, true, List, ℕ, suc, ltb}
 use Rattle.definitions.specs.Basics.{all}
 use Rattle.definitions.specs.ContractFile.{Expression, Statement, NodeRecord, Node, nodeOf, nodeAt, children, expressionOf, expressionAt}
 use Rattle.definitions.specs.ContractFile.{statementOf, statementAt}

@@ -1,9 +1,5 @@
 -- An accepted file: each body of its contract is accepted in its scope.
-use mathlib.Core.Path.{_≡_, refl, subst}
-use mathlib.Core.Bool.{Bool, true, false, _||_, not}
-use mathlib.Core.List.{List, [], _∷_, map}
-use Prim.Native.Nat.{ℕ, zero, suc}
-use lib.ListN.{getD}
+use Rattle.kit.specs.Names.{_≡_, refl, subst, Bool, true, false, _||_, not, List, [], _∷_, map, ℕ, zero, suc, getD}
 use Rattle.definitions.specs.Basics.{any, flatMap}
 use Rattle.definitions.specs.ContractFile.{toFinal, skip, Field, Contract, fieldAt, functionAt, scopeOf, isFinal, FunctionRecord, sectionsOf, fieldOf, Node, nodeOf, functionOf, contractOf, contractIn}
 use Rattle.definitions.specs.Numbers.{fault, fieldInTables, parameterInTables, nodeInTables, outsideTables, statementFaults, fieldOfDeclaredOwner, fieldFaults, functionFaults, contractFaults, checkNumber}

@@ -1,10 +1,6 @@
 -- Laws of truth values, lists and numbers that the theorems on typing share.
-use mathlib.Core.Path.{_≡_, refl, sym, _∙_}
-use mathlib.Core.Bool.{Bool, true, false, _&&_, not, true≢false, false≢true}
-use mathlib.Core.List.{List, [], _∷_, _++_}
-use Prim.Native.Nat.{ℕ, _<_}
-use native.Mathlib.Omega.{arith}
-use borrow.Author.Tests.{ltb-true}
+use Rattle.kit.specs.Names.{_≡_, refl, sym, _∙_, Bool, true, false, _&&_, not, true≢false, false≢true, List, [], _∷_, _++_, ℕ, _<_, arith}
+use Rattle.kit.specs.Names.{ltb-true}
 use Rattle.definitions.specs.ContractFile.{address, isOfType}
 use Rattle.definitions.specs.Numbers.{fault}
 use Rattle.theory_laws.proofs.TruthValues.{not-false-true}

@@ -1,12 +1,7 @@
 -- A call that is not refused: its environment, its parameters, and the address of each name as the walk and as the original have it.
-use mathlib.Core.Path.{_≡_, refl, ap, sym, _∙_, subst, fun-ext}
-use mathlib.Core.Bool.{Bool, true, false, _||_, cond, not, true≢false}
-use mathlib.Core.List.{List, [], _∷_, map, zipWith}
-use Prim.Native.Nat.{ℕ, zero, suc, _+_, _<_, _≤_}
-use native.Mathlib.Omega.{arith}
-use borrow.Author.Tests.{ltb-false, leb-false, lt-ltb, eqb-true}
-use lib.Dec.{eqb, leb, ltb}
-use lib.ListN.{length, getD}
+use Rattle.kit.specs.Names.{_≡_, refl, ap, sym, _∙_, subst, fun-ext, Bool, true, false, _||_, cond, not, true≢false, List, [], _∷_, map}
+use Rattle.kit.specs.Names.{zipWith, ℕ, zero, suc, _+_, _<_, _≤_, arith, eqb, leb, ltb, length, getD, ltb-false, leb-false, lt-ltb}
+use Rattle.kit.specs.Names.{eqb-true}
 use Rattle.definitions.specs.Basics.{any}
 use Rattle.definitions.specs.ContractFile.{address, Name, meName, finalName, parameterName, everyone, ownedBy, Parameter, fieldAt, parameterAt, scopeOf, sameType, isFinal, isOfType, contractIn}
 use Rattle.definitions.specs.Owners.{isPublicAddress, parameterOwner}

@@ -1,10 +1,6 @@
 -- Contents that stand for numbers: finals are plain, so the readers told from plain numbers are those told from the numbers.
-use mathlib.Core.Path.{_≡_, refl, ap, ap₂, sym, _∙_, fun-ext, subst}
-use mathlib.Core.Bool.{true, cond}
-use mathlib.Core.List.{List, [], _∷_, _++_, map, zipWith}
-use Prim.Native.Nat.{ℕ, suc}
-use lib.ListN.{length, getD, length-map}
-use lib.Seq.{ext-getD}
+use Rattle.kit.specs.Names.{_≡_, refl, ap, ap₂, sym, _∙_, fun-ext, subst, true, cond, List, [], _∷_, _++_, map, zipWith, ℕ, suc, length}
+use Rattle.kit.specs.Names.{getD, length-map, ext-getD}
 use Rattle.definitions.specs.ContractFile.{boolean, FieldOwner, toEveryone, toKey, toFinal, finalName, Field, Scope, fieldAt, isFinal, isOfType}
 use Rattle.definitions.specs.Original.{numbersFrom, placeCount, perPlace, position, finalAddress, addressIn, Reader, anyone, only, placeReader, placeReaders}
 use Rattle.definitions.specs.Ledger.{Content, plainNumber, openedNumber, contentAt, Form, fits, allFit}

@@ -1,13 +1,7 @@
 -- A deployed ledger is well formed, and its contents stand for the deployed numbers, which are typed.
-use mathlib.Core.Path.{_≡_, refl, ap, ap₂, sym, _∙_, subst}
-use mathlib.Core.Bool.{Bool, true, false, _&&_, cond, not, false≢true}
-use mathlib.Core.List.{List, [], _∷_, _++_, map, zipWith}
-use Prim.Native.Nat.{ℕ, zero, suc, _+_, _<_, _≤_}
-use native.Mathlib.Omega.{arith}
-use borrow.Author.Tests.{ltb-false, lt-ltb, eq-eqb}
-use lib.Dec.{eqb, ltb}
-use lib.ListN.{length, getD, drop, replicate, length-append, length-replicate}
-use lib.Seq.{getD-drop}
+use Rattle.kit.specs.Names.{_≡_, refl, ap, ap₂, sym, _∙_, subst, Bool, true, false, _&&_, cond, not, false≢true, List, [], _∷_, _++_, map}
+use Rattle.kit.specs.Names.{zipWith, ℕ, zero, suc, _+_, _<_, _≤_, arith, eqb, ltb, length, getD, drop, replicate, length-append}
+use Rattle.kit.specs.Names.{length-replicate, getD-drop, ltb-false, lt-ltb, eq-eqb}
 use Rattle.definitions.specs.Basics.{any, countIf, firstThatHolds}
 use Rattle.definitions.specs.ContractFile.{DataType, boolean, uint, address, Shape, plainField, finalField, mapping, Field, fieldAt, isFinal, isMapping, isOfType, contractIn}
 use Rattle.definitions.specs.Numbers.{checkNumber, orElse}

@@ -1,12 +1,6 @@
 -- What is written keeps the environment: the places stay typed, and finals are never written.
-use mathlib.Core.Path.{_≡_, refl, _∙_}
-use mathlib.Core.Bool.{Bool, true, false, _&&_, cond}
-use mathlib.Core.List.{List, []}
-use Prim.Native.Nat.{ℕ, _<_}
-use borrow.Author.Tests.{ltb-true, ltb-false, eqb-true, eqb-false}
-use lib.Dec.{eqb, ltb}
-use lib.ListN.{length, getD, set, length-set}
-use lib.Seq.{getD-set-same, getD-set-other, set-out}
+use Rattle.kit.specs.Names.{_≡_, refl, _∙_, Bool, true, false, _&&_, cond, List, [], ℕ, _<_, eqb, ltb, length, getD, set, length-set}
+use Rattle.kit.specs.Names.{getD-set-same, getD-set-other, set-out, ltb-true, ltb-false, eqb-true, eqb-false}
 use Rattle.definitions.specs.Basics.{isTrue}
 use Rattle.definitions.specs.ContractFile.{boolean, Name, Statement, skip, sequence, assignField, assignEntry, require, conditional, Scope, fieldAt, isFinal, isOfType}
 use Rattle.definitions.specs.Owners.{Links, linksOfCondition, linksAfter}

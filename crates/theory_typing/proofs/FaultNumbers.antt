@@ -1,12 +1,6 @@
 -- Every fault of a contract is one of the numbers 8 to 15, so where none of those sentences holds there are no faults.
-use mathlib.Core.Path.{_≡_, refl, sym}
-use mathlib.Core.Bool.{Bool, true, false, _&&_, _||_, not, false≢true}
-use mathlib.Core.List.{List, [], _∷_, _++_, map}
-use mathlib.Core.Option.{none}
-use Prim.Native.Nat.{ℕ, suc}
-use borrow.Author.Tests.{eqb-true, eq-eqb}
-use lib.Dec.{eqb, leb}
-use lib.ListN.{length, getD}
+use Rattle.kit.specs.Names.{_≡_, refl, sym, Bool, true, false, _&&_, _||_, not, false≢true, List, [], _∷_, _++_, map, none, ℕ, suc, eqb}
+use Rattle.kit.specs.Names.{leb, length, getD, eqb-true, eq-eqb}
 use Rattle.definitions.specs.Basics.{any, flatMap, isZero}
 use Rattle.definitions.specs.ContractFile.{DataType, boolean, address, Owner, Expression, constant, me, field, entry, parameter, operator, negation, reveal, Statement, skip, sequence, assignField, assignEntry, require, conditional, Field, Contract, Scope, fieldAt, sameType, shapeCode, isFinal, isMapping, isDivision, operandsFit, typeOf}
 use Rattle.definitions.specs.Owners.{Links, noLinks, isReader, placeOwner, nameOf, ownerOf, isPublic, linksOfCondition, linksAfter}

@@ -1,12 +1,5 @@
 -- What an expression or a statement without faults fulfils, kind by kind: numbers 8 to 15.
-use mathlib.Core.Path.{_≡_, refl}
-use mathlib.Core.Bool.{Bool, true, false, _&&_, _||_, not, false≢true}
-use mathlib.Core.List.{List, [], _++_}
-use mathlib.Core.Option.{none}
-use Prim.Native.Nat.{ℕ, _<_}
-use lib.Dec.{leb}
-use lib.ListN.{length}
-use borrow.Author.Tests.{leb-false}
+use Rattle.kit.specs.Names.{_≡_, refl, Bool, true, false, _&&_, _||_, not, false≢true, List, [], _++_, none, ℕ, _<_, leb, length, leb-false}
 use Rattle.definitions.specs.ContractFile.{DataType, boolean, uint, address, Owner, Operator, Expression, field, entry, parameter, operator, negation, reveal, Statement, sequence, assignField, assignEntry, require, conditional, Scope, fieldAt, sameType, shapeCode, isMapping, isDivision, operandsFit, typeOf}
 use Rattle.definitions.specs.Owners.{Links, isReader, placeOwner, nameOf, ownerOf, isPublic, linksOfCondition, linksAfter}
 use Rattle.definitions.specs.Numbers.{fault, mayBePut, isTagged, isNone, ownerFits, entryFaults, readFault, expressionFaults, conditionFaults, valueFaults, statementFaults}

@@ -1,12 +1,6 @@
 -- A content that fits its form stands for its opened number, which has the form's type; and the reverse.
-use mathlib.Core.Path.{_≡_, refl, ap}
-use mathlib.Core.Bool.{Bool, true, false≢true}
-use mathlib.Core.List.{List, [], _∷_, map, zipWith}
-use Prim.Native.Nat.{ℕ, zero, suc}
-use native.Mathlib.Omega.{arith}
-use borrow.Author.Tests.{eqb-true, eq-eqb}
-use lib.Dec.{eqb}
-use lib.ListN.{length, getD, List·getD-map}
+use Rattle.kit.specs.Names.{_≡_, refl, ap, Bool, true, false≢true, List, [], _∷_, map, zipWith, ℕ, zero, suc, arith, eqb, length, getD}
+use Rattle.kit.specs.Names.{List·getD-map, eqb-true, eq-eqb}
 use Rattle.definitions.specs.ContractFile.{DataType, boolean, isOfType}
 use Rattle.definitions.specs.Original.{Reader, anyone, only}
 use Rattle.definitions.specs.Ledger.{Content, plain, cell, plainNumber, openedNumber, contentAt, Form, fits, allFit}

@@ -1,10 +1,5 @@
 -- Linked names have one address in a call whose requires have held.
-use mathlib.Core.Path.{_≡_, refl, ap, sym, _∙_}
-use mathlib.Core.Bool.{Bool, true, false, _&&_, _||_, false≢true}
-use mathlib.Core.List.{List}
-use mathlib.Core.Option.{Option, none, some}
-use Prim.Native.Nat.{ℕ}
-use lib.Dec.{eqb}
+use Rattle.kit.specs.Names.{_≡_, refl, ap, sym, _∙_, Bool, true, false, _&&_, _||_, false≢true, List, Option, none, some, ℕ, eqb, eqb-true}
 use Rattle.definitions.specs.Basics.{bit, isTrue}
 use Rattle.definitions.specs.ContractFile.{Name, meName, finalName, parameterName, sameName, plus, minus, times, divide, remainder, less, lessOrEqual, equal, unequal, conjunction, disjunction, Expression, constant, me, field, entry, parameter, operator, negation, reveal, Scope}
 use Rattle.definitions.specs.Owners.{Links, noLinks, withLink, withLinkOf, linkedInBoth, nameOf, linksOfCondition}
@@ -12,7 +7,6 @@ use Rattle.definitions.specs.Original.{value}
 use Rattle.theory_laws.proofs.TruthValues.{and-left, and-right}
 use Rattle.theory_relations.specs.Environment.{Environment}
 use Rattle.theory_typing.proofs.Values.{name-address}
-use borrow.Author.Tests.{eqb-true}
 
 or-elimination : {b : Bool} {P : Type 0} (a : Bool) → (a ≡ true → P) → (b ≡ true → P) → a || b ≡ true → P
 or-elimination true f g e = f refl

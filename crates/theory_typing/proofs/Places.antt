@@ -1,11 +1,6 @@
 -- Laws of the places of a contract: what is asked of each place stands at the place's position.
-use mathlib.Core.Path.{_≡_, refl, ap, sym, _∙_}
-use mathlib.Core.Bool.{Bool, true, false, cond, true≢false, false≢true}
-use mathlib.Core.List.{List, [], _∷_, _++_, map}
-use Prim.Native.Nat.{ℕ, zero, suc, _+_, _<_}
-use native.Mathlib.Omega.{arith}
-use lib.ListN.{length, getD, length-append, length-map, List·getD-append}
-use lib.Seq.{getD-append-add}
+use Rattle.kit.specs.Names.{_≡_, refl, ap, sym, _∙_, Bool, true, false, cond, true≢false, false≢true, List, [], _∷_, _++_, map, ℕ, zero}
+use Rattle.kit.specs.Names.{suc, _+_, _<_, arith, length, getD, length-append, length-map, List·getD-append, getD-append-add}
 use Rattle.definitions.specs.ContractFile.{boolean, Shape, plainField, finalField, mapping, toEveryone, Field, fieldAt, shapeCode, isFinal, isMapping}
 use Rattle.definitions.specs.Original.{numbersFrom, placeCount, perPlace, position}
 use Rattle.definitions.specs.Basics.{isZero}

@@ -1,10 +1,5 @@
 -- The reader of a place that is read or written is the reader of its owner: the key of a tagged mapping is its name's address.
-use mathlib.Core.Path.{_≡_, refl, ap, _∙_}
-use mathlib.Core.Bool.{true, false, true≢false}
-use mathlib.Core.List.{List, []}
-use mathlib.Core.Option.{Option, none, some, Option·none-ne-some}
-use Prim.Native.Nat.{ℕ, _<_}
-use lib.ListN.{getD}
+use Rattle.kit.specs.Names.{_≡_, refl, ap, _∙_, true, false, true≢false, List, [], Option, none, some, Option·none-ne-some, ℕ, _<_, getD}
 use Rattle.definitions.specs.ContractFile.{Name, finalName, FieldOwner, toEveryone, toKey, toFinal, Expression, field, entry, assignField, assignEntry, Field, Scope, fieldAt, isMapping}
 use Rattle.definitions.specs.Owners.{Links, placeOwner, nameOf, ownerOf}
 use Rattle.definitions.specs.Numbers.{expressionFaults, statementFaults, isTagged, isNone}

@@ -1,10 +1,6 @@
 -- What number 3 gives: the constants of the trees that nodes make fit, and so do the fields.
-use mathlib.Core.Path.{_≡_, refl}
-use mathlib.Core.Bool.{Bool, true, false, _&&_, _||_, cond, not, false≢true}
-use mathlib.Core.List.{List, [], _∷_, map}
-use Prim.Native.Nat.{ℕ, zero, suc, _-_}
-use borrow.Author.Tests.{eqb-true}
-use lib.Dec.{eqb, leb}
+use Rattle.kit.specs.Names.{_≡_, refl, Bool, true, false, _&&_, _||_, cond, not, false≢true, List, [], _∷_, map, ℕ, zero, suc, _-_, eqb}
+use Rattle.kit.specs.Names.{leb, eqb-true}
 use Rattle.definitions.specs.Basics.{any, isZero}
 use Rattle.definitions.specs.ContractFile.{DataType, address, plainField, finalField, mapping, toEveryone, toKey, toFinal, Expression, Statement, Field, fieldAt, isFinal, isMapping, FieldRecord, NodeRecord, dataTypeOf, shapeOf, fieldOwnerOfCode, isFinalCode, fieldOf, Kind, constantKind, meKind, fieldKind, entryKind, parameterKind, operatorKind, negationKind, revealKind, skipKind, sequenceKind, assignFieldKind, assignEntryKind, requireKind, conditionalKind, noKind, kindOf, constantValue, nodeOfKind, nodeOf, nodeAt, expressionOf, statementOf, statementAt, isOfType}
 use Rattle.definitions.specs.Numbers.{fieldInTables, kindInTables, nodeInTables, isTagged}

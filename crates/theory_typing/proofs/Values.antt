@@ -1,14 +1,7 @@
 -- Type soundness of the original: values have their types, keys are in range, and the places stay typed.
-use mathlib.Core.Path.{_≡_, refl, ap, _∙_}
-use mathlib.Core.Bool.{Bool, true, false, _&&_, _||_, cond, not}
-use mathlib.Core.List.{List, []}
-use mathlib.Core.Option.{none, some, Option·none-ne-some, Option·some-injective}
-use Prim.Native.Nat.{ℕ, _+_, _*_, _-_, _/_, _%_, _<_, _≤_}
-use native.Mathlib.Omega.{arith}
-use native.Mathlib.Nat.{mod-lt, mod-le, div-le-self}
-use borrow.Author.Tests.{ltb-true, lt-ltb}
-use lib.Dec.{ltb, leb, eqb}
-use lib.ListN.{getD}
+use Rattle.kit.specs.Names.{_≡_, refl, ap, _∙_, Bool, true, false, _&&_, _||_, cond, not, List, [], none, some, Option·none-ne-some}
+use Rattle.kit.specs.Names.{Option·some-injective, ℕ, _+_, _*_, _-_, _/_, _%_, _<_, _≤_, arith, mod-lt, mod-le, div-le-self, ltb, leb, eqb}
+use Rattle.kit.specs.Names.{getD, ltb-true, lt-ltb}
 use Rattle.definitions.specs.Basics.{bit}
 use Rattle.definitions.specs.ContractFile.{DataType, boolean, uint, address, Name, meName, finalName, parameterName, Operator, plus, minus, times, divide, remainder, less, lessOrEqual, equal, unequal, conjunction, disjunction, Expression, constant, me, field, entry, parameter, operator, negation, reveal, assignEntry, Scope, fieldAt, parameterAt, sameType, isFinal, isOfType, operandsFit, resultType, typeOf}
 use Rattle.definitions.specs.Owners.{Links, nameOf, isPublicAddress}

@@ -1,10 +1,5 @@
 -- What a well-formed ledger and an accepted call give: contents that stand for their opened numbers, and the call's environment.
-use mathlib.Core.Path.{_≡_, _∙_, subst}
-use mathlib.Core.Bool.{true, _&&_, _||_}
-use mathlib.Core.List.{List, map}
-use Prim.Native.Nat.{ℕ}
-use borrow.Author.Tests.{eqb-true}
-use lib.ListN.{length, getD, length-map}
+use Rattle.kit.specs.Names.{_≡_, _∙_, subst, true, _&&_, _||_, List, map, ℕ, length, getD, length-map, eqb-true}
 use Rattle.definitions.specs.Basics.{isZero}
 use Rattle.definitions.specs.ContractFile.{boolean, Field, fieldAt, functionAt, scopeOf, isFinal, isOfType, contractIn}
 use Rattle.definitions.specs.Numbers.{checkNumber}

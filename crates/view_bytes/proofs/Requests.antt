@@ -1,12 +1,6 @@
 -- The cases of a request for a view.
-use mathlib.Core.Path.{_≡_, refl, ap, sym, _∙_}
-use mathlib.Core.Bool.{Bool, true, false, not, _||_}
-use mathlib.Core.List.{List, _++_}
-use Prim.Native.Nat.{ℕ, _<_, _≤_}
-use native.Mathlib.Nat.{zero-add}
-use borrow.Author.Tests.{lt-ltb, le-ltb}
-use lib.Dec.{ltb}
-use lib.ListN.{length, drop}
+use Rattle.kit.specs.Names.{_≡_, refl, ap, sym, _∙_, Bool, true, false, not, _||_, List, _++_, ℕ, _<_, _≤_, zero-add, ltb, length, drop}
+use Rattle.kit.specs.Names.{lt-ltb, le-ltb}
 use Rattle.memory_buffer.specs.Buffer.{stored}
 use Rattle.definitions.specs.Basics.{firstThatHolds}
 use Rattle.definitions.specs.Ledger as ledger

@@ -1,10 +1,6 @@
 -- The parts of a view's bytes one behind another, and the cases of a request.
-use mathlib.Core.Path.{_≡_, refl, ap, sym, _∙_}
-use mathlib.Core.List.{List, [], _∷_, _++_, map, append-assoc}
-use Prim.Native.Nat.{ℕ, _+_, _*_, _≤_, min}
-use native.Mathlib.Omega.{arith}
-use lib.ListN.{length, set, length-append}
-use lib.Seq.{sets-eq}
+use Rattle.kit.specs.Names.{_≡_, refl, ap, sym, _∙_, List, [], _∷_, _++_, map, append-assoc, ℕ, _+_, _*_, _≤_, min, arith, length, set}
+use Rattle.kit.specs.Names.{length-append, sets-eq}
 use Rattle.memory_buffer.specs.Buffer.{stored}
 use Rattle.memory_buffer.proofs.Storing.{stored-then}
 use Rattle.definitions.specs.Basics.{flatMap, twoBytes}

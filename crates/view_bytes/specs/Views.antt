@@ -1,8 +1,5 @@
 -- The head of a view, and what a request for a view gives.
-use mathlib.Core.Path.{_≡_}
-use mathlib.Core.List.{List, [], _∷_, _++_}
-use Prim.Native.Nat.{ℕ, _≤_}
-use lib.ListN.{length}
+use Rattle.kit.specs.Names.{_≡_, List, [], _∷_, _++_, ℕ, _≤_, length}
 use Rattle.definitions.specs.Basics.{twoBytes}
 use Rattle.definitions.specs.Ledger as ledger
 use Rattle.definitions.specs.View.{viewBytes, viewNumber, viewLength, outputAfterView}

@@ -1,9 +1,7 @@
 // A party's view of a ledger, as bytes over a lent output.
 use ledger_struct::Ledger;
 use memory_answer::Answer;
-ghost use mathlib.Core.Path.{_≡_};
-ghost use lib.ListN.{length};
-ghost use Prim.Native.Nat.{_+_, _*_, _≤_};
+ghost use Rattle.kit.specs.Names.{_≡_, _+_, _*_, _≤_, length};
 ghost use Rattle.memory_buffer.specs.Buffer.{stored};
 ghost use Rattle.definitions.specs.Ledger.{isWellFormed};
 ghost use Rattle.definitions.specs.View.{viewBytes};

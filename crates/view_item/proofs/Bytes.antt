@@ -1,11 +1,5 @@
 -- The bytes of one item: ten written one after another, and what a party is shown.
-use mathlib.Core.Path.{_≡_, refl}
-use mathlib.Core.List.{List, [], _∷_}
-use Prim.Native.Nat.{ℕ, suc, _+_, _≤_}
-use native.Mathlib.Omega.{arith}
-use borrow.Author.Tests.{eq-eqb, ne-eqb}
-use lib.ListN.{set, length}
-use lib.Seq.{sets-eq}
+use Rattle.kit.specs.Names.{_≡_, refl, List, [], _∷_, ℕ, suc, _+_, _≤_, arith, set, length, sets-eq, eq-eqb, ne-eqb}
 use Rattle.memory_buffer.specs.Buffer.{stored}
 use Rattle.definitions.specs.Ledger as ledger
 use Rattle.definitions.specs.View.{Item, itemFor, itemBytes}

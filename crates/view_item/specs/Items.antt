@@ -1,6 +1,5 @@
 -- The item that a mark and a cell of the code make, and the bytes that contents show a party.
-use mathlib.Core.List.{List, map}
-use Prim.Native.Nat.{ℕ}
+use Rattle.kit.specs.Names.{List, map, ℕ}
 use Rattle.definitions.specs.Basics.{flatMap}
 use Rattle.definitions.specs.Ledger as ledger
 use Rattle.definitions.specs.View.{Item, itemFor, itemBytes}

@@ -1,8 +1,6 @@
 // One item of a view, ten bytes, written over a lent output.
 use ledger_contents::Cell;
-ghost use mathlib.Core.Path.{_≡_};
-ghost use lib.ListN.{length};
-ghost use Prim.Native.Nat.{_+_, _≤_};
+ghost use Rattle.kit.specs.Names.{_≡_, _+_, _≤_, length};
 ghost use Rattle.memory_buffer.specs.Buffer.{stored};
 ghost use Rattle.definitions.specs.View.{itemBytes};
 ghost use Rattle.view_item.specs.Items.{itemOf};

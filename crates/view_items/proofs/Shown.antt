@@ -1,11 +1,7 @@
 -- Steps of the loop that writes items one behind another.
-use mathlib.Core.Path.{_≡_, refl, ap, sym, _∙_}
-use mathlib.Core.List.{List, [], _∷_, _++_, append-assoc}
-use Prim.Native.Nat.{ℕ, _+_, _*_, _<_, _≤_, min}
-use native.Mathlib.Numerals.{add-one}
-use native.Mathlib.Omega.{arith}
-use lib.ListN.{length, getD, take, drop, drop-of-length-le, length-append, length-map, length-take, List·getD-map}
-use lib.Seq.{drop-cons, getD-take}
+use Rattle.kit.specs.Names.{_≡_, refl, ap, sym, _∙_, List, [], _∷_, _++_, append-assoc, ℕ, _+_, _*_, _<_, _≤_, min, arith, add-one, length}
+use Rattle.kit.specs.Names.{getD, take, drop, drop-of-length-le, length-append, length-map, length-take, List·getD-map, drop-cons}
+use Rattle.kit.specs.Names.{getD-take}
 use Rattle.theory_laws.proofs.Lists.{getD-inside}
 use Rattle.memory_buffer.specs.Buffer.{stored}
 use Rattle.memory_buffer.proofs.Storing.{stored-nothing, stored-then}

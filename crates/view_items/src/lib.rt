@@ -1,9 +1,7 @@
 // The items of a view, ten bytes each, written over a lent output.
 use ledger_contents::Place;
 use view_content::put_content;
-ghost use mathlib.Core.Path.{_≡_};
-ghost use lib.ListN.{length};
-ghost use Prim.Native.Nat.{_+_, _*_, _≤_, min};
+ghost use Rattle.kit.specs.Names.{_≡_, _+_, _*_, _≤_, min, length};
 ghost use Rattle.memory_buffer.specs.Buffer.{stored};
 ghost use Rattle.ledger_struct.specs.Ledgers.{contentsIn};
 ghost use Rattle.view_item.specs.Items.{shown};

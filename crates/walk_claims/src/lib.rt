@@ -10,7 +10,7 @@ use ledger_places::number_at;
 use walk_contents::is_cell_of;
 use walk_contents::is_plain;
 use walk_contents::opens_for;
-ghost use mathlib.Core.Path.{_≡_};
+ghost use Rattle.kit.specs.Names.{_≡_};
 ghost use Rattle.definitions.specs.ContractFile.{ownerOfCode};
 ghost use Rattle.definitions.specs.Original.{only, readerOf};
 ghost use Rattle.definitions.specs.Ledger.{contentAt, isContentOf, claimHolds};

@@ -1,12 +1,6 @@
 -- A function's constraints, written to flat numbers beside their circuits' nodes, read back.
-use mathlib.Core.Path.{_≡_, refl, ap, ap₂, sym, _∙_}
-use mathlib.Core.List.{List, [], _∷_, _++_, append-assoc, append-nil}
-use Prim.Native.Nat.{ℕ, suc, _+_, _-_, _/_, _<_, _≤_}
-use native.Mathlib.Nat.{add-zero}
-use native.Mathlib.Omega.{arith}
-use borrow.Author.Tests.{ne-eqb, lt-ltb, le-ltb, le-leb}
-use lib.ListN.{length, getD, length-append}
-use lib.Seq.{getD-append-add}
+use Rattle.kit.specs.Names.{_≡_, refl, ap, ap₂, sym, _∙_, List, [], _∷_, _++_, append-assoc, append-nil, ℕ, suc, _+_, _-_, _/_, _<_, _≤_}
+use Rattle.kit.specs.Names.{arith, add-zero, length, getD, length-append, getD-append-add, ne-eqb, lt-ltb, le-ltb, le-leb}
 use Rattle.definitions.specs.Basics.{flatMap}
 use Rattle.definitions.specs.ContractFile.{Owner, everyone, ownedBy, meName, finalName, parameterName, NodeRecord, ownerOfCode, ownerCode}
 use Rattle.definitions.specs.Rewriting.{Circuit, Claim, equals, opensForCaller, Guard, always, under, Constraint, Tree, size, sizes, numbered, numberedAll, circuitTree, claimTrees, guardNumber}

@@ -2,9 +2,7 @@
 // address if a cell.": one constraint, under its guard.
 use ledger_contents::plain_at;
 use walk_claims::claim_holds;
-ghost use mathlib.Core.Path.{_≡_};
-ghost use Prim.Native.Nat.{_+_, _≤_};
-ghost use lib.ListN.{length};
+ghost use Rattle.kit.specs.Names.{_≡_, _+_, _≤_, length};
 ghost use Rattle.definitions.specs.Ledger.{isSet};
 ghost use Rattle.ledger_contents.specs.Contents.{contentsOf};
 ghost use Rattle.write_trees.specs.Table.{tableOf, Readable};

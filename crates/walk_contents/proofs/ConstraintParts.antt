@@ -1,12 +1,6 @@
 -- Steps of the definitions as code takes them: an owner code's address, a constraint's parts, and constraints one after another.
-use mathlib.Core.Path.{_≡_, refl, sym, _∙_}
-use mathlib.Core.Bool.{Bool, true, false, _&&_, _||_, not}
-use mathlib.Core.List.{List}
-use Prim.Native.Nat.{ℕ, zero, suc, _+_, _-_, _/_, _<_, _≤_}
-use native.Mathlib.Omega.{arith}
-use borrow.Author.Tests.{eq-eqb, ne-eqb, lt-ltb, le-ltb, le-leb, lt-leb}
-use lib.Dec.{eqb}
-use lib.ListN.{length, getD}
+use Rattle.kit.specs.Names.{_≡_, refl, sym, _∙_, Bool, true, false, _&&_, _||_, not, List, ℕ, zero, suc, _+_, _-_, _/_, _<_, _≤_, arith}
+use Rattle.kit.specs.Names.{eqb, length, getD, eq-eqb, ne-eqb, lt-ltb, le-ltb, le-leb, lt-leb}
 use Rattle.definitions.specs.Basics.{all}
 use Rattle.definitions.specs.ContractFile.{ownedBy, parameterName, NodeRecord, ownerOfCode, isFinalCode}
 use Rattle.definitions.specs.Original.{anyone, only, readerOf}

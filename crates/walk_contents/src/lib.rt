@@ -1,9 +1,7 @@
 // 01, Runs and views: a content against a value, an address, the caller.
 use ledger_contents::Cell;
 use ledger_contents::Content;
-ghost use mathlib.Core.Path.{_≡_};
-ghost use mathlib.Core.Bool.{_&&_};
-ghost use lib.Dec.{eqb};
+ghost use Rattle.kit.specs.Names.{_≡_, _&&_, eqb};
 ghost use Rattle.definitions.specs.Original.{anyone, only};
 ghost use Rattle.definitions.specs.Ledger.{isContentOf, opensFor};
 ghost use Rattle.ledger_contents.specs.Contents.{contentOfCode};

@@ -1,10 +1,5 @@
 -- What an expression gives, by its kind, as code learns it from what its parts give.
-use mathlib.Core.Path.{_≡_, refl, ap, _∙_}
-use mathlib.Core.Bool.{Bool, true, false, _&&_, not}
-use mathlib.Core.List.{List}
-use Prim.Native.Nat.{ℕ}
-use borrow.Author.Tests.{ne-eqb}
-use lib.ListN.{getD}
+use Rattle.kit.specs.Names.{_≡_, refl, ap, _∙_, Bool, true, false, _&&_, not, List, ℕ, getD, ne-eqb}
 use Rattle.definitions.specs.ContractFile.{DataType, isDivision, operatorOf}
 use Rattle.definitions.specs.Original.{position, operate, operates, negate}
 use Rattle.definitions.specs.Rewriting.{BodyExpression}

@@ -1,8 +1,5 @@
 -- What an expression of a written body gives on flat contents: whether it is walked to its end, and its content.
-use mathlib.Core.Path.{_≡_}
-use mathlib.Core.Bool.{Bool}
-use mathlib.Core.List.{List}
-use Prim.Native.Nat.{ℕ}
+use Rattle.kit.specs.Names.{_≡_, Bool, List, ℕ}
 use Rattle.definitions.specs.Rewriting.{BodyExpression}
 use Rattle.definitions.specs.Ledger as ledger
 use Rattle.file_accepted.specs.Context.{fieldsIn}

@@ -1,9 +1,5 @@
 -- The last node of those that stand at the front of lent memory.
-use mathlib.Core.List.{List}
-use Prim.Native.Nat.{ℕ, _*_, _-_, _<_, _≤_}
-use native.Mathlib.Omega.{arith}
-use lib.ListN.{length, take}
-use lib.Seq.{length-take-le}
+use Rattle.kit.specs.Names.{List, ℕ, _*_, _-_, _<_, _≤_, arith, length, take, length-take-le}
 use Rattle.write_trees.specs.Table.{countOf}
 
 pub last-below : (nodes : List ℕ) (count : ℕ) → 0 < count → 8 * count ≤ length nodes → count - 1 < countOf (take (8 * count) nodes)

@@ -1,10 +1,5 @@
 -- The steps of walking a function: its log, its nodes and constraints, and the walk of what is written there.
-use mathlib.Core.Path.{_≡_, ap, _∙_}
-use mathlib.Core.Bool.{Bool}
-use mathlib.Core.List.{List}
-use Prim.Native.Nat.{ℕ, _*_, _-_, _/_}
-use native.Mathlib.Omega.{arith}
-use lib.ListN.{length, take}
+use Rattle.kit.specs.Names.{_≡_, ap, _∙_, Bool, List, ℕ, _*_, _-_, _/_, arith, length, take}
 use Rattle.definitions.specs.Rewriting.{WrittenFunction, sizes, numberedAll, commandTree, functionTrees}
 use Rattle.definitions.specs.Ledger as ledger
 use Rattle.memory_buffer.proofs.Storing.{front-stored}

@@ -1,7 +1,5 @@
 -- What walking one function of a file needs.
-use mathlib.Core.List.{List}
-use Prim.Native.Nat.{ℕ, _+_, _*_, _<_, _≤_}
-use lib.ListN.{length, take}
+use Rattle.kit.specs.Names.{List, ℕ, _+_, _*_, _<_, _≤_, length, take}
 use Rattle.definitions.specs.ContractFile.{fieldCount, nodeCount}
 use Rattle.write_trees.specs.Table.{Readable}
 use Rattle.write_room.specs.Rooms.{mostBytes}

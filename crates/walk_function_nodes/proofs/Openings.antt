@@ -1,10 +1,6 @@
 -- The constraints of private parameters as flat numbers, one behind another, and as the definitions' openings have them.
-use mathlib.Core.Path.{_≡_, refl, ap, sym, _∙_}
-use mathlib.Core.List.{List, [], _∷_, _++_}
-use Prim.Native.Nat.{ℕ, zero, suc, _+_, _*_, _<_, _≤_}
-use native.Mathlib.Nat.{add-zero, zero-add}
-use native.Mathlib.Omega.{arith}
-use lib.ListN.{length}
+use Rattle.kit.specs.Names.{_≡_, refl, ap, sym, _∙_, List, [], _∷_, _++_, ℕ, zero, suc, _+_, _*_, _<_, _≤_, arith, add-zero, zero-add}
+use Rattle.kit.specs.Names.{length}
 use Rattle.definitions.specs.Basics.{flatMap}
 use Rattle.definitions.specs.Rewriting.{always, Constraint, openings, heldUnder, sizes, claimTrees}
 use Rattle.memory_buffer.specs.Buffer.{stored}

@@ -1,10 +1,5 @@
 -- A function's constraints and circuits as code puts them: those of its private parameters, then those of its body's events.
-use mathlib.Core.Path.{_≡_, refl, ap, sym, _∙_}
-use mathlib.Core.Bool.{Bool, true, false, cond}
-use mathlib.Core.List.{List, [], _∷_, _++_}
-use Prim.Native.Nat.{ℕ, suc, _+_, _*_, _≤_}
-use native.Mathlib.Omega.{arith}
-use lib.ListN.{length}
+use Rattle.kit.specs.Names.{_≡_, refl, ap, sym, _∙_, Bool, true, false, cond, List, [], _∷_, _++_, ℕ, suc, _+_, _*_, _≤_, arith, length}
 use Rattle.definitions.specs.Basics.{flatMap}
 use Rattle.definitions.specs.ContractFile.{Parameter, nodeCount}
 use Rattle.definitions.specs.Rewriting.{always, Constraint, WrittenFunction, privateParameters, openings, heldUnder, Tree, size, sizes, numberedAll, nodeBytes, commandTree, claimTrees, functionTrees}

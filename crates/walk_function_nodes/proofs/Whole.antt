@@ -1,12 +1,5 @@
 -- The circuits' nodes and then the body's are the function's.
-use mathlib.Core.Path.{_≡_, ap, sym, _∙_}
-use mathlib.Core.Bool.{Bool}
-use mathlib.Core.List.{List, [], _∷_, _++_}
-use Prim.Native.Nat.{ℕ, _+_, _*_, _≤_}
-use native.Mathlib.Nat.{zero-add}
-use native.Mathlib.Omega.{arith}
-use lib.Dec.{ltb}
-use lib.ListN.{length}
+use Rattle.kit.specs.Names.{_≡_, ap, sym, _∙_, Bool, List, [], _∷_, _++_, ℕ, _+_, _*_, _≤_, arith, zero-add, ltb, length}
 use Rattle.definitions.specs.Basics.{flatMap}
 use Rattle.definitions.specs.Rewriting.{WrittenFunction, sizes, numberedAll, nodeBytes, commandTree, functionTrees}
 use Rattle.write_nodes.proofs.TreeNodes.{one-tree}

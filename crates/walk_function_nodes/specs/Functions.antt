@@ -1,8 +1,5 @@
 -- What writing one function's nodes and constraints needs and owes.
-use mathlib.Core.Path.{_≡_}
-use mathlib.Core.List.{List, [], _++_}
-use Prim.Native.Nat.{ℕ, zero, suc, _+_, _*_, _≤_}
-use lib.ListN.{length}
+use Rattle.kit.specs.Names.{_≡_, List, [], _++_, ℕ, zero, suc, _+_, _*_, _≤_, length}
 use Rattle.definitions.specs.Basics.{flatMap}
 use Rattle.definitions.specs.ContractFile.{nodeCount}
 use Rattle.definitions.specs.Rewriting.{WrittenFunction, Tree, sizes, numberedAll, nodeBytes, claimTrees, functionTrees}

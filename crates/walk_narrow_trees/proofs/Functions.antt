@@ -1,10 +1,6 @@
 -- A function of a file as it is written: its trees are narrow, its owners have codes, and what is written of it reads back.
-use mathlib.Core.Path.{_≡_, ap, _∙_}
-use mathlib.Core.Bool.{Bool, true, false, cond}
-use mathlib.Core.List.{List, [], _∷_, _++_, append-nil}
-use Prim.Native.Nat.{ℕ, suc, _+_, _-_, _<_, _≤_}
-use native.Mathlib.Omega.{arith}
-use lib.ListN.{length, length-append}
+use Rattle.kit.specs.Names.{_≡_, ap, _∙_, Bool, true, false, cond, List, [], _∷_, _++_, append-nil, ℕ, suc, _+_, _-_, _<_, _≤_, arith}
+use Rattle.kit.specs.Names.{length, length-append}
 use Rattle.definitions.specs.Basics.{flatMap}
 use Rattle.definitions.specs.ContractFile.{Field, Parameter, Function, Scope}
 use Rattle.definitions.specs.Rewriting.{BodyExpression, Command, Claim, equals, opensForCaller, always, Constraint, WrittenFunction, privateParameters, openings, heldUnder, withVerify, rewriteStatement, rewriteFunction, Tree, sizes, numberedAll, nodeBytes, commandTree, claimTrees, functionTrees}

@@ -1,10 +1,5 @@
 -- The trees of a file's nodes are narrow: their numbers are bytes, their constants are of their types, and owners have codes by the tables.
-use mathlib.Core.Path.{_≡_}
-use mathlib.Core.Bool.{true, _&&_}
-use mathlib.Core.List.{List}
-use mathlib.Core.Option.{Option, none}
-use Prim.Native.Nat.{ℕ, _+_, _*_, _<_}
-use lib.Dec.{leb}
+use Rattle.kit.specs.Names.{_≡_, true, _&&_, List, Option, none, ℕ, _+_, _*_, _<_, leb}
 use Rattle.definitions.specs.Basics.{isZero}
 use Rattle.definitions.specs.ContractFile.{Owner, everyone, ownedBy, Name, meName, finalName, parameterName, Scope, fieldAt, NodeRecord, nodesAt, nodeRecord, dataTypeOf, ownerOfCode, isOfType, Kind, constantKind, meKind, fieldKind, entryKind, parameterKind, operatorKind, negationKind, revealKind, skipKind, sequenceKind, assignFieldKind, assignEntryKind, requireKind, conditionalKind, noKind, kindOf, constantValue, nodeOfKind, expressionOf, statementOf, statementAt}
 use Rattle.definitions.specs.Owners.{nameOf, placeOwner}

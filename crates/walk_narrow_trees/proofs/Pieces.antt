@@ -1,10 +1,6 @@
 -- A rewritten piece is narrow: its form, the steps that set its reads, and what is claimed of its variables. Each combinator of rewriting
 -- keeps that, where the variables' numbers fit two bytes.
-use mathlib.Core.Bool.{Bool, true, false, cond}
-use mathlib.Core.List.{List, [], _∷_, _++_}
-use Prim.Native.Nat.{ℕ, suc, _+_, _/_, _%_, _<_, _≤_}
-use native.Mathlib.Omega.{arith}
-use lib.ListN.{length, length-append}
+use Rattle.kit.specs.Names.{Bool, true, false, cond, List, [], _∷_, _++_, ℕ, suc, _+_, _/_, _%_, _<_, _≤_, arith, length, length-append}
 use Rattle.definitions.specs.ContractFile.{DataType, boolean, uint, address, dataTypeCode, Operator, plus, minus, times, divide, remainder, less, lessOrEqual, equal, unequal, conjunction, disjunction, operatorCode, Owner, everyone, ownedBy, Expression}
 use Rattle.definitions.specs.Rewriting.{BodyExpression, Circuit, Command, Variable, Claim, equals, opensForCaller, Step, Piece, Generator, kept, onePart, twoParts, supplying, reading, readForm, bodyTree, circuitTree, commandTree, leaf}
 use Rattle.write_trees.proofs.Narrowness.{NarrowTree, narrowLeaf}

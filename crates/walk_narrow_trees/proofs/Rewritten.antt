@@ -1,10 +1,5 @@
 -- What rewriting makes of narrow expressions and statements is narrow.
-use mathlib.Core.Bool.{_&&_}
-use mathlib.Core.List.{List, [], _∷_, _++_}
-use mathlib.Core.Option.{none}
-use Prim.Native.Nat.{ℕ, suc, _+_, _<_, _≤_}
-use native.Mathlib.Omega.{arith}
-use lib.ListN.{length, length-append}
+use Rattle.kit.specs.Names.{_&&_, List, [], _∷_, _++_, none, ℕ, suc, _+_, _<_, _≤_, arith, length, length-append}
 use Rattle.definitions.specs.ContractFile.{DataType, boolean, meName, Owner, everyone, ownedBy, Operator, operatorCode, Expression, Statement, Scope, fieldAt, isDivision}
 use Rattle.definitions.specs.Owners.{nameOf, placeOwner, isPublic, ownerOf}
 use Rattle.definitions.specs.Rewriting.{BodyExpression, Circuit, Command, Claim, Guard, under, Constraint, Step, Generator, kept, onePart, twoParts, operatorInCircuit, inBody, inCircuit, inPlace, stepsBefore, heldUnder, Passage, StatementGenerator, single, inSequence, inBranch, inBranches, rewriteStatement, bodyTree, circuitTree, commandTree}

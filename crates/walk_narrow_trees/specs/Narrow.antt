@@ -1,8 +1,5 @@
 -- Trees whose numbers fit the bytes that they are written to: fields and parameters of one byte, values of four, finals with an owner code.
-use mathlib.Core.List.{List}
-use mathlib.Core.Option.{none}
-use mathlib.Core.Path.{_≡_}
-use Prim.Native.Nat.{ℕ, _-_, _<_}
+use Rattle.kit.specs.Names.{_≡_, List, none, ℕ, _-_, _<_}
 use Rattle.definitions.specs.ContractFile.{Expression, Statement, Scope, fieldAt, byteAt}
 use Rattle.definitions.specs.Basics.{flatMap}
 use Rattle.definitions.specs.Rewriting.{WrittenFunction, sizes, numberedAll, nodeBytes, functionTrees}

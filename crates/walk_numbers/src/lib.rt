@@ -1,7 +1,7 @@
 // What an expression of a written body gives, and the number that a walk may use of it: no cell is opened.
 use ledger_contents::Content;
 use ledger_contents::plain_number;
-ghost use mathlib.Core.Path.{_≡_};
+ghost use Rattle.kit.specs.Names.{_≡_};
 ghost use Rattle.definitions.specs.Ledger.{plainNumber};
 ghost use Rattle.ledger_contents.specs.Contents.{contentOfCode};
 

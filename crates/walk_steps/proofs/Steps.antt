@@ -1,11 +1,6 @@
 -- Steps of a walk as code takes them: what one command makes of the flat contents, and how a sequence and an if hand the walk on.
-use mathlib.Core.Path.{_≡_, refl, ap, sym, _∙_}
-use mathlib.Core.Bool.{Bool, true, false, _&&_, cond, false≢true}
-use mathlib.Core.List.{List}
-use Prim.Native.Nat.{ℕ, _<_, _≤_}
-use native.Mathlib.Omega.{arith}
-use borrow.Author.Tests.{eqb-true, ne-eqb}
-use lib.ListN.{set}
+use Rattle.kit.specs.Names.{_≡_, refl, ap, sym, _∙_, Bool, true, false, _&&_, cond, false≢true, List, ℕ, _<_, _≤_, arith, set, eqb-true}
+use Rattle.kit.specs.Names.{ne-eqb}
 use Rattle.definitions.specs.Basics.{isTrue}
 use Rattle.definitions.specs.ContractFile.{NodeRecord}
 use Rattle.definitions.specs.Original.{position}

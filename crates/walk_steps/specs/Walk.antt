@@ -1,9 +1,5 @@
 -- What the walk of a command makes of flat contents: whether it completes, and the state after it.
-use mathlib.Core.Path.{_≡_}
-use mathlib.Core.Bool.{Bool, true, _||_}
-use mathlib.Core.List.{List}
-use Prim.Native.Nat.{ℕ}
-use lib.Dec.{eqb}
+use Rattle.kit.specs.Names.{_≡_, Bool, true, _||_, List, ℕ, eqb}
 use Rattle.definitions.specs.Rewriting.{Command, Constraint}
 use Rattle.definitions.specs.Ledger as ledger
 use Rattle.file_accepted.specs.Context.{fieldsIn}

@@ -1,7 +1,6 @@
 // 01, Runs and views: the constraints that a verify tests, all of them.
 use walk_constraints::constraint_holds;
-ghost use mathlib.Core.Path.{_≡_};
-ghost use Prim.Native.Nat.{_+_};
+ghost use Rattle.kit.specs.Names.{_≡_, _+_};
 ghost use Rattle.write_trees.specs.Table.{tableOf, Readable};
 ghost use Rattle.ledger_circuits.specs.Circuits.{constraintsFrom, allHold};
 

@@ -1,10 +1,5 @@
 -- A branch behind its guard, and the two branches of a conditional.
-use mathlib.Core.Path.{_≡_, refl, ap, sym, subst, _∙_}
-use mathlib.Core.List.{List, [], _∷_, _++_}
-use Prim.Native.Nat.{ℕ, suc, _+_, _*_, _-_, _<_, _≤_}
-use native.Mathlib.Numerals.{add-one}
-use native.Mathlib.Omega.{arith}
-use lib.ListN.{length}
+use Rattle.kit.specs.Names.{_≡_, refl, ap, sym, subst, _∙_, List, [], _∷_, _++_, ℕ, suc, _+_, _*_, _-_, _<_, _≤_, arith, add-one, length}
 use Rattle.definitions.specs.ContractFile.{boolean, NodeRecord, node}
 use Rattle.definitions.specs.Rewriting.{BodyExpression, Command, always, under, Tree, twoChildren, size, nodeBytes, bodyTree, commandTree}
 use Rattle.theory_trees.specs.Trees.{statementIn}

@@ -1,9 +1,5 @@
 -- A conditional behind the steps of its condition, from its condition and its branches.
-use mathlib.Core.Path.{_≡_, refl, ap, sym, subst, _∙_}
-use mathlib.Core.List.{List, _++_}
-use Prim.Native.Nat.{ℕ, _+_, _*_, _-_, _≤_}
-use native.Mathlib.Omega.{arith}
-use lib.ListN.{length, take}
+use Rattle.kit.specs.Names.{_≡_, refl, ap, sym, subst, _∙_, List, _++_, ℕ, _+_, _*_, _-_, _≤_, arith, length, take}
 use Rattle.definitions.specs.Basics.{flatMap}
 use Rattle.definitions.specs.ContractFile.{Statement, NodeRecord}
 use Rattle.definitions.specs.Owners.{ownerOf}

@@ -1,10 +1,5 @@
 -- A statement that holds no other, and a condition, from the log of its events.
-use mathlib.Core.Path.{_≡_, refl, ap, sym, subst, _∙_}
-use mathlib.Core.Bool.{true, false≢true}
-use mathlib.Core.List.{List}
-use Prim.Native.Nat.{ℕ, _+_, _*_, _-_, _/_, _<_, _≤_}
-use native.Mathlib.Omega.{arith}
-use lib.ListN.{length}
+use Rattle.kit.specs.Names.{_≡_, refl, ap, sym, subst, _∙_, true, false≢true, List, ℕ, _+_, _*_, _-_, _/_, _<_, _≤_, arith, length}
 use Rattle.definitions.specs.ContractFile.{Statement, Scope, nodeCount}
 use Rattle.definitions.specs.Rewriting.{Guard, always, single, rewriteStatement, commandTree}
 use Rattle.theory_trees.specs.Trees.{expressionIn, statementIn}

@@ -1,9 +1,5 @@
 -- Events in turn stand in a log one behind another.
-use mathlib.Core.Path.{_≡_, ap, sym, subst, _∙_}
-use mathlib.Core.List.{List, _++_}
-use Prim.Native.Nat.{ℕ, _+_, _*_}
-use native.Mathlib.Omega.{arith}
-use lib.ListN.{length, length-append}
+use Rattle.kit.specs.Names.{_≡_, ap, sym, subst, _∙_, List, _++_, ℕ, _+_, _*_, arith, length, length-append}
 use Rattle.definitions.specs.ContractFile.{Scope, Node}
 use Rattle.rewrite_events.specs.Events.{Event, variableCount, stepsOf, Events, inTurn}
 use Rattle.rewrite_events.proofs.Appended.{variable-count-append, steps-append}

@@ -1,9 +1,5 @@
 -- A sequence from its two statements.
-use mathlib.Core.Path.{_≡_, ap, sym, subst, _∙_}
-use mathlib.Core.List.{List, _++_}
-use Prim.Native.Nat.{ℕ, _+_, _*_, _-_, _<_, _≤_}
-use native.Mathlib.Omega.{arith}
-use lib.ListN.{length}
+use Rattle.kit.specs.Names.{_≡_, ap, sym, subst, _∙_, List, _++_, ℕ, _+_, _*_, _-_, _<_, _≤_, arith, length}
 use Rattle.definitions.specs.ContractFile.{Statement, NodeRecord, node}
 use Rattle.definitions.specs.Rewriting.{always, twoChildren, nodeBytes, commandTree}
 use Rattle.theory_laws.proofs.Records.{kind-as}

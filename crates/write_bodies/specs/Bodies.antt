@@ -1,11 +1,6 @@
 -- What the functions that write a body's statements need and owe. They read a log of events that holds those of the statement from a
 -- position on, and hand back the position behind them.
-use mathlib.Core.Path.{_≡_}
-use mathlib.Core.Bool.{Bool}
-use mathlib.Core.List.{List, _++_}
-use Prim.Native.Nat.{ℕ, _+_, _*_, _<_, _≤_}
-use lib.Dec.{ltb}
-use lib.ListN.{length}
+use Rattle.kit.specs.Names.{_≡_, Bool, List, _++_, ℕ, _+_, _*_, _<_, _≤_, ltb, length}
 use Rattle.definitions.specs.ContractFile.{NodeRecord, nodeCount}
 use Rattle.definitions.specs.Owners.{ownerOf}
 use Rattle.definitions.specs.Rewriting.{Command, Guard, inBody, stepsBefore, Tree, threeChildren, commandTree}

@@ -1,8 +1,6 @@
 -- The trees of a file's statements and branches as they are written, and their events. No tree depends on a guard, nor does the
 -- number of events or of their variables.
-use mathlib.Core.Bool.{Bool, cond}
-use mathlib.Core.List.{List, map}
-use Prim.Native.Nat.{ℕ, _+_}
+use Rattle.kit.specs.Names.{Bool, cond, List, map, ℕ, _+_}
 use Rattle.definitions.specs.ContractFile.{boolean, Expression, Statement, Scope, parameterRecords, parameterOf}
 use Rattle.definitions.specs.Owners.{ownerOf}
 use Rattle.definitions.specs.Rewriting.{BodyExpression, Command, always, Step, inBody, privateParameters, openings, rewriteStatement, Tree}

@@ -1,8 +1,5 @@
 -- The tree of a body's form, by the expression's kind, as code learns it.
-use mathlib.Core.Path.{_≡_, ap}
-use mathlib.Core.Bool.{true, false}
-use Prim.Native.Nat.{ℕ, _+_, _%_, _/_}
-use lib.ListN.{length}
+use Rattle.kit.specs.Names.{_≡_, ap, true, false, ℕ, _+_, _%_, _/_, length}
 use Rattle.definitions.specs.ContractFile.{DataType, Owner, Operator, Expression, Scope, operatorCode, dataTypeCode}
 use Rattle.definitions.specs.Owners.{isPublic}
 use Rattle.definitions.specs.Rewriting.{kept, onePart, twoParts, supplying, inBody, leaf, oneChild, twoChildren, bodyTree}

@@ -1,8 +1,5 @@
 -- The tree of a node's form in a body, by the kind of its record and what code has found out about it.
-use mathlib.Core.Path.{_≡_, ap, sym, _∙_}
-use mathlib.Core.Bool.{Bool, true, false}
-use mathlib.Core.List.{List}
-use Prim.Native.Nat.{ℕ, _+_, _<_, _≤_}
+use Rattle.kit.specs.Names.{_≡_, ap, sym, _∙_, Bool, true, false, List, ℕ, _+_, _<_, _≤_}
 use Rattle.definitions.specs.ContractFile.{NodeRecord, nodeCount}
 use Rattle.definitions.specs.Owners.{isPublic}
 use Rattle.definitions.specs.Rewriting.{Tree, leaf, oneChild, twoChildren}

@@ -1,11 +1,5 @@
 -- Codes of the tables are those of what they stand for, so the nodes of a form keep them.
-use mathlib.Core.Path.{_≡_, refl}
-use mathlib.Core.Bool.{_&&_}
-use mathlib.Core.List.{List}
-use Prim.Native.Nat.{ℕ, zero, suc, _+_, _*_, _/_, _%_, _<_, _≤_}
-use native.Mathlib.Omega.{arith}
-use borrow.Author.Tests.{leb-true}
-use lib.Dec.{leb}
+use Rattle.kit.specs.Names.{_≡_, refl, _&&_, List, ℕ, zero, suc, _+_, _*_, _/_, _%_, _<_, _≤_, arith, leb, leb-true}
 use Rattle.definitions.specs.Basics.{isZero}
 use Rattle.definitions.specs.ContractFile.{dataTypeCode, operatorCode, NodeRecord, nodeCount, dataTypeOf, operatorOf, constantKind, operatorKind, kindOf, constantValue, isOfType}
 use Rattle.definitions.specs.Numbers.{kindInTables}

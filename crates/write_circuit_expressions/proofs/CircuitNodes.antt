@@ -1,8 +1,5 @@
 -- The tree of a node's form in a circuit, by the kind of its record and what code has found out about it.
-use mathlib.Core.Path.{_≡_, ap, sym, _∙_}
-use mathlib.Core.Bool.{Bool, true, false, _&&_}
-use mathlib.Core.List.{List}
-use Prim.Native.Nat.{ℕ, _+_, _<_, _≤_}
+use Rattle.kit.specs.Names.{_≡_, ap, sym, _∙_, Bool, true, false, _&&_, List, ℕ, _+_, _<_, _≤_}
 use Rattle.definitions.specs.ContractFile.{isDivision, NodeRecord, nodeCount, operatorOf}
 use Rattle.definitions.specs.Rewriting.{Tree, leaf, oneChild, twoChildren}
 use Rattle.theory_trees.specs.Trees.{expressionIn}

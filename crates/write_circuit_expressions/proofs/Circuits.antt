@@ -1,11 +1,5 @@
 -- The tree of a circuit's form, by the expression's kind, as code learns it.
-use mathlib.Core.Path.{_≡_, refl, ap}
-use mathlib.Core.Bool.{true, false, _&&_}
-use mathlib.Core.List.{_++_}
-use Prim.Native.Nat.{ℕ, _+_, _%_, _/_}
-use native.Mathlib.Nat.{add-zero}
-use native.Mathlib.Omega.{arith}
-use lib.ListN.{length, length-append}
+use Rattle.kit.specs.Names.{_≡_, refl, ap, true, false, _&&_, _++_, ℕ, _+_, _%_, _/_, arith, add-zero, length, length-append}
 use Rattle.definitions.specs.ContractFile.{DataType, Owner, everyone, ownedBy, Operator, Expression, Scope, operatorCode, isDivision, isEveryone, dataTypeCode}
 use Rattle.definitions.specs.Owners.{ownerOf, isPublic}
 use Rattle.definitions.specs.Rewriting.{kept, onePart, twoParts, readForm, reading, inBody, inCircuit, leaf, oneChild, twoChildren, circuitTree}

@@ -1,7 +1,5 @@
 -- 01, Rewriting: what code makes of an expression's form in a circuit.
-use mathlib.Core.Path.{_≡_}
-use mathlib.Core.List.{List}
-use Prim.Native.Nat.{ℕ, _+_}
+use Rattle.kit.specs.Names.{_≡_, List, ℕ, _+_}
 use Rattle.theory_trees.specs.Trees.{expressionIn}
 use Rattle.file_accepted.specs.Context.{nodesIn, scopeIn}
 use Rattle.write_nodes.specs.Numbering.{Numbered}

@@ -1,9 +1,5 @@
 -- A log of events whose claims have few variables can be read for its circuits.
-use mathlib.Core.Path.{_≡_, ap, sym, _∙_}
-use mathlib.Core.List.{List, _++_}
-use Prim.Native.Nat.{ℕ, zero, suc, _+_, _*_, _<_, _≤_}
-use native.Mathlib.Omega.{arith}
-use lib.ListN.{length, getD, length-append}
+use Rattle.kit.specs.Names.{_≡_, ap, sym, _∙_, List, _++_, ℕ, zero, suc, _+_, _*_, _<_, _≤_, arith, length, getD, length-append}
 use Rattle.definitions.specs.ContractFile.{nodeCount}
 use Rattle.theory_trees.specs.Trees.{expressionIn}
 use Rattle.file_accepted.specs.Context.{nodesIn, scopeIn}

@@ -1,8 +1,5 @@
 -- The bytes made of the numbers of constraints are the constraints' bytes.
-use mathlib.Core.Path.{_≡_, refl, ap, _∙_}
-use mathlib.Core.List.{List, [], _∷_, _++_}
-use Prim.Native.Nat.{ℕ, suc, _+_, _-_}
-use lib.ListN.{length}
+use Rattle.kit.specs.Names.{_≡_, refl, ap, _∙_, List, [], _∷_, _++_, ℕ, suc, _+_, _-_, length}
 use Rattle.definitions.specs.Basics.{twoBytes}
 use Rattle.definitions.specs.ContractFile.{ownerCode}
 use Rattle.definitions.specs.Rewriting.{Claim, equals, opensForCaller, Constraint, size, sizes, circuitTree, claimTrees, guardNumber, claimBytes, constraintBytes}

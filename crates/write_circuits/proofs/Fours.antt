@@ -1,9 +1,5 @@
 -- A claim's four numbers, one behind another.
-use mathlib.Core.Path.{_≡_, refl}
-use mathlib.Core.List.{List, [], _∷_}
-use Prim.Native.Nat.{ℕ, _+_, _≤_}
-use native.Mathlib.Omega.{arith}
-use lib.ListN.{length}
+use Rattle.kit.specs.Names.{_≡_, refl, List, [], _∷_, ℕ, _+_, _≤_, arith, length}
 use Rattle.memory_buffer.specs.Buffer.{stored}
 use Rattle.write_nodes.proofs.TreeNodes.{run-then}
 use Rattle.write_circuits.specs.Circuits.{four}

@@ -1,11 +1,5 @@
 -- Reading the owner code of an entry that a log holds, and the four numbers of a claim.
-use mathlib.Core.Path.{_≡_, ap, sym, _∙_}
-use mathlib.Core.List.{List, _∷_, _++_, append-assoc}
-use Prim.Native.Nat.{ℕ, _+_}
-use native.Mathlib.Nat.{add-zero}
-use native.Mathlib.Omega.{arith}
-use lib.ListN.{getD, length-append}
-use lib.Seq.{getD-append-add}
+use Rattle.kit.specs.Names.{_≡_, ap, sym, _∙_, List, _∷_, _++_, append-assoc, ℕ, _+_, arith, add-zero, getD, length-append, getD-append-add}
 use Rattle.write_logged_steps.specs.Held.{Holds}
 use Rattle.write_circuits.specs.Circuits.{four}
 

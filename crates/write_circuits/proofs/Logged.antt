@@ -1,12 +1,5 @@
 -- The claims and circuits that a log of events holds are those of the events.
-use mathlib.Core.Path.{_≡_, refl, ap, sym, _∙_}
-use mathlib.Core.Bool.{false}
-use mathlib.Core.List.{List, [], _∷_}
-use Prim.Native.Nat.{ℕ, suc, _+_, _-_}
-use native.Mathlib.Nat.{add-zero}
-use native.Mathlib.Numerals.{add-one}
-use lib.Dec.{eqb}
-use lib.ListN.{length, getD}
+use Rattle.kit.specs.Names.{_≡_, refl, ap, sym, _∙_, false, List, [], _∷_, ℕ, suc, _+_, _-_, add-one, add-zero, eqb, length, getD}
 use Rattle.definitions.specs.Basics.{flatMap}
 use Rattle.definitions.specs.ContractFile.{Scope, Owner, ownerCode, Node}
 use Rattle.definitions.specs.Rewriting.{Guard, Tree, size, sizes, claimTrees, guardNumber}

@@ -1,10 +1,5 @@
 -- 01, Rewriting: the claims of a log with their circuits, as code finds them, and what code makes of them.
-use mathlib.Core.Path.{_≡_}
-use mathlib.Core.Bool.{Bool, cond}
-use mathlib.Core.List.{List, [], _∷_, _++_, map}
-use Prim.Native.Nat.{ℕ, zero, suc, _+_, _*_, _-_, _<_, _≤_}
-use lib.Dec.{eqb}
-use lib.ListN.{length, getD}
+use Rattle.kit.specs.Names.{_≡_, Bool, cond, List, [], _∷_, _++_, map, ℕ, zero, suc, _+_, _*_, _-_, _<_, _≤_, eqb, length, getD}
 use Rattle.definitions.specs.Basics.{flatMap, twoBytes}
 use Rattle.definitions.specs.ContractFile.{Scope, nodeCount, Node}
 use Rattle.definitions.specs.Rewriting.{Tree, size, sizes, numberedAll, nodeBytes}

@@ -1,6 +1,5 @@
 -- Claimed events whose circuits can be written.
-use mathlib.Core.List.{List, [], _∷_}
-use Prim.Native.Nat.{ℕ, suc, _+_, _≤_}
+use Rattle.kit.specs.Names.{List, [], _∷_, ℕ, suc, _+_, _≤_}
 use Rattle.definitions.specs.ContractFile.{Scope}
 use Rattle.rewrite_events.specs.Events.{Event, suppliedEvent, claimedEvent, readEvent, guardEvent, endEvent}
 use Rattle.write_variable_counts.specs.Counts.{circuitCount}

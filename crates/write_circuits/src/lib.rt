@@ -2,9 +2,7 @@
 use memory_buffer::put_number;
 use rewrite_log::CLAIM_LOGGED;
 use write_circuit_expressions::write_circuit_form;
-ghost use mathlib.Core.Path.{_≡_};
-ghost use Prim.Native.Nat.{_+_, _*_, _≤_};
-ghost use lib.ListN.{length, getD};
+ghost use Rattle.kit.specs.Names.{_≡_, _+_, _*_, _≤_, length, getD};
 ghost use Rattle.memory_buffer.specs.Buffer.{stored};
 ghost use Rattle.file_accepted.specs.Context.{Context, nodesIn, scopeIn};
 ghost use Rattle.write_nodes.specs.Numbering.{Room, Numbered};

@@ -1,9 +1,5 @@
 -- The bytes of claims, six a claim, one claim after another.
-use mathlib.Core.Path.{_≡_, refl}
-use mathlib.Core.List.{List, [], _++_}
-use Prim.Native.Nat.{ℕ, zero, suc, _+_, _*_, _-_, _<_, _≤_}
-use native.Mathlib.Omega.{arith}
-use lib.ListN.{length, getD, length-append}
+use Rattle.kit.specs.Names.{_≡_, refl, List, [], _++_, ℕ, zero, suc, _+_, _*_, _-_, _<_, _≤_, arith, length, getD, length-append}
 use Rattle.memory_append.specs.Append.{Appended, Appending}
 use Rattle.memory_append.proofs.Appending.{appending-room, appending-next, appending-done}
 use Rattle.write_circuits.specs.Circuits.{sixBytes, sixesFrom}

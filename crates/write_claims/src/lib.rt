@@ -1,7 +1,6 @@
 // The constraints of a function's heading, six bytes each.
 use memory_append::append_two_bytes;
-ghost use Prim.Native.Nat.{_+_, _*_, _<_, _≤_};
-ghost use lib.ListN.{length};
+ghost use Rattle.kit.specs.Names.{_+_, _*_, _<_, _≤_, length};
 ghost use Rattle.memory_append.specs.Append.{Appended};
 ghost use Rattle.write_circuits.specs.Circuits.{sixBytes, sixesFrom};
 

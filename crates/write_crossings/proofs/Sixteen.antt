@@ -1,12 +1,6 @@
 -- A log has no more entries of a tag than numbers; sixteen counts, of which one more is told.
-use mathlib.Core.Path.{_≡_, ap, sym, _∙_}
-use mathlib.Core.Bool.{Bool, true, false, cond}
-use mathlib.Core.List.{List, [], _∷_, _++_, append-assoc}
-use Prim.Native.Nat.{ℕ, suc, _+_, _-_, _<_, _≤_}
-use native.Mathlib.Omega.{arith}
-use lib.Dec.{eqb}
-use lib.ListN.{length, replicate, set, length-append}
-use lib.Seq.{set-at}
+use Rattle.kit.specs.Names.{_≡_, ap, sym, _∙_, Bool, true, false, cond, List, [], _∷_, _++_, append-assoc, ℕ, suc, _+_, _-_, _<_, _≤_}
+use Rattle.kit.specs.Names.{arith, eqb, length, replicate, set, length-append, set-at}
 use Rattle.definitions.specs.Crossings.{sixteen}
 use Rattle.write_variables.specs.PerEntry.{perEntry, ofTag, countTag}
 

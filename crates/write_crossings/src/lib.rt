@@ -2,10 +2,7 @@
 use rewrite_log::READ_LOGGED;
 use rewrite_log::SUPPLIED_LOGGED;
 use write_variables::count_tag;
-ghost use mathlib.Core.Path.{_≡_};
-ghost use mathlib.Core.List.{[]};
-ghost use Prim.Native.Nat.{_+_, _<_, _≤_};
-ghost use lib.ListN.{length, set};
+ghost use Rattle.kit.specs.Names.{_≡_, [], _+_, _<_, _≤_, length, set};
 ghost use Rattle.definitions.specs.Crossings.{sixteen};
 ghost use Rattle.write_variables.specs.PerEntry.{countTag};
 

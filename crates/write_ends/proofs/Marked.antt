@@ -1,11 +1,6 @@
 -- Events and their end that a log holds: the end that is found is theirs.
-use mathlib.Core.Path.{_≡_, refl, ap, sym, _∙_}
-use mathlib.Core.List.{List, [], _∷_, _++_}
-use Prim.Native.Nat.{ℕ, _+_, _*_}
-use native.Mathlib.Nat.{add-zero}
-use native.Mathlib.Omega.{arith}
-use lib.ListN.{length, drop, length-append}
-use lib.Seq.{drop-append-add}
+use Rattle.kit.specs.Names.{_≡_, refl, ap, sym, _∙_, List, [], _∷_, _++_, ℕ, _+_, _*_, arith, add-zero, length, drop, length-append}
+use Rattle.kit.specs.Names.{drop-append-add}
 use Rattle.definitions.specs.ContractFile.{Node}
 use Rattle.rewrite_events.specs.Events.{Event, suppliedEvent, claimedEvent, readEvent, guardEvent, endEvent, variablesOf, variableCount, Events, ended}
 use Rattle.rewrite_events.specs.Ends.{Unended}

@@ -1,10 +1,6 @@
 -- The search for an end, entry by entry.
-use mathlib.Core.Path.{_≡_, refl, ap, sym, _∙_}
-use mathlib.Core.List.{List, [], _∷_}
-use Prim.Native.Nat.{ℕ, _+_, _<_, _≤_}
-use native.Mathlib.Omega.{arith}
-use borrow.Author.Tests.{eq-eqb, ne-eqb}
-use lib.ListN.{length, drop, getD, length-drop}
+use Rattle.kit.specs.Names.{_≡_, refl, ap, sym, _∙_, List, [], _∷_, ℕ, _+_, _<_, _≤_, arith, length, drop, getD, length-drop, eq-eqb}
+use Rattle.kit.specs.Names.{ne-eqb}
 use Rattle.theory_laws.proofs.Lists.{five-next}
 use Rattle.write_ends.specs.Ends.{numbersToEnd, variableAtEnd, EndFound}
 

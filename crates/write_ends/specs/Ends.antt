@@ -1,10 +1,5 @@
 -- The next end of a log: how many numbers stand up to it and with it, and which variable is next behind it.
-use mathlib.Core.Path.{_≡_}
-use mathlib.Core.Bool.{cond}
-use mathlib.Core.List.{List, [], _∷_}
-use Prim.Native.Nat.{ℕ, _+_}
-use lib.Dec.{eqb}
-use lib.ListN.{drop}
+use Rattle.kit.specs.Names.{_≡_, cond, List, [], _∷_, ℕ, _+_, eqb, drop}
 use Rattle.rewrite_log.specs.declared.Position.{Position}
 
 -- A log ends where fewer than five numbers are left.

@@ -1,8 +1,7 @@
 // The end of a statement's or a condition's events in a log.
 use rewrite_log::END_LOGGED;
 use rewrite_log::Position;
-ghost use Prim.Native.Nat.{_≤_};
-ghost use lib.ListN.{length};
+ghost use Rattle.kit.specs.Names.{_≤_, length};
 ghost use Rattle.write_ends.specs.Ends.{EndFound};
 
 // The place behind the next end of a log from a place on, and the number of the variable that is next there.

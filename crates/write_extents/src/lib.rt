@@ -1,8 +1,6 @@
 // 01, Rewriting: how far written functions reach: whether a contract is short and a function verified, how many numbers its constraints
 // take, where the next one goes.
-ghost use mathlib.Core.Path.{_≡_};
-ghost use Prim.Native.Nat.{_+_, _*_, _≤_};
-ghost use lib.Dec.{leb, ltb};
+ghost use Rattle.kit.specs.Names.{_≡_, _+_, _*_, _≤_, leb, ltb};
 
 // Where the headings end, and how many nodes there are.
 pub struct Extent {

@@ -1,9 +1,5 @@
 -- The fields of an accepted file are few and in the tables.
-use mathlib.Core.Path.{_≡_, refl}
-use mathlib.Core.Bool.{Bool, true, false}
-use mathlib.Core.List.{List, _∷_}
-use Prim.Native.Nat.{ℕ}
-use native.Mathlib.Omega.{arith}
+use Rattle.kit.specs.Names.{_≡_, refl, Bool, true, false, List, _∷_, ℕ, arith}
 use Rattle.definitions.specs.Basics.{firstThatHolds}
 use Rattle.definitions.specs.ContractFile.{fieldCount, sectionsOf}
 use Rattle.definitions.specs.Numbers.{endsWrongly, countOffLimits, outsideTables, checkNumber}

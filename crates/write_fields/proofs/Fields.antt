@@ -1,12 +1,6 @@
 -- A field in the tables is written as it stands, but for its type; fields one after another.
-use mathlib.Core.Path.{_≡_, refl, ap, sym, _∙_, subst}
-use mathlib.Core.Bool.{Bool, true, false, _&&_, _||_, not, cond, true≢false}
-use mathlib.Core.List.{List, [], _∷_, _++_, map}
-use Prim.Native.Nat.{ℕ, zero, suc, _+_, _*_, _-_, _<_, _≤_}
-use native.Mathlib.Omega.{arith}
-use borrow.Author.Tests.{leb-true, eqb-true}
-use lib.Dec.{eqb, leb}
-use lib.ListN.{length, length-append}
+use Rattle.kit.specs.Names.{_≡_, refl, ap, sym, _∙_, subst, Bool, true, false, _&&_, _||_, not, cond, true≢false, List, [], _∷_, _++_, map}
+use Rattle.kit.specs.Names.{ℕ, zero, suc, _+_, _*_, _-_, _<_, _≤_, arith, eqb, leb, length, length-append, leb-true, eqb-true}
 use Rattle.definitions.specs.Basics.{flatMap, isZero}
 use Rattle.definitions.specs.ContractFile.{shapeCode, byteAt, fieldCount, shapeOf, isFinalCode, fieldOwnerOfCode, fieldOwnerCode, fieldRecords, fieldOf}
 use Rattle.definitions.specs.Reading.{fieldsRead}

@@ -1,9 +1,5 @@
 -- 01, Rewriting: the written fields of a file whose codes are in the tables.
-use mathlib.Core.Path.{_≡_}
-use mathlib.Core.Bool.{true, cond}
-use mathlib.Core.List.{List, _∷_, map}
-use Prim.Native.Nat.{ℕ, _<_, _≤_}
-use lib.Dec.{eqb}
+use Rattle.kit.specs.Names.{_≡_, true, cond, List, _∷_, map, ℕ, _<_, _≤_, eqb}
 use Rattle.definitions.specs.Basics.{flatMap}
 use Rattle.definitions.specs.ContractFile.{FieldRecord, fieldCount, fieldRecords, fieldOf}
 use Rattle.definitions.specs.Numbers.{fieldInTables}

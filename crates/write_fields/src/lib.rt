@@ -2,10 +2,7 @@
 use file_bytes::byte_at;
 use file_kinds::CELL;
 use memory_append::append_byte;
-ghost use mathlib.Core.Path.{_≡_};
-ghost use mathlib.Core.Bool.{true};
-ghost use Prim.Native.Nat.{_+_, _*_, _≤_};
-ghost use lib.ListN.{length};
+ghost use Rattle.kit.specs.Names.{_≡_, true, _+_, _*_, _≤_, length};
 ghost use Rattle.definitions.specs.ContractFile.{fieldCount};
 ghost use Rattle.definitions.specs.Numbers.{fieldInTables};
 ghost use Rattle.memory_append.specs.Append.{Appended};

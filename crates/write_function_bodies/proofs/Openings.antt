@@ -1,13 +1,6 @@
 -- The steps that read private parameters, one parameter after another.
-use mathlib.Core.Path.{_≡_, refl, ap, _∙_}
-use mathlib.Core.Bool.{Bool, true, false, not, cond}
-use mathlib.Core.List.{List, [], _∷_, map}
-use Prim.Native.Nat.{ℕ, zero, suc, _+_, _*_, _-_, _<_, _≤_}
-use native.Mathlib.Numerals.{add-one}
-use native.Mathlib.Omega.{arith}
-use borrow.Author.Tests.{eq-eqb, ne-eqb}
-use lib.Dec.{eqb}
-use lib.ListN.{length}
+use Rattle.kit.specs.Names.{_≡_, refl, ap, _∙_, Bool, true, false, not, cond, List, [], _∷_, map, ℕ, zero, suc, _+_, _*_, _-_, _<_, _≤_}
+use Rattle.kit.specs.Names.{arith, add-one, eqb, length, eq-eqb, ne-eqb}
 use Rattle.definitions.specs.ContractFile.{byteAt, parameterRecords, parameterOf, node}
 use Rattle.definitions.specs.Reading.{parametersRead}
 use Rattle.definitions.specs.Rewriting.{BodyExpression, Step, privateParameters, openings, leaf, setting, nodeBytes, bodyTree}

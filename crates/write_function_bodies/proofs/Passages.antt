@@ -1,12 +1,6 @@
 -- A function's root statement with its verify, and its whole body behind the reads of its private parameters.
-use mathlib.Core.Path.{_≡_, refl, ap, ap₂, sym, subst, _∙_}
-use mathlib.Core.Bool.{Bool, true, false, cond}
-use mathlib.Core.List.{List, [], _∷_, map}
-use Prim.Native.Nat.{ℕ, suc, _+_, _*_, _-_, _≤_}
-use native.Mathlib.Omega.{arith}
-use borrow.Author.Tests.{lt-ltb}
-use lib.Dec.{ltb}
-use lib.ListN.{length, take, length-map}
+use Rattle.kit.specs.Names.{_≡_, refl, ap, ap₂, sym, subst, _∙_, Bool, true, false, cond, List, [], _∷_, map, ℕ, suc, _+_, _*_, _-_, _≤_}
+use Rattle.kit.specs.Names.{arith, ltb, length, take, length-map, lt-ltb}
 use Rattle.definitions.specs.Basics.{flatMap}
 use Rattle.definitions.specs.ContractFile.{Parameter, byteAt, twoBytesAt, functionEnd, parameterRecords, parameterOf, node}
 use Rattle.definitions.specs.Rewriting.{Command, Constraint, always, Step, privateParameters, openings, stepsBefore, withVerify, rewriteFunction, Tree, leaf, twoChildren, nodeBytes, commandTree}

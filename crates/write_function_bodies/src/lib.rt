@@ -13,7 +13,7 @@ use write_nodes::put_leaf;
 use write_nodes::put_setting;
 use write_steps::Steps;
 use write_steps::close_steps;
-ghost use Prim.Native.Nat.{_+_, _*_, _≤_};
+ghost use Rattle.kit.specs.Names.{_+_, _*_, _≤_};
 ghost use Rattle.definitions.specs.Rewriting.{commandTree};
 ghost use Rattle.write_nodes.specs.Numbering.{Numbered};
 ghost use Rattle.write_steps.specs.Steps.{StepsRoom, StepsPut};

@@ -1,9 +1,5 @@
 -- The headings alone: 9 bytes for a function, 11 for each parameter, and 6 for each node of its body.
-use mathlib.Core.Path.{ap}
-use mathlib.Core.List.{List, [], _∷_, map}
-use Prim.Native.Nat.{ℕ, _+_, _*_, _≤_}
-use native.Mathlib.Omega.{arith}
-use lib.ListN.{length, length-append}
+use Rattle.kit.specs.Names.{ap, List, [], _∷_, map, ℕ, _+_, _*_, _≤_, arith, length, length-append}
 use Rattle.definitions.specs.ContractFile.{Field, Function}
 use Rattle.definitions.specs.Rewriting.{Constraint, Variable, always, heldUnder, privateParameters, rewriteFunction, sizes, functionTrees, functionBytes, functionsBytes, functionsWritten}
 use Rattle.theory_trees.specs.Sizes.{statementSize}

@@ -1,7 +1,5 @@
 -- Listed owners have codes that are bytes.
-use mathlib.Core.List.{List, [], _∷_}
-use Prim.Native.Nat.{_<_}
-use native.Mathlib.Omega.{arith}
+use Rattle.kit.specs.Names.{List, [], _∷_, _<_, arith}
 use Rattle.definitions.specs.ContractFile.{meName, finalName, parameterName, Owner, everyone, ownedBy, ownerCode}
 use Rattle.rewrite_events.specs.Events.{Event, suppliedEvent, claimedEvent, readEvent, guardEvent, endEvent}
 use Rattle.rewrite_event_owners.specs.Listed.{Listed, ownersListed}

@@ -1,10 +1,5 @@
 -- Each function of an accepted file can be written, behind those before it and alone.
-use mathlib.Core.Path.{_≡_, ap, sym, _∙_}
-use mathlib.Core.List.{List, [], _∷_}
-use Prim.Native.Nat.{ℕ, zero, suc, _+_, _*_, _-_, _<_, _≤_}
-use native.Mathlib.Omega.{arith}
-use lib.ListN.{length, take}
-use lib.Seq.{take-length}
+use Rattle.kit.specs.Names.{_≡_, ap, sym, _∙_, List, [], _∷_, ℕ, zero, suc, _+_, _*_, _-_, _<_, _≤_, arith, length, take, take-length}
 use Rattle.definitions.specs.ContractFile.{Statement, Function, functionAt, byteAt, functionCount, nodeCount, sectionsOf, contractOf}
 use Rattle.definitions.specs.Numbers.{checkNumber}
 use Rattle.definitions.specs.Rewriting.{always, WrittenFunction, rewrite, functionsBytes}

@@ -1,11 +1,6 @@
 -- What the variables and claims of a statement take in a heading: three bytes for a variable and six for a claim, at most six for each node.
-use mathlib.Core.Path.{_≡_, ap, _∙_}
-use mathlib.Core.Bool.{Bool, true, false, _&&_, cond}
-use mathlib.Core.List.{List, [], _∷_, _++_}
-use mathlib.Core.Option.{none}
-use Prim.Native.Nat.{ℕ, suc, _+_, _*_, _≤_}
-use native.Mathlib.Omega.{arith}
-use lib.ListN.{length, length-append}
+use Rattle.kit.specs.Names.{_≡_, ap, _∙_, Bool, true, false, _&&_, cond, List, [], _∷_, _++_, none, ℕ, suc, _+_, _*_, _≤_, arith, length}
+use Rattle.kit.specs.Names.{length-append}
 use Rattle.definitions.specs.ContractFile.{meName, Owner, everyone, ownedBy, Expression, Statement, Scope, fieldAt, isDivision}
 use Rattle.definitions.specs.Owners.{nameOf, placeOwner, isPublic}
 use Rattle.definitions.specs.Rewriting.{Guard, under}

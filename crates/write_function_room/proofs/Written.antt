@@ -1,10 +1,6 @@
 -- The functions of a file as they are written, one after another: their headings, their nodes, and the whole file by its parts.
-use mathlib.Core.Path.{_≡_, refl, ap, sym, _∙_}
-use mathlib.Core.List.{List, [], _∷_, _++_, map, append-nil, append-assoc}
-use Prim.Native.Nat.{ℕ, zero, suc, _+_, _*_, _<_}
-use native.Mathlib.Omega.{arith}
-use lib.ListN.{length, take, getD, length-append, length-map, List·getD-map}
-use lib.Seq.{take-all, take-suc}
+use Rattle.kit.specs.Names.{_≡_, refl, ap, sym, _∙_, List, [], _∷_, _++_, map, append-nil, append-assoc, ℕ, zero, suc, _+_, _*_, _<_, arith}
+use Rattle.kit.specs.Names.{length, take, getD, length-append, length-map, List·getD-map, take-all, take-suc}
 use Rattle.definitions.specs.Basics.{flatMap, twoBytes}
 use Rattle.definitions.specs.ContractFile.{Field, Function, functionAt, NodeRecord, fieldCount, functionCount, functionsAt, functionEnd, functionsEnd, sectionsOf, fieldOf, contractOf}
 use Rattle.definitions.specs.Reading.{functionsPassed}

@@ -1,7 +1,5 @@
 -- A function of a file as it is written, the events of its body, and the room that it needs.
-use mathlib.Core.List.{List}
-use Prim.Native.Nat.{ℕ, _+_, _*_, _<_, _≤_}
-use lib.ListN.{length, take}
+use Rattle.kit.specs.Names.{List, ℕ, _+_, _*_, _<_, _≤_, length, take}
 use Rattle.definitions.specs.Basics.{flatMap}
 use Rattle.definitions.specs.ContractFile.{Function, byteAt, fieldCount, nodeCount, sectionsOf, contractOf}
 use Rattle.definitions.specs.Rewriting.{always, WrittenFunction, rewriteFunction, rewrite, sizes, functionTrees, functionBytes}

@@ -1,11 +1,6 @@
 -- A function's circuits, then its body: the nodes of both together, and room for the body and the heading.
-use mathlib.Core.Path.{_≡_, refl, ap, sym, _∙_}
-use mathlib.Core.Bool.{Bool}
-use mathlib.Core.List.{List, [], _∷_, _++_}
-use Prim.Native.Nat.{ℕ, _+_, _*_, _≤_}
-use native.Mathlib.Omega.{arith}
-use lib.Dec.{ltb}
-use lib.ListN.{length, take, drop, take-append-drop}
+use Rattle.kit.specs.Names.{_≡_, refl, ap, sym, _∙_, Bool, List, [], _∷_, _++_, ℕ, _+_, _*_, _≤_, arith, ltb, length, take, drop}
+use Rattle.kit.specs.Names.{take-append-drop}
 use Rattle.definitions.specs.Basics.{flatMap}
 use Rattle.definitions.specs.ContractFile.{byteAt}
 use Rattle.definitions.specs.Rewriting.{Tree, size, sizes, numberedAll, nodeBytes, commandTree, functionTrees, functionBytes}

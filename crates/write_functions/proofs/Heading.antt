@@ -1,10 +1,6 @@
 -- The heading that a log and the claims' numbers tell is the written function's.
-use mathlib.Core.Path.{_≡_, refl, ap, sym, _∙_, subst}
-use mathlib.Core.List.{List}
-use Prim.Native.Nat.{ℕ, zero, suc, _+_, _*_, _-_, _/_, _≤_}
-use native.Mathlib.Omega.{arith}
-use lib.ListN.{length, take}
-use lib.Seq.{length-take-le, getD-take}
+use Rattle.kit.specs.Names.{_≡_, refl, ap, sym, _∙_, subst, List, ℕ, zero, suc, _+_, _*_, _-_, _/_, _≤_, arith, length, take}
+use Rattle.kit.specs.Names.{length-take-le, getD-take}
 use Rattle.definitions.specs.ContractFile.{byteAt}
 use Rattle.definitions.specs.Rewriting.{sizes, commandTree, functionTrees, constraintBytes, functionBytes}
 use Rattle.theory_trees.specs.Trees.{statementIn}

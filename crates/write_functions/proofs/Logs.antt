@@ -1,10 +1,5 @@
 -- The log of a function's events, read for its circuits and for its heading.
-use mathlib.Core.Path.{_≡_, ap, sym, _∙_, subst}
-use mathlib.Core.List.{List, _++_}
-use Prim.Native.Nat.{ℕ, _+_, _*_, _-_, _/_, _≤_}
-use native.Mathlib.Omega.{arith}
-use lib.ListN.{length, take, drop}
-use lib.Seq.{take-append-seam}
+use Rattle.kit.specs.Names.{_≡_, ap, sym, _∙_, subst, List, _++_, ℕ, _+_, _*_, _-_, _/_, _≤_, arith, length, take, drop, take-append-seam}
 use Rattle.definitions.specs.Basics.{flatMap}
 use Rattle.definitions.specs.Rewriting.{always, Tree, sizes, numberedAll, nodeBytes, constraintBytes}
 use Rattle.file_accepted.proofs.Nodes.{nodes-counted}

@@ -1,9 +1,5 @@
 -- A written function's constraints and trees: its private parameters open for the caller, then come its body's claims and their circuits.
-use mathlib.Core.Path.{_≡_, refl, ap, _∙_}
-use mathlib.Core.List.{List, [], _∷_, _++_}
-use Prim.Native.Nat.{ℕ, suc, _+_}
-use native.Mathlib.Omega.{arith}
-use lib.ListN.{length, length-append}
+use Rattle.kit.specs.Names.{_≡_, refl, ap, _∙_, List, [], _∷_, _++_, ℕ, suc, _+_, arith, length, length-append}
 use Rattle.definitions.specs.Basics.{flatMap}
 use Rattle.definitions.specs.Rewriting.{always, Constraint, heldUnder, privateParameters, openings, Tree, size, sizes, commandTree, claimTrees, functionTrees}
 use Rattle.theory_laws.proofs.Written.{claim-count, opening-count, sizes-append}

@@ -1,8 +1,5 @@
 -- 01, Rewriting: one function written, its circuits and body as nodes and its heading as bytes: what the code needs and owes.
-use mathlib.Core.Path.{_≡_}
-use mathlib.Core.List.{List}
-use Prim.Native.Nat.{ℕ, _+_, _*_, _≤_}
-use lib.ListN.{length, take}
+use Rattle.kit.specs.Names.{_≡_, List, ℕ, _+_, _*_, _≤_, length, take}
 use Rattle.definitions.specs.Basics.{flatMap}
 use Rattle.definitions.specs.ContractFile.{nodeCount}
 use Rattle.definitions.specs.Rewriting.{Constraint, Tree, claimTrees, functionTrees, sizes, numberedAll, nodeBytes, constraintBytes}

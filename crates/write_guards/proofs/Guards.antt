@@ -1,9 +1,5 @@
 -- A variable set to true, as two nodes: the constant, and the setting above it.
-use mathlib.Core.Path.{_≡_, refl}
-use mathlib.Core.List.{List}
-use Prim.Native.Nat.{ℕ, _+_, _*_, _-_, _≤_}
-use native.Mathlib.Omega.{arith}
-use lib.ListN.{length}
+use Rattle.kit.specs.Names.{_≡_, refl, List, ℕ, _+_, _*_, _-_, _≤_, arith, length}
 use Rattle.definitions.specs.ContractFile.{boolean, node}
 use Rattle.definitions.specs.Rewriting.{BodyExpression, Command, leaf, setting, size, nodeBytes, bodyTree, commandTree}
 use Rattle.memory_buffer.specs.Buffer.{stored}

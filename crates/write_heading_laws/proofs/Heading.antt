@@ -1,10 +1,6 @@
 -- A written function's heading and its crossings are what the file's parameters and the log of its body's events tell.
-use mathlib.Core.Path.{_≡_, refl, ap, ap₂, sym, _∙_}
-use mathlib.Core.List.{List, [], _∷_, _++_, map}
-use Prim.Native.Nat.{ℕ, zero, suc, _+_, _-_}
-use native.Mathlib.Omega.{arith}
-use lib.Dec.{leb}
-use lib.ListN.{length, length-append, length-map}
+use Rattle.kit.specs.Names.{_≡_, refl, ap, ap₂, sym, _∙_, List, [], _∷_, _++_, map, ℕ, zero, suc, _+_, _-_, arith, leb, length}
+use Rattle.kit.specs.Names.{length-append, length-map}
 use Rattle.definitions.specs.Basics.{countIf, flatMap}
 use Rattle.definitions.specs.ContractFile.{Statement, Field, Parameter, Scope, parameterRecords, parameterOf, Node}
 use Rattle.definitions.specs.Reading.{parametersRead}

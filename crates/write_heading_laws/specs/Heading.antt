@@ -1,7 +1,5 @@
 -- 01, Rewriting: a function's heading, put together from what the code appends.
-use mathlib.Core.List.{List, [], _∷_, _++_}
-use Prim.Native.Nat.{ℕ, _+_}
-use lib.ListN.{length}
+use Rattle.kit.specs.Names.{List, [], _∷_, _++_, ℕ, _+_, length}
 use Rattle.definitions.specs.Basics.{twoBytes}
 use Rattle.definitions.specs.Rewriting.{eachOnce}
 use Rattle.write_variables.specs.PerEntry.{perEntry, countTag}

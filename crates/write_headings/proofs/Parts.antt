@@ -1,9 +1,5 @@
 -- The parts of a heading are the heading that a log tells, and its count of keys is stored last.
-use mathlib.Core.Path.{_≡_, ap, _∙_, subst}
-use mathlib.Core.List.{List, [], _∷_, _++_, append-assoc}
-use Prim.Native.Nat.{ℕ, _+_, _-_, _≤_}
-use native.Mathlib.Omega.{arith}
-use lib.ListN.{length, length-append}
+use Rattle.kit.specs.Names.{_≡_, ap, _∙_, subst, List, [], _∷_, _++_, append-assoc, ℕ, _+_, _-_, _≤_, arith, length, length-append}
 use Rattle.definitions.specs.Basics.{twoBytes}
 use Rattle.definitions.specs.ContractFile.{byteAt}
 use Rattle.memory_buffer.specs.Buffer.{stored}

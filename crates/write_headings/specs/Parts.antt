@@ -1,7 +1,5 @@
 -- 01, Rewriting: the parts of a function's heading, as code appends them.
-use mathlib.Core.List.{List, [], _∷_, _++_}
-use Prim.Native.Nat.{ℕ, _+_, _/_, _≤_}
-use lib.ListN.{length}
+use Rattle.kit.specs.Names.{List, [], _∷_, _++_, ℕ, _+_, _/_, _≤_, length}
 use Rattle.definitions.specs.Basics.{twoBytes}
 use Rattle.definitions.specs.ContractFile.{byteAt}
 use Rattle.definitions.specs.Rewriting.{eachOnce}

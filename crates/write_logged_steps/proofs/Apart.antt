@@ -1,9 +1,5 @@
 -- A log that holds events one after another holds the first, and behind them the others.
-use mathlib.Core.Path.{_≡_, refl, ap, sym, _∙_}
-use mathlib.Core.List.{List, [], _∷_, _++_, append-assoc}
-use Prim.Native.Nat.{ℕ, _+_, _*_, _≤_}
-use native.Mathlib.Omega.{arith}
-use lib.ListN.{length, length-append}
+use Rattle.kit.specs.Names.{_≡_, refl, ap, sym, _∙_, List, [], _∷_, _++_, append-assoc, ℕ, _+_, _*_, _≤_, arith, length, length-append}
 use Rattle.definitions.specs.ContractFile.{Node}
 use Rattle.rewrite_events.specs.Events.{Event}
 use Rattle.rewrite_log.specs.Entries.{Entries, noEntry, entryThen}

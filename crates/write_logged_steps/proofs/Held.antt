@@ -1,11 +1,6 @@
 -- Reading the five numbers of an entry that a log holds, and what it holds behind them.
-use mathlib.Core.Path.{_≡_, ap, sym, _∙_}
-use mathlib.Core.List.{List, [], _∷_, _++_, append-assoc}
-use Prim.Native.Nat.{ℕ, _+_, _≤_}
-use native.Mathlib.Nat.{add-zero}
-use native.Mathlib.Omega.{arith}
-use lib.ListN.{length, getD, take, drop, length-append}
-use lib.Seq.{getD-append-add, length-take-le}
+use Rattle.kit.specs.Names.{_≡_, ap, sym, _∙_, List, [], _∷_, _++_, append-assoc, ℕ, _+_, _≤_, arith, add-zero, length, getD, take, drop}
+use Rattle.kit.specs.Names.{length-append, getD-append-add, length-take-le}
 use Rattle.memory_buffer.specs.Buffer.{stored}
 use Rattle.write_logged_steps.specs.Held.{Holds}
 

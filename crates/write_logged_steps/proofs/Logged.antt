@@ -1,10 +1,5 @@
 -- The steps that a log of events holds are those of the events.
-use mathlib.Core.Path.{_≡_, refl, ap, _∙_}
-use mathlib.Core.Bool.{false}
-use mathlib.Core.List.{List, _∷_}
-use Prim.Native.Nat.{ℕ, suc, _+_}
-use lib.Dec.{eqb}
-use lib.ListN.{length, getD}
+use Rattle.kit.specs.Names.{_≡_, refl, ap, _∙_, false, List, _∷_, ℕ, suc, _+_, eqb, length, getD}
 use Rattle.definitions.specs.ContractFile.{Scope, Node}
 use Rattle.definitions.specs.Owners.{ownerOf}
 use Rattle.definitions.specs.Rewriting.{Step, inBody}

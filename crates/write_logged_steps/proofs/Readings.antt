@@ -1,9 +1,5 @@
 -- A log of events whose reads are few can be read for its steps.
-use mathlib.Core.Path.{_≡_, refl, ap, sym, _∙_}
-use mathlib.Core.List.{List, _++_}
-use Prim.Native.Nat.{ℕ, zero, suc, _+_, _*_, _<_, _≤_}
-use native.Mathlib.Omega.{arith}
-use lib.ListN.{length, getD, length-append}
+use Rattle.kit.specs.Names.{_≡_, refl, ap, sym, _∙_, List, _++_, ℕ, zero, suc, _+_, _*_, _<_, _≤_, arith, length, getD, length-append}
 use Rattle.definitions.specs.ContractFile.{nodeCount, Node}
 use Rattle.theory_trees.specs.Trees.{expressionIn}
 use Rattle.file_accepted.specs.Context.{nodesIn, scopeIn}

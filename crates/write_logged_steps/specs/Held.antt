@@ -1,8 +1,5 @@
 -- A log that holds numbers from a place on, and read events whose values can be written.
-use mathlib.Core.Path.{_≡_}
-use mathlib.Core.List.{List, [], _∷_, _++_}
-use Prim.Native.Nat.{ℕ, _+_, _≤_}
-use lib.ListN.{length}
+use Rattle.kit.specs.Names.{_≡_, List, [], _∷_, _++_, ℕ, _+_, _≤_, length}
 use Rattle.definitions.specs.ContractFile.{Scope, Node}
 use Rattle.rewrite_events.specs.Events.{Event, suppliedEvent, claimedEvent, readEvent, guardEvent, endEvent}
 use Rattle.rewrite_log.specs.Entries.{Entries}

@@ -1,9 +1,5 @@
 -- The node that sets a variable above its value, and a node above three children.
-use mathlib.Core.Path.{_≡_, ap, sym, _∙_}
-use mathlib.Core.List.{List, _++_}
-use Prim.Native.Nat.{ℕ, _+_, _*_, _-_, _≤_}
-use native.Mathlib.Omega.{arith}
-use lib.ListN.{length, length-append}
+use Rattle.kit.specs.Names.{_≡_, ap, sym, _∙_, List, _++_, ℕ, _+_, _*_, _-_, _≤_, arith, length, length-append}
 use Rattle.definitions.specs.ContractFile.{node}
 use Rattle.definitions.specs.Rewriting.{Tree, threeChildren, setting, size, nodeBytes}
 use Rattle.memory_buffer.specs.Buffer.{stored}

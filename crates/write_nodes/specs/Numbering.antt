@@ -1,8 +1,5 @@
 -- The nodes of a tree in a lent buffer, numbered from a first number on.
-use mathlib.Core.Path.{_≡_}
-use mathlib.Core.List.{List}
-use Prim.Native.Nat.{ℕ, _+_, _*_, _≤_}
-use lib.ListN.{length}
+use Rattle.kit.specs.Names.{_≡_, List, ℕ, _+_, _*_, _≤_, length}
 use Rattle.definitions.specs.Basics.{flatMap}
 use Rattle.definitions.specs.Rewriting.{Tree, size, numbered, nodeBytes}
 use Rattle.memory_buffer.specs.Buffer.{stored}

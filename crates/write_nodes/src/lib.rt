@@ -2,9 +2,7 @@
 use file_kinds::SET_BYTE;
 use memory_append::append_byte;
 use memory_append::append_two_bytes;
-ghost use mathlib.Core.Path.{_≡_};
-ghost use Prim.Native.Nat.{_+_, _*_, _-_, _≤_};
-ghost use lib.ListN.{length};
+ghost use Rattle.kit.specs.Names.{_≡_, _+_, _*_, _-_, _≤_, length};
 ghost use Rattle.definitions.specs.ContractFile.{node};
 ghost use Rattle.definitions.specs.Rewriting.{nodeBytes};
 ghost use Rattle.memory_buffer.specs.Buffer.{stored};

@@ -1,12 +1,6 @@
 -- The answers of writing: 1 to 15 of a refused file, 16 where the output is too short, and the written file.
-use mathlib.Core.Path.{_≡_, refl, ap, sym, _∙_}
-use mathlib.Core.Bool.{Bool, true, false, cond}
-use mathlib.Core.List.{List, [], _++_}
-use Prim.Native.Nat.{ℕ, zero, suc, _+_, _<_, _≤_}
-use native.Mathlib.Omega.{arith}
-use borrow.Author.Tests.{lt-ltb, le-ltb, ne-eqb}
-use lib.Dec.{eqb, ltb}
-use lib.ListN.{length, drop, length-append}
+use Rattle.kit.specs.Names.{_≡_, refl, ap, sym, _∙_, Bool, true, false, cond, List, [], _++_, ℕ, zero, suc, _+_, _<_, _≤_, arith, eqb, ltb}
+use Rattle.kit.specs.Names.{length, drop, length-append, lt-ltb, le-ltb, ne-eqb}
 use Rattle.definitions.specs.Basics.{twoBytes, firstThatHolds}
 use Rattle.definitions.specs.Numbers.{checkNumber}
 use Rattle.definitions.specs.Crossings.{sixteen, crossingsIn, crossingsAfterWriting}

@@ -1,10 +1,5 @@
 -- 01, Numbers: what an accepted file's answer is, and what the lent output holds then.
-use mathlib.Core.Path.{_≡_}
-use mathlib.Core.Bool.{cond}
-use mathlib.Core.List.{List, [], _∷_, _++_}
-use Prim.Native.Nat.{ℕ}
-use lib.Dec.{ltb}
-use lib.ListN.{length, drop}
+use Rattle.kit.specs.Names.{_≡_, cond, List, [], _∷_, _++_, ℕ, ltb, length, drop}
 use Rattle.definitions.specs.Basics.{firstThatHolds}
 use Rattle.definitions.specs.Crossings.{sixteen, crossingsAfterWriting}
 use Rattle.definitions.specs.Rewriting.{writeNumber, writtenLength, outputAfterWriting}

@@ -3,10 +3,7 @@ use memory_append::append;
 use memory_append::append_two_bytes;
 use write_crossings::Counts;
 use write_crossings::no_counts;
-ghost use mathlib.Core.Path.{_≡_};
-ghost use mathlib.Core.List.{_++_};
-ghost use Prim.Native.Nat.{_≤_};
-ghost use lib.ListN.{length};
+ghost use Rattle.kit.specs.Names.{_≡_, _++_, _≤_, length};
 ghost use Rattle.definitions.specs.Basics.{twoBytes};
 ghost use Rattle.write_output.specs.Answers.{HandedOut, CountsOut};
 

@@ -1,10 +1,5 @@
 -- What opening the private parameters makes, variable by variable, and that the definitions make the same.
-use mathlib.Core.Path.{_≡_, refl, ap, sym, _∙_}
-use mathlib.Core.List.{List, [], _∷_, _++_}
-use Prim.Native.Nat.{ℕ, suc, _+_, _-_, _<_, _≤_}
-use native.Mathlib.Numerals.{add-one}
-use native.Mathlib.Omega.{arith}
-use lib.ListN.{length}
+use Rattle.kit.specs.Names.{_≡_, refl, ap, sym, _∙_, List, [], _∷_, _++_, ℕ, suc, _+_, _-_, _<_, _≤_, arith, add-one, length}
 use Rattle.definitions.specs.Basics.{flatMap, twoBytes}
 use Rattle.definitions.specs.Rewriting.{always, Constraint, openings, heldUnder, sizes, variableBytes, keyOf, constraintBytes}
 use Rattle.memory_append.specs.Append.{Appended, Appending}

@@ -1,12 +1,6 @@
 -- A file's parameters, one after another, and which of them are private.
-use mathlib.Core.Path.{_≡_, refl, ap, sym, _∙_, subst}
-use mathlib.Core.Bool.{Bool, true, false, not, cond}
-use mathlib.Core.List.{List, [], _∷_, _++_, map}
-use Prim.Native.Nat.{ℕ, suc, _+_, _-_, _<_, _≤_}
-use native.Mathlib.Omega.{arith}
-use borrow.Author.Tests.{eq-eqb, ne-eqb}
-use lib.Dec.{eqb}
-use lib.ListN.{length}
+use Rattle.kit.specs.Names.{_≡_, refl, ap, sym, _∙_, subst, Bool, true, false, not, cond, List, [], _∷_, _++_, map, ℕ, suc, _+_, _-_, _<_}
+use Rattle.kit.specs.Names.{_≤_, arith, eqb, length, eq-eqb, ne-eqb}
 use Rattle.definitions.specs.Basics.{flatMap}
 use Rattle.definitions.specs.ContractFile.{Parameter, dataTypeCode, byteAt, dataTypeOf, ParameterRecord, parameterRecords, parameterOf}
 use Rattle.definitions.specs.Reading.{parametersRead}

@@ -1,9 +1,5 @@
 -- 01, Rewriting: the written parameters of a function, and what reading its private ones first makes.
-use mathlib.Core.Bool.{not, cond}
-use mathlib.Core.List.{List, [], _∷_, _++_, map}
-use Prim.Native.Nat.{ℕ, zero, suc}
-use lib.Dec.{eqb}
-use lib.ListN.{length}
+use Rattle.kit.specs.Names.{not, cond, List, [], _∷_, _++_, map, ℕ, zero, suc, eqb, length}
 use Rattle.definitions.specs.Basics.{flatMap, twoBytes}
 use Rattle.definitions.specs.ContractFile.{ParameterRecord, parameterRecords, parameterOf}
 use Rattle.definitions.specs.Rewriting.{privateParameters, parameterBytes}

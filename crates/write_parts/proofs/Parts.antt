@@ -1,11 +1,6 @@
 -- Function by function, headings and nodes come to stand in their buffers; with the fields before them they are the written file.
-use mathlib.Core.Path.{_≡_, ap, sym, _∙_}
-use mathlib.Core.List.{List, [], _∷_, _++_, map, map-append, append-assoc}
-use Prim.Native.Nat.{ℕ, suc, _+_, _*_, _<_, _≤_}
-use native.Mathlib.Numerals.{add-one}
-use native.Mathlib.Omega.{arith}
-use lib.ListN.{length, set, take, length-append, length-map}
-use lib.Seq.{length-take-le, take-all}
+use Rattle.kit.specs.Names.{_≡_, ap, sym, _∙_, List, [], _∷_, _++_, map, map-append, append-assoc, ℕ, suc, _+_, _*_, _<_, _≤_, arith}
+use Rattle.kit.specs.Names.{add-one, length, set, take, length-append, length-map, length-take-le, take-all}
 use Rattle.definitions.specs.Basics.{flatMap, twoBytes}
 use Rattle.definitions.specs.ContractFile.{fieldCount, functionCount, functionsAt, functionEnd, contractIn}
 use Rattle.definitions.specs.Reading.{functionsPassed}

@@ -1,8 +1,5 @@
 -- 01, Rewriting: the written file in two buffers: fields and functions' headings, and nodes.
-use mathlib.Core.Path.{_≡_}
-use mathlib.Core.List.{List, _∷_, _++_, map}
-use Prim.Native.Nat.{ℕ, _+_, _*_, _≤_}
-use lib.ListN.{length, take}
+use Rattle.kit.specs.Names.{_≡_, List, _∷_, _++_, map, ℕ, _+_, _*_, _≤_, length, take}
 use Rattle.definitions.specs.Basics.{flatMap}
 use Rattle.definitions.specs.ContractFile.{fieldCount, functionCount, nodeCount}
 use Rattle.definitions.specs.Numbers.{checkNumber}

@@ -1,7 +1,5 @@
 -- The trees of an expression's rewritten form, given the number of its first variable.
-use mathlib.Core.Bool.{Bool, cond}
-use mathlib.Core.List.{List}
-use Prim.Native.Nat.{ℕ}
+use Rattle.kit.specs.Names.{Bool, cond, List, ℕ}
 use Rattle.definitions.specs.ContractFile.{Expression, Scope}
 use Rattle.definitions.specs.Owners.{ownerOf}
 use Rattle.definitions.specs.Rewriting.{inBody, inCircuit, Tree, bodyTree, circuitTree}

@@ -1,12 +1,6 @@
 -- What an accepted file's counts, roots and children are: numbers 2, 4 and 5 hold nowhere.
-use mathlib.Core.Path.{_≡_, refl, ap, _∙_}
-use mathlib.Core.Bool.{Bool, false, _||_, not}
-use mathlib.Core.List.{List, [], _∷_, _++_, map}
-use Prim.Native.Nat.{ℕ, zero, suc, _+_, _*_, _≤_, _<_}
-use native.Mathlib.Omega.{arith}
-use borrow.Author.Tests.{ltb-false, leb-false, not-false, eqb-true}
-use lib.Dec.{eqb, leb, ltb}
-use lib.ListN.{length, length-map}
+use Rattle.kit.specs.Names.{_≡_, refl, ap, _∙_, Bool, false, _||_, not, List, [], _∷_, _++_, map, ℕ, zero, suc, _+_, _*_, _≤_, _<_, arith}
+use Rattle.kit.specs.Names.{eqb, leb, ltb, length, length-map, ltb-false, leb-false, not-false, eqb-true}
 use Rattle.definitions.specs.Basics.{any, anyNumbered, countIf, flatMap, isZero}
 use Rattle.definitions.specs.ContractFile.{FunctionRecord, NodeRecord, Sections, byteAt, fieldCount, functionsAt, functionCount, functionEnd, functionsEnd, nodeCount, nodesAt, fileEnd, parameterRecords, functionRecords, nodeRecords, sectionsOf, fieldOf, parameterOf, Node, nodeOf, children, fieldsNamed, functionOf, contractOf}
 use Rattle.definitions.specs.Reading.{functionsPassed, nodesBegin, functionsRead, sectionsRead}

@@ -1,14 +1,7 @@
 -- Where every node is used once, the trees of the roots have together no more nodes than there are.
-use mathlib.Core.Path.{_≡_, refl, ap, _∙_}
-use mathlib.Core.Bool.{Bool, true, false, cond}
-use mathlib.Core.List.{List, [], _∷_, _++_, append-nil}
-use Prim.Native.Nat.{ℕ, zero, suc, _+_, _*_, _≤_, _<_, max}
-use native.Mathlib.Nat.{zero-mul, one-mul, add-mul}
-use native.Mathlib.Omega.{arith}
-use borrow.Author.Tests.{eqb-true, eqb-false, ltb-true}
-use lib.Dec.{eqb, ltb}
-use lib.ListN.{length, take}
-use lib.Seq.{take-suc, take-length}
+use Rattle.kit.specs.Names.{_≡_, refl, ap, _∙_, Bool, true, false, cond, List, [], _∷_, _++_, append-nil, ℕ, zero, suc, _+_, _*_, _≤_, _<_}
+use Rattle.kit.specs.Names.{max, arith, zero-mul, one-mul, add-mul, eqb, ltb, length, take, take-suc, take-length, eqb-true, eqb-false}
+use Rattle.kit.specs.Names.{ltb-true}
 use Rattle.definitions.specs.Basics.{all, countIf, flatMap}
 use Rattle.definitions.specs.ContractFile.{NodeRecord, Kind, constantKind, meKind, fieldKind, entryKind, parameterKind, operatorKind, negationKind, revealKind, skipKind, sequenceKind, assignFieldKind, assignEntryKind, requireKind, conditionalKind, noKind, kindOf, Node, unknownNode, nodeOfKind, nodeAt, expressionParts, statementParts, children, expressionOf, statementOf}
 use Rattle.theory_laws.proofs.Lists.{count-append, flat-append}

@@ -1,11 +1,6 @@
 -- The bytes of written functions and of a written contract, from the sizes of the bodies that were rewritten.
-use mathlib.Core.Path.{_≡_, refl, ap}
-use mathlib.Core.Bool.{Bool, true, false, cond}
-use mathlib.Core.List.{List, [], _∷_, _++_, map}
-use Prim.Native.Nat.{ℕ, suc, _+_, _*_, _-_, _≤_}
-use native.Mathlib.Omega.{arith}
-use lib.Dec.{eqb}
-use lib.ListN.{length, length-append}
+use Rattle.kit.specs.Names.{_≡_, refl, ap, Bool, true, false, cond, List, [], _∷_, _++_, map, ℕ, suc, _+_, _*_, _-_, _≤_, arith, eqb}
+use Rattle.kit.specs.Names.{length, length-append}
 use Rattle.definitions.specs.Basics.{any, flatMap, twoBytes}
 use Rattle.definitions.specs.ContractFile.{everyone, ownedBy, Field, Parameter, Function, Contract, Scope, dataTypeCode}
 use Rattle.definitions.specs.Rewriting.{Command, Variable, supplied, readFrom, guard, Claim, equals, opensForCaller, always, Constraint, WrittenFunction, privateParameters, openings, heldUnder, withVerify, rewriteStatement, rewriteFunction, rewrite, size, bodyTree, commandTree, claimTrees, functionTrees, sizes, numberedAll, nodeBytes, fieldBytes, parameterBytes, variableBytes, keyOf, eachOnce, guardNumber, claimBytes, constraintBytes, functionBytes, functionsBytes, contractBytes, contractWritten, functionWritten, functionsWritten}

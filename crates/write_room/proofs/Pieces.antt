@@ -1,11 +1,6 @@
 -- What rewriting makes of an expression or a statement takes at most 64 bytes for each of its nodes.
-use mathlib.Core.Path.{_≡_, refl}
-use mathlib.Core.Bool.{Bool, true, false, _&&_, cond}
-use mathlib.Core.List.{List, [], _∷_, _++_}
-use mathlib.Core.Option.{none}
-use Prim.Native.Nat.{ℕ, suc, _+_, _*_, _≤_}
-use native.Mathlib.Omega.{arith}
-use lib.ListN.{length, length-append}
+use Rattle.kit.specs.Names.{_≡_, refl, Bool, true, false, _&&_, cond, List, [], _∷_, _++_, none, ℕ, suc, _+_, _*_, _≤_, arith, length}
+use Rattle.kit.specs.Names.{length-append}
 use Rattle.definitions.specs.ContractFile.{meName, Owner, everyone, ownedBy, Expression, Statement, Scope, fieldAt, isDivision}
 use Rattle.definitions.specs.Owners.{nameOf, placeOwner, isPublic, ownerOf}
 use Rattle.definitions.specs.Rewriting.{BodyExpression, Circuit, Command, readFrom, Claim, equals, Guard, under, Constraint, Step, Generator, StatementGenerator, kept, onePart, twoParts, supplying, readForm, reading, inBody, inCircuit, inPlace, stepsBefore, heldUnder, single, inSequence, inBranch, inBranches, rewriteStatement, size, bodyTree, circuitTree, commandTree}

@@ -1,12 +1,5 @@
 -- 01, Numbers, 16: "49,152 bytes always suffice."
-use mathlib.Core.Path.{_≡_, refl, ap}
-use mathlib.Core.Bool.{cond}
-use mathlib.Core.List.{List, [], _∷_, map}
-use Prim.Native.Nat.{ℕ, zero, suc, _+_, _*_, _≤_}
-use borrow.Author.Tests.{le-ltb}
-use native.Mathlib.Omega.{arith}
-use lib.Dec.{ltb}
-use lib.ListN.{length, length-map}
+use Rattle.kit.specs.Names.{_≡_, refl, ap, cond, List, [], _∷_, map, ℕ, zero, suc, _+_, _*_, _≤_, arith, ltb, length, length-map, le-ltb}
 use Rattle.definitions.specs.Basics.{firstThatHolds}
 use Rattle.definitions.specs.ContractFile.{FunctionRecord, nodeCount, sectionsOf, fieldOf, Node, nodeOf, functionOf, contractOf}
 use Rattle.definitions.specs.Numbers.{checkNumber, orElse}

@@ -1,8 +1,5 @@
 -- Sums over lists of numbers, and lists without one number.
-use mathlib.Core.Bool.{cond}
-use mathlib.Core.List.{List, [], _∷_}
-use Prim.Native.Nat.{ℕ, _+_, _<_}
-use lib.Dec.{eqb}
+use Rattle.kit.specs.Names.{cond, List, [], _∷_, ℕ, _+_, _<_, eqb}
 
 unfoldable pub sumOf : (ℕ → ℕ) → List ℕ → ℕ
 sumOf f [] = 0

@@ -1,8 +1,5 @@
 -- How many bytes a file's parts are ever written in; a room that is never too short for them.
-use mathlib.Core.Path.{_≡_}
-use mathlib.Core.List.{List}
-use Prim.Native.Nat.{ℕ, _+_, _*_, _≤_}
-use lib.ListN.{length}
+use Rattle.kit.specs.Names.{_≡_, List, ℕ, _+_, _*_, _≤_, length}
 use Rattle.definitions.specs.ContractFile.{fieldCount, functionCount, nodeCount, sectionsOf, contractOf}
 use Rattle.definitions.specs.Numbers.{checkNumber}
 use Rattle.definitions.specs.Rewriting.{writtenFile}

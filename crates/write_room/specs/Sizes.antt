@@ -1,7 +1,5 @@
 -- How many nodes the bodies of the original have, and how many bytes the parts of a rewritten function take.
-use mathlib.Core.List.{List, [], _∷_}
-use Prim.Native.Nat.{ℕ, _+_, _*_}
-use lib.ListN.{length}
+use Rattle.kit.specs.Names.{List, [], _∷_, ℕ, _+_, _*_, length}
 use Rattle.definitions.specs.ContractFile.{Function}
 use Rattle.definitions.specs.Rewriting.{BodyExpression, Circuit, Command, Claim, equals, opensForCaller, Constraint, Step, Piece, Passage}
 use Rattle.definitions.specs.Rewriting.{size, bodyTree, circuitTree, commandTree}

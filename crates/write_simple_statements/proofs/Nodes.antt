@@ -1,9 +1,5 @@
 -- The form and the count of a node's statement, by the kind of its record and what code has found out about it.
-use mathlib.Core.Path.{_≡_, ap, sym, _∙_}
-use mathlib.Core.Bool.{Bool}
-use mathlib.Core.List.{List}
-use mathlib.Core.Option.{none}
-use Prim.Native.Nat.{ℕ, _+_, _<_}
+use Rattle.kit.specs.Names.{_≡_, ap, sym, _∙_, Bool, List, none, ℕ, _+_, _<_}
 use Rattle.definitions.specs.ContractFile.{NodeRecord, nodeCount}
 use Rattle.definitions.specs.Rewriting.{Tree, oneChild, twoChildren}
 use Rattle.theory_trees.specs.Trees.{expressionIn, statementIn}

@@ -1,14 +1,6 @@
 -- The form and the count of a value put into a place.
-use mathlib.Core.Path.{_≡_, refl, ap, sym, _∙_}
-use mathlib.Core.Bool.{Bool, true, false, _&&_, cond, not}
-use mathlib.Core.List.{List}
-use mathlib.Core.Option.{Option, none, some}
-use Prim.Native.Nat.{ℕ, suc, _+_}
-use native.Mathlib.Numerals.{add-one}
-use borrow.Author.Tests.{ne-eqb}
-use native.Mathlib.Omega.{arith}
-use lib.Dec.{eqb}
-use lib.ListN.{length}
+use Rattle.kit.specs.Names.{_≡_, refl, ap, sym, _∙_, Bool, true, false, _&&_, cond, not, List, Option, none, some, ℕ, suc, _+_, arith}
+use Rattle.kit.specs.Names.{add-one, eqb, length, ne-eqb}
 use Rattle.definitions.specs.ContractFile.{Name, Owner, everyone, ownedBy, FieldOwner, toEveryone, toKey, toFinal, Expression, Scope, fieldAt, isEveryone, fieldOwnerCode}
 use Rattle.definitions.specs.Owners.{isPublic, placeOwner, ownerOf}
 use Rattle.definitions.specs.Rewriting.{supplying, inBody, inCircuit, inPlace, leaf, bodyTree}

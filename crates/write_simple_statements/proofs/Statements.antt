@@ -1,9 +1,5 @@
 -- The form and the count of a statement that holds no other, by what it is.
-use mathlib.Core.Path.{_≡_, refl, ap, ap₂, _∙_}
-use mathlib.Core.Bool.{Bool, not}
-use mathlib.Core.Option.{none}
-use Prim.Native.Nat.{ℕ, _+_}
-use lib.ListN.{length, length-append}
+use Rattle.kit.specs.Names.{_≡_, refl, ap, ap₂, _∙_, Bool, not, none, ℕ, _+_, length, length-append}
 use Rattle.definitions.specs.ContractFile.{Expression, Statement, Scope, fieldAt, isEveryone}
 use Rattle.definitions.specs.Owners.{nameOf, placeOwner, ownerOf}
 use Rattle.definitions.specs.Rewriting.{kept, onePart, twoParts, inBody, inPlace, leaf, oneChild, twoChildren, bodyTree, commandTree}

@@ -1,9 +1,5 @@
 -- What a value put into a place becomes: it matters whether the place is private, and not whose it is.
-use mathlib.Core.Path.{_≡_}
-use mathlib.Core.Bool.{Bool, _&&_, cond, not}
-use mathlib.Core.List.{List}
-use mathlib.Core.Option.{Option}
-use Prim.Native.Nat.{ℕ, _+_}
+use Rattle.kit.specs.Names.{_≡_, Bool, _&&_, cond, not, List, Option, ℕ, _+_}
 use Rattle.definitions.specs.ContractFile.{Name, Expression, Scope, fieldAt, isEveryone}
 use Rattle.definitions.specs.Owners.{isPublic, placeOwner}
 use Rattle.definitions.specs.Rewriting.{Tree, leaf}

@@ -1,7 +1,5 @@
 -- The form of a statement that holds no other statement, without the steps before it.
-use mathlib.Core.Bool.{not}
-use mathlib.Core.Option.{none}
-use Prim.Native.Nat.{ℕ, _+_}
+use Rattle.kit.specs.Names.{not, none, ℕ, _+_}
 use Rattle.definitions.specs.ContractFile.{Statement, Scope, fieldAt, isEveryone}
 use Rattle.definitions.specs.Owners.{nameOf, placeOwner, ownerOf}
 use Rattle.definitions.specs.Rewriting.{Command, Generator, kept, onePart, twoParts, inBody, inPlace, Tree, commandTree}

@@ -1,10 +1,5 @@
 -- What is written of a statement that holds no other is the tree of its rewritten command.
-use mathlib.Core.Path.{_≡_, refl, ap, sym, _∙_}
-use mathlib.Core.Bool.{true, false≢true}
-use mathlib.Core.List.{List}
-use mathlib.Core.Option.{none}
-use Prim.Native.Nat.{ℕ}
-use lib.ListN.{length}
+use Rattle.kit.specs.Names.{_≡_, refl, ap, sym, _∙_, true, false≢true, List, none, ℕ, length}
 use Rattle.definitions.specs.ContractFile.{Statement, Scope, fieldAt}
 use Rattle.definitions.specs.Owners.{nameOf, placeOwner, ownerOf}
 use Rattle.definitions.specs.Rewriting.{Command, Guard, Step, single, stepsBefore, inBody, inPlace, rewriteStatement, commandTree}

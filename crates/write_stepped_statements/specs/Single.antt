@@ -1,6 +1,5 @@
 -- One statement that holds no other, with the steps before it, as code reads them from a log.
-use mathlib.Core.List.{List}
-use Prim.Native.Nat.{ℕ}
+use Rattle.kit.specs.Names.{List, ℕ}
 use Rattle.definitions.specs.Rewriting.{stepsBefore, Tree, commandTree}
 use Rattle.theory_trees.specs.Trees.{statementIn}
 use Rattle.file_accepted.specs.Context.{nodesIn, scopeIn}

@@ -2,8 +2,7 @@
 use write_simple_statements::write_statement_form;
 use write_steps::close_steps;
 use write_steps::put_steps;
-ghost use Prim.Native.Nat.{_+_, _<_, _≤_};
-ghost use lib.ListN.{length};
+ghost use Rattle.kit.specs.Names.{_+_, _<_, _≤_, length};
 ghost use Rattle.definitions.specs.ContractFile.{nodeCount};
 ghost use Rattle.theory_trees.specs.Trees.{statementIn};
 ghost use Rattle.file_accepted.specs.Context.{Context, nodesIn, scopeIn};

@@ -1,10 +1,5 @@
 -- The sequences of steps, one after another from the last step on.
-use mathlib.Core.Path.{_≡_, refl, ap, sym, _∙_}
-use mathlib.Core.List.{List, _∷_}
-use Prim.Native.Nat.{ℕ, suc, _+_, _*_, _-_, _<_, _≤_}
-use native.Mathlib.Omega.{arith}
-use lib.ListN.{length, getD, take}
-use lib.Seq.{take-suc}
+use Rattle.kit.specs.Names.{_≡_, refl, ap, sym, _∙_, List, _∷_, ℕ, suc, _+_, _*_, _-_, _<_, _≤_, arith, length, getD, take, take-suc}
 use Rattle.definitions.specs.Basics.{flatMap}
 use Rattle.definitions.specs.ContractFile.{NodeRecord, node}
 use Rattle.definitions.specs.Rewriting.{nodeBytes}

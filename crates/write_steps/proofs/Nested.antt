@@ -1,10 +1,6 @@
 -- Steps before a rest: room for each of the three runs, and the runs together.
-use mathlib.Core.Path.{_≡_, refl, ap, ap₂, sym, _∙_}
-use mathlib.Core.List.{List, _++_, append-assoc}
-use Prim.Native.Nat.{ℕ, _+_, _*_, _-_, _≤_}
-use native.Mathlib.Omega.{arith}
-use lib.ListN.{length, take, drop, length-append}
-use lib.Seq.{take-at}
+use Rattle.kit.specs.Names.{_≡_, refl, ap, ap₂, sym, _∙_, List, _++_, append-assoc, ℕ, _+_, _*_, _-_, _≤_, arith, length, take, drop}
+use Rattle.kit.specs.Names.{length-append, take-at}
 use Rattle.definitions.specs.Basics.{flatMap}
 use Rattle.definitions.specs.Rewriting.{Command, Step, stepsBefore, size, sizes, numbered, numberedAll, nodeBytes, commandTree}
 use Rattle.theory_laws.proofs.Written.{all-length, nodes-length}

@@ -1,10 +1,6 @@
 -- The nodes of steps before a rest: those of the steps, those of the rest, and the sequences.
-use mathlib.Core.Path.{_≡_, refl, ap, ap₂, sym, _∙_}
-use mathlib.Core.List.{List, [], _∷_, _++_, append-assoc, append-nil}
-use Prim.Native.Nat.{ℕ, suc, _+_, _-_}
-use native.Mathlib.Nat.{add-zero}
-use native.Mathlib.Omega.{arith}
-use lib.ListN.{length, length-append}
+use Rattle.kit.specs.Names.{_≡_, refl, ap, ap₂, sym, _∙_, List, [], _∷_, _++_, append-assoc, append-nil, ℕ, suc, _+_, _-_, arith, add-zero}
+use Rattle.kit.specs.Names.{length, length-append}
 use Rattle.definitions.specs.ContractFile.{NodeRecord, node}
 use Rattle.definitions.specs.Rewriting.{Command, Step, stepsBefore, size, sizes, numbered, numberedAll, commandTree}
 use Rattle.write_nodes.proofs.TreeNodes.{size-positive}

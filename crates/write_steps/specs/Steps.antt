@@ -1,11 +1,6 @@
 -- 01, Rewriting: "Steps nest rightwards: (step, rest)".
 -- The nodes of the steps, then those of the rest, then a sequence for each step, the last one's first.
-use mathlib.Core.Path.{_≡_}
-use mathlib.Core.Bool.{Bool, cond}
-use mathlib.Core.List.{List, [], _∷_, _++_, map}
-use Prim.Native.Nat.{ℕ, zero, suc, _+_, _*_, _-_, _<_, _≤_}
-use lib.Dec.{eqb}
-use lib.ListN.{length, getD}
+use Rattle.kit.specs.Names.{_≡_, Bool, cond, List, [], _∷_, _++_, map, ℕ, zero, suc, _+_, _*_, _-_, _<_, _≤_, eqb, length, getD}
 use Rattle.definitions.specs.Basics.{flatMap}
 use Rattle.definitions.specs.ContractFile.{Scope, NodeRecord, nodeCount, node, Node}
 use Rattle.definitions.specs.Owners.{ownerOf}

@@ -1,10 +1,5 @@
 -- What a node's number stands for as a body, a circuit or a command, by the node's kind, and that its children's numbers are below it.
-use mathlib.Core.Path.{_≡_, refl, ap, _∙_}
-use mathlib.Core.Bool.{Bool, true, false, _||_, cond}
-use mathlib.Core.List.{List}
-use Prim.Native.Nat.{ℕ, _+_, _*_, _<_}
-use borrow.Author.Tests.{ne-eqb}
-use lib.Dec.{eqb}
+use Rattle.kit.specs.Names.{_≡_, refl, ap, _∙_, Bool, true, false, _||_, cond, List, ℕ, _+_, _*_, _<_, eqb, ne-eqb}
 use Rattle.definitions.specs.ContractFile.{NodeRecord, dataTypeOf, operatorOf}
 use Rattle.definitions.specs.Rewriting.{BodyExpression, Circuit, Command, Tree}
 use Rattle.write_trees.specs.Trees.{Form, leafForm, oneForm, twoForm, threeForm, settingForm, formOf, recordAt, treeOf, treeIn, FallsBy, Falling, bodyOf, circuitOf, commandOf, bodyIn, circuitIn, commandIn}

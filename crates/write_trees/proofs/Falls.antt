@@ -1,10 +1,5 @@
 -- In the nodes that `numbered` gives each child's number is below its parent's.
-use mathlib.Core.Path.{_≡_, refl}
-use mathlib.Core.List.{List, [], _∷_, _++_}
-use Prim.Native.Nat.{ℕ, zero, suc, _+_, _-_}
-use native.Mathlib.Omega.{arith}
-use native.Mathlib.Nat.{add-zero, zero-add}
-use lib.ListN.{length, length-append}
+use Rattle.kit.specs.Names.{_≡_, refl, List, [], _∷_, _++_, ℕ, zero, suc, _+_, _-_, arith, add-zero, zero-add, length, length-append}
 use Rattle.definitions.specs.ContractFile.{NodeRecord, node}
 use Rattle.definitions.specs.Rewriting.{Tree, leaf, oneChild, twoChildren, threeChildren, setting, size, numbered, numberedAll}
 use Rattle.write_trees.specs.Trees.{Form, leafForm, oneForm, twoForm, threeForm, settingForm, formOf, recordAt, FallsBy, Falls, Falling, FallingFrom}

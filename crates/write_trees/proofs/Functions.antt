@@ -1,10 +1,6 @@
 -- A function's body reads back at the root that the written file gives, behind the nodes of the function's circuits.
-use mathlib.Core.Path.{_≡_, refl, ap, sym, _∙_}
-use mathlib.Core.List.{List, [], _∷_, _++_, append-assoc, append-nil}
-use Prim.Native.Nat.{ℕ, suc, _+_, _-_}
-use native.Mathlib.Nat.{add-zero, add-assoc}
-use native.Mathlib.Omega.{arith}
-use lib.ListN.{length, length-append}
+use Rattle.kit.specs.Names.{_≡_, refl, ap, sym, _∙_, List, [], _∷_, _++_, append-assoc, append-nil, ℕ, suc, _+_, _-_, arith, add-zero}
+use Rattle.kit.specs.Names.{add-assoc, length, length-append}
 use Rattle.definitions.specs.Basics.{flatMap}
 use Rattle.definitions.specs.ContractFile.{NodeRecord}
 use Rattle.definitions.specs.Rewriting.{Command, WrittenFunction, Tree, size, sizes, numbered, numberedAll, commandTree, claimTrees, functionTrees}

@@ -1,7 +1,5 @@
 -- The nodes of a numbered tree fit the bytes that they are written to, where the tree's own numbers and its nodes' numbers do.
-use mathlib.Core.List.{List, [], _∷_, _++_}
-use Prim.Native.Nat.{ℕ, _+_, _-_, _<_, _≤_}
-use native.Mathlib.Omega.{arith}
+use Rattle.kit.specs.Names.{List, [], _∷_, _++_, ℕ, _+_, _-_, _<_, _≤_, arith}
 use Rattle.definitions.specs.ContractFile.{NodeRecord, node}
 use Rattle.definitions.specs.Rewriting.{Tree, leaf, oneChild, twoChildren, threeChildren, setting, size, numbered, sizes, numberedAll}
 use Rattle.write_trees.proofs.Tables.{AllNarrow, none, more}

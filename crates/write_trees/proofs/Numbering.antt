@@ -1,10 +1,6 @@
 -- The nodes that `numbered` gives, standing anywhere in a table, read back as their tree, and their children's numbers fall.
-use mathlib.Core.Path.{_≡_, refl, ap, ap₂, _∙_}
-use mathlib.Core.List.{List, [], _∷_, _++_, append-assoc}
-use Prim.Native.Nat.{ℕ, zero, suc, _+_, _-_, _≤_, _<_}
-use native.Mathlib.Omega.{arith}
-use lib.ListN.{length, length-append}
-use lib.Seq.{getD-at}
+use Rattle.kit.specs.Names.{_≡_, refl, ap, ap₂, _∙_, List, [], _∷_, _++_, append-assoc, ℕ, zero, suc, _+_, _-_, _≤_, _<_, arith, length}
+use Rattle.kit.specs.Names.{length-append, getD-at}
 use Rattle.definitions.specs.ContractFile.{NodeRecord, node}
 use Rattle.definitions.specs.Rewriting.{Tree, leaf, oneChild, twoChildren, threeChildren, setting, size, numbered}
 use Rattle.write_trees.specs.Trees.{Form, leafForm, oneForm, twoForm, threeForm, settingForm, formOf, recordAt, treeOf, treeAt}

@@ -1,9 +1,5 @@
 -- Four numbers for each constraint.
-use mathlib.Core.Path.{_≡_, refl}
-use mathlib.Core.List.{List, [], _∷_}
-use Prim.Native.Nat.{ℕ, _+_, _*_}
-use native.Mathlib.Omega.{arith}
-use lib.ListN.{length, length-append}
+use Rattle.kit.specs.Names.{_≡_, refl, List, [], _∷_, ℕ, _+_, _*_, arith, length, length-append}
 use Rattle.definitions.specs.Rewriting.{Claim, equals, opensForCaller, Constraint, sizes, claimTrees, guardNumber}
 use Rattle.write_trees.specs.Numbers.{claimNumbers, constraintNumbers}
 

@@ -1,7 +1,5 @@
 -- A node as code has read it is the table's.
-use mathlib.Core.Path.{_≡_, sym, _∙_}
-use mathlib.Core.List.{List}
-use Prim.Native.Nat.{ℕ, _*_, _<_}
+use Rattle.kit.specs.Names.{_≡_, sym, _∙_, List, ℕ, _*_, _<_}
 use Rattle.definitions.specs.ContractFile.{nodeRecord}
 use Rattle.file_bytes.specs.Node.{IsNode, recordOf}
 use Rattle.file_bytes.specs.declared.Node.{Node}

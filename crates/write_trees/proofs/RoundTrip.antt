@@ -1,9 +1,5 @@
 -- The written trees of bodies, circuits and commands have the forms of their kinds, and say what they were written for.
-use mathlib.Core.Path.{_≡_, refl, ap, ap₂, _∙_}
-use mathlib.Core.List.{List, [], _∷_, _++_}
-use Prim.Native.Nat.{ℕ, suc, _+_, _*_, _-_, _/_, _%_, _≤_}
-use native.Mathlib.Omega.{arith}
-use lib.ListN.{length}
+use Rattle.kit.specs.Names.{_≡_, refl, ap, ap₂, _∙_, List, [], _∷_, _++_, ℕ, suc, _+_, _*_, _-_, _/_, _%_, _≤_, arith, length}
 use Rattle.definitions.specs.Basics.{flatMap}
 use Rattle.definitions.specs.ContractFile.{DataType, boolean, uint, address, Operator, plus, minus, times, divide, remainder, less, lessOrEqual, equal, unequal, conjunction, disjunction, operatorCode, dataTypeCode, NodeRecord, dataTypeOf, operatorOf}
 use Rattle.definitions.specs.Rewriting.{BodyExpression, Circuit, Command, Claim, equals, opensForCaller, Constraint, WrittenFunction, size, numbered, bodyTree, circuitTree, commandTree, claimTrees, functionTrees}

@@ -1,12 +1,7 @@
 -- The node at a number of the table, and a table read back from the bytes that it was written to.
-use mathlib.Core.Path.{_≡_, refl, ap, ap₂, sym, _∙_}
-use mathlib.Core.List.{List, [], _∷_, _++_, append-assoc, append-nil}
-use Prim.Native.Nat.{ℕ, _+_, _*_, _/_, _%_, _<_, _≤_}
-use native.Mathlib.Nat.{zero-add, add-zero}
-use native.Mathlib.Omega.{arith}
-use lib.ListN.{length, List·getD-eq-default, length-append}
+use Rattle.kit.specs.Names.{_≡_, refl, ap, ap₂, sym, _∙_, List, [], _∷_, _++_, append-assoc, append-nil, ℕ, _+_, _*_, _/_, _%_, _<_, _≤_}
+use Rattle.kit.specs.Names.{arith, zero-add, add-zero, length, List·getD-eq-default, length-append, getD-append-add}
 use Rattle.definitions.specs.Basics.{flatMap}
-use lib.Seq.{getD-append-add}
 use Rattle.definitions.specs.ContractFile.{NodeRecord, byteAt, twoBytesAt, nodeRecord, nodeRecords, node}
 use Rattle.definitions.specs.Reading.{nodesRead}
 use Rattle.definitions.specs.Rewriting.{nodeBytes}

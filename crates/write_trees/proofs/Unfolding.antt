@@ -1,8 +1,5 @@
 -- The tree of a node unfolds into its children's trees: more levels than a node's number change nothing.
-use mathlib.Core.Path.{_≡_, refl, ap, ap₂}
-use mathlib.Core.List.{List}
-use Prim.Native.Nat.{ℕ, zero, suc, _<_}
-use native.Mathlib.Omega.{arith}
+use Rattle.kit.specs.Names.{_≡_, refl, ap, ap₂, List, ℕ, zero, suc, _<_, arith}
 use Rattle.definitions.specs.ContractFile.{NodeRecord}
 use Rattle.definitions.specs.Rewriting.{Tree, oneChild, twoChildren, threeChildren, setting}
 use Rattle.write_trees.specs.Trees.{Form, leafForm, oneForm, twoForm, threeForm, settingForm, formOf, recordAt, treeOf, treeAt, treeIn, FallsBy, Falling}

@@ -1,7 +1,5 @@
 -- The bytes of written nodes, eight a node, as a table of nodes.
-use mathlib.Core.List.{List}
-use Prim.Native.Nat.{ℕ, _/_, _≤_}
-use lib.ListN.{length}
+use Rattle.kit.specs.Names.{List, ℕ, _/_, _≤_, length}
 use Rattle.definitions.specs.ContractFile.{NodeRecord, nodeRecords}
 use Rattle.write_trees.specs.Trees.{Falling}
 

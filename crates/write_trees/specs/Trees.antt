@@ -1,9 +1,5 @@
 -- A table of written nodes read back: a node's tree by its kind, and what a tree says as a body, a circuit or a command.
-use mathlib.Core.Bool.{_||_, cond}
-use mathlib.Core.List.{List, [], _∷_}
-use Prim.Native.Nat.{ℕ, zero, suc, _+_, _*_, _<_}
-use lib.Dec.{eqb}
-use lib.ListN.{getD}
+use Rattle.kit.specs.Names.{_||_, cond, List, [], _∷_, ℕ, zero, suc, _+_, _*_, _<_, eqb, getD}
 use Rattle.definitions.specs.ContractFile.{NodeRecord, dataTypeOf, operatorOf, node}
 use Rattle.definitions.specs.Rewriting.{BodyExpression, Circuit, Command, Tree, leaf, oneChild, twoChildren, threeChildren, setting}
 

@@ -1,9 +1,5 @@
 -- The counts are the lengths of the lists of variables that rewriting makes, whatever the number of the first variable is.
-use mathlib.Core.Path.{_≡_, refl, ap, ap₂, _∙_}
-use mathlib.Core.Bool.{Bool, true, false, _&&_, cond}
-use mathlib.Core.List.{[], _∷_}
-use Prim.Native.Nat.{ℕ, suc, _+_}
-use lib.ListN.{length, length-append}
+use Rattle.kit.specs.Names.{_≡_, refl, ap, ap₂, _∙_, Bool, true, false, _&&_, cond, [], _∷_, ℕ, suc, _+_, length, length-append}
 use Rattle.definitions.specs.ContractFile.{Owner, everyone, Operator, Expression, Scope, isDivision}
 use Rattle.definitions.specs.Owners.{isPublic, ownerOf}
 use Rattle.definitions.specs.Rewriting.{BodyExpression, Circuit, readFrom, Generator, kept, onePart, twoParts, supplying, reading, operatorInCircuit, inBody, inCircuit}

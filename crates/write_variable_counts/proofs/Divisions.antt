@@ -1,7 +1,5 @@
 -- The codes of / and % are 3 and 4.
-use mathlib.Core.Path.{_≡_, refl}
-use mathlib.Core.Bool.{Bool, true, false, _&&_}
-use Prim.Native.Nat.{ℕ}
+use Rattle.kit.specs.Names.{_≡_, refl, Bool, true, false, _&&_, ℕ}
 use Rattle.definitions.specs.ContractFile.{Expression, Scope, isDivision, operatorOf}
 use Rattle.definitions.specs.Owners.{isPublic}
 use Rattle.theory_laws.proofs.Codes.{other-operator}

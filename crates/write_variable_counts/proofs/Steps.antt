@@ -1,8 +1,5 @@
 -- The counts by an expression's kind, as code learns it.
-use mathlib.Core.Path.{_≡_}
-use mathlib.Core.Bool.{true, false, _&&_}
-use Prim.Native.Nat.{ℕ, _+_}
-use native.Mathlib.Numerals.{add-one}
+use Rattle.kit.specs.Names.{_≡_, true, false, _&&_, ℕ, _+_, add-one}
 use Rattle.definitions.specs.ContractFile.{DataType, Owner, Operator, Expression, Scope, isDivision}
 use Rattle.definitions.specs.Owners.{isPublic}
 use Rattle.write_variable_counts.specs.Counts.{bodyCount, circuitCount}

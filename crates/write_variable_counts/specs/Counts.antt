@@ -1,6 +1,5 @@
 -- How many variables rewriting an expression makes, in a body and in a circuit.
-use mathlib.Core.Bool.{Bool, _&&_, cond}
-use Prim.Native.Nat.{ℕ, suc, _+_}
+use Rattle.kit.specs.Names.{Bool, _&&_, cond, ℕ, suc, _+_}
 use Rattle.definitions.specs.ContractFile.{Operator, Expression, Scope, isDivision}
 use Rattle.definitions.specs.Owners.{isPublic}
 

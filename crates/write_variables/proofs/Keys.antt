@@ -1,13 +1,7 @@
 -- Codes each once by first use, with a table of those seen.
-use mathlib.Core.Path.{_≡_, refl, ap, sym, _∙_, subst}
-use mathlib.Core.Bool.{Bool, true, false, _||_, cond}
-use mathlib.Core.List.{List, [], _∷_, _++_}
-use Prim.Native.Nat.{ℕ, _+_, _%_, _<_, _≤_}
-use native.Mathlib.Omega.{arith}
-use borrow.Author.Tests.{eqb-true, eqb-false, eq-eqb, ne-eqb}
-use lib.Dec.{eqb}
-use lib.ListN.{length, getD, set, drop, replicate}
-use lib.Seq.{getD-set-same, getD-set-other}
+use Rattle.kit.specs.Names.{_≡_, refl, ap, sym, _∙_, subst, Bool, true, false, _||_, cond, List, [], _∷_, _++_, ℕ, _+_, _%_, _<_, _≤_}
+use Rattle.kit.specs.Names.{arith, eqb, length, getD, set, drop, replicate, getD-set-same, getD-set-other, eqb-true, eqb-false, eq-eqb}
+use Rattle.kit.specs.Names.{ne-eqb}
 use Rattle.definitions.specs.Basics.{any}
 use Rattle.definitions.specs.Rewriting.{eachOnce}
 use Rattle.theory_laws.proofs.Lists.{zeros-at}

@@ -1,13 +1,6 @@
 -- What a log of events tells of a function's variables is what the definitions tell.
-use mathlib.Core.Path.{_≡_, refl, ap, ap₂, _∙_}
-use mathlib.Core.Bool.{Bool, false, cond}
-use mathlib.Core.List.{List, [], _∷_, _++_}
-use Prim.Native.Nat.{ℕ, suc, _+_, _%_, _<_}
-use native.Mathlib.Nat.{mod-eq-of-lt}
-use native.Mathlib.Omega.{arith}
-use borrow.Author.Tests.{ne-eqb}
-use lib.Dec.{eqb, leb}
-use lib.ListN.{length}
+use Rattle.kit.specs.Names.{_≡_, refl, ap, ap₂, _∙_, Bool, false, cond, List, [], _∷_, _++_, ℕ, suc, _+_, _%_, _<_, arith, mod-eq-of-lt}
+use Rattle.kit.specs.Names.{eqb, leb, length, ne-eqb}
 use Rattle.definitions.specs.Basics.{countIf, flatMap}
 use Rattle.definitions.specs.ContractFile.{Name, meName, finalName, parameterName, Owner, everyone, ownedBy, Expression, Scope, ownerCode, Node}
 use Rattle.definitions.specs.Rewriting.{supplied, readFrom, origin, variableBytes, keyOf}

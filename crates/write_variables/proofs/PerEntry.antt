@@ -1,9 +1,5 @@
 -- A log unfolds entry by entry.
-use mathlib.Core.Path.{_≡_, refl, ap}
-use mathlib.Core.List.{List, [], _∷_, _++_}
-use Prim.Native.Nat.{ℕ, _+_, _<_, _≤_}
-use native.Mathlib.Omega.{arith}
-use lib.ListN.{length, getD, drop, length-append, length-drop}
+use Rattle.kit.specs.Names.{_≡_, refl, ap, List, [], _∷_, _++_, ℕ, _+_, _<_, _≤_, arith, length, getD, drop, length-append, length-drop}
 use Rattle.theory_laws.proofs.Lists.{five-next}
 use Rattle.memory_append.specs.Append.{Appended, Appending}
 use Rattle.memory_append.proofs.Appending.{appending-room, appending-next, appending-done}

@@ -1,11 +1,5 @@
 -- The ways out of the tests on one entry.
-use mathlib.Core.Path.{_≡_, ap}
-use mathlib.Core.Bool.{true, false}
-use mathlib.Core.List.{List, [], _∷_}
-use Prim.Native.Nat.{ℕ, _+_, _%_, _≤_}
-use native.Mathlib.Omega.{arith}
-use borrow.Author.Tests.{eq-eqb, ne-eqb}
-use lib.ListN.{length}
+use Rattle.kit.specs.Names.{_≡_, ap, true, false, List, [], _∷_, ℕ, _+_, _%_, _≤_, arith, length, eq-eqb, ne-eqb}
 use Rattle.memory_append.specs.Append.{Appended}
 use Rattle.memory_append.proofs.Appending.{appended-nothing, appended-then}
 use Rattle.rewrite_log.specs.Entries.{makesNone}

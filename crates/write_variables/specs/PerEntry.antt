@@ -1,9 +1,5 @@
 -- What is made of each entry of a log, one entry after another: tag, variable, owner code, node, last.
-use mathlib.Core.Bool.{cond}
-use mathlib.Core.List.{List, [], _∷_, _++_}
-use Prim.Native.Nat.{ℕ}
-use lib.Dec.{eqb}
-use lib.ListN.{length}
+use Rattle.kit.specs.Names.{cond, List, [], _∷_, _++_, ℕ, eqb, length}
 
 abbrev pub FromEntry : Type 0
 FromEntry = ℕ → ℕ → ℕ → ℕ → ℕ → List ℕ

@@ -1,10 +1,5 @@
 -- 01, Rewriting: the bytes of a function's variables and the owner codes needing keys, from its log.
-use mathlib.Core.Path.{_≡_}
-use mathlib.Core.Bool.{Bool, _||_, cond}
-use mathlib.Core.List.{List, [], _∷_, _++_}
-use Prim.Native.Nat.{ℕ, _%_, _<_}
-use lib.Dec.{eqb}
-use lib.ListN.{getD}
+use Rattle.kit.specs.Names.{_≡_, Bool, _||_, cond, List, [], _∷_, _++_, ℕ, _%_, _<_, eqb, getD}
 use Rattle.definitions.specs.ContractFile.{ownerCode}
 use Rattle.memory_append.specs.Append.{Appended}
 use Rattle.rewrite_events.specs.Events.{Event, suppliedEvent, claimedEvent, readEvent, guardEvent, endEvent}

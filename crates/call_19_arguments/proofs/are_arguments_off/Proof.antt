@@ -1,18 +1,13 @@
-use mathlib.Core.Path.{_≡_, sym}
-use native.Mathlib.Omega.{arith}
-use lib.ListN.{length}
-use lib.Seq.{length-take-le}
+use Rattle.kit.specs.Names.{_≡_, sym, arith, length, length-take-le, needs}
 use Rattle.ledger_struct.specs.Ledgers.{ledgerOf}
 use Rattle.ledger_struct.proofs.Flat.{take-many}
 use Rattle.call_19_arguments.proofs.Arguments.{off-in}
-use borrow.Author.Needs.{needs}
-use Rattle.call_19_arguments.proofs.are_arguments_off.Statement.{statement}
-use Rattle.call_19_arguments.proofs.are_arguments_off.Tie as tie
+use Rattle.call_19_arguments.proofs.are_arguments_off as own
 
-bytes : (c : tie.Start) → length (c .args .l .file) ≡ 4596
+bytes : (c : own.Tie.Start) → length (c .args .l .file) ≡ 4596
 bytes c = search needs
 
-returns : tie.Need-returns
+returns : own.Tie.Need-returns
 unfolding ledgerOf
 returns c =
     let k = c .before .before .before in
@@ -20,12 +15,9 @@ returns c =
     let l = s .args .l in
     off-in _ _ (s .args .arguments .now) (s .args .function) _ (take-many (l .«file_length») (k .at-most .result) (l .file) (omega (arith, k .at-most .ensures, bytes s))) (c .arguments-off-for .ensures)
 
-pub are-arguments-off-spec : {M : Type 1} → statement M
+pub are-arguments-off-spec : {M : Type 1} → own.Statement.statement M
 are-arguments-off-spec =
-    tie.close (tie.spec
-    (λ c κs. search needs)
-    (λ c. omega (arith, c .before .at-most .ensures, bytes (c .before .before .before)))
+    own.Tie.close (own.Tie.spec (λ c κs. search needs) (λ c. omega (arith, c .before .at-most .ensures, bytes (c .before .before .before)))
     (λ c. let k = c .before .before in
     sym (length-take-le (k .at-most .result) (c .before .before .before .before .args .l .file) (omega (arith, k .at-most .ensures, bytes (c .before .before .before .before)))))
-    (λ c κs. search needs)
-    returns)
+    (λ c κs. search needs) returns)

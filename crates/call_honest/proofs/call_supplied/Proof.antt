@@ -1,16 +1,13 @@
-use native.Mathlib.Omega.{arith}
+use Rattle.kit.specs.Names.{arith, needs}
 use Rattle.theory_typing.proofs.CallEnvironment.{calls-left}
 use Rattle.call_ledgers.proofs.Ledgers.{call-of, call-left}
 use Rattle.call_honest.proofs.HonestParts.{parameters-ready, variables-ready, call-ready, call-honest}
-use borrow.Author.Needs.{needs}
 use Rattle.ledger_struct.proofs.Meaning.{laid-same}
-use Rattle.call_honest.proofs.call_supplied.Statement.{statement}
-use Rattle.call_honest.proofs.call_supplied.Tie as tie
+use Rattle.call_honest.proofs.call_supplied as own
 
-pub call-supplied-spec : {M : Type 1} → statement M
+pub call-supplied-spec : {M : Type 1} → own.Statement.statement M
 call-supplied-spec =
-    tie.close (tie.spec
-    (λ c κs. let (worked-out, _) = c .before .before .before .before .before .before .before .pre in
+    own.Tie.close (own.Tie.spec (λ c κs. let (worked-out, _) = c .before .before .before .before .before .before .before .pre in
     omega (arith, call-left _ (calls-left _ _ _ _ (worked-out .called .clear))))
     (λ c κs. let (worked-out, contents-room) = c .before .before .before .before .before .before .before .before .before .pre in
     parameters-ready _ _ _ _ _ _ (worked-out .called) _ (contents-room .forParameters))

@@ -1,14 +1,11 @@
-use native.Mathlib.Omega.{arith}
+use Rattle.kit.specs.Names.{arith, needs}
 use Rattle.call_ledgers.proofs.Ledgers.{taken-length}
 use Rattle.call_honest.proofs.HonestParts.{slots-room, slots-few, worked-out}
-use borrow.Author.Needs.{needs}
-use Rattle.call_honest.proofs.call_worked_out.Statement.{statement}
-use Rattle.call_honest.proofs.call_worked_out.Tie as tie
+use Rattle.call_honest.proofs.call_worked_out as own
 
-pub call-worked-out-spec : {M : Type 1} → statement M
+pub call-worked-out-spec : {M : Type 1} → own.Statement.statement M
 call-worked-out-spec =
-    tie.close (tie.spec
-    (λ c. search needs)
+    own.Tie.close (own.Tie.spec (λ c. search needs)
     (λ c κs. let pre-known = c .before .before .before .before .before .before .before .before .pre .known in
     slots-room _ _ _ _ _ _ (pre-known .called) _ (pre-known .held) _ (omega arith))
     (λ c. omega (arith, slots-few _ _ _ _ _ _ (c .before .before .before .before .before .before .before .before .before .before .before .before .pre .known .called) _ _ _ _ (c .before .before .before .honest-slots .ensures)))

@@ -1,17 +1,11 @@
-use mathlib.Core.Path.{sym}
-use native.Mathlib.Omega.{arith}
-use borrow.Author.Needs.{needs}
+use Rattle.kit.specs.Names.{sym, arith, needs}
 use Rattle.call_ledgers.proofs.Ledgers.{taken-length}
-use Rattle.call_with.proofs.call_addresses.Statement.{statement}
-use Rattle.call_with.proofs.call_addresses.Tie as tie
+use Rattle.call_with.proofs.call_addresses as own
 
-pub call-addresses-spec : {M : Type 1} → statement M
+pub call-addresses-spec : {M : Type 1} → own.Statement.statement M
 call-addresses-spec =
-    tie.close (tie.spec
-    (λ c. search needs) (λ c κs. search needs) (λ c. search needs) (λ c κs. search needs) (λ c. search needs)
-    (λ c. taken-length _ _ (omega arith))
-    (λ c. search needs)
-    (λ c. taken-length _ _ (omega arith))
+    own.Tie.close (own.Tie.spec (λ c. search needs) (λ c κs. search needs) (λ c. search needs) (λ c κs. search needs) (λ c. search needs)
+    (λ c. taken-length _ _ (omega arith)) (λ c. search needs) (λ c. taken-length _ _ (omega arith))
     (λ c κs. search needs) (λ c. search needs)
     (λ c. let plain-numbers-first = c .before .before .before .before .before .before .before .before .before .before .plain-numbers .ensures .first in
     let plain-numbers2-first = c .before .before .before .before .before .before .before .plain-numbers2 .ensures .first in

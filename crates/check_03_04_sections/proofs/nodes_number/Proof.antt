@@ -1,32 +1,24 @@
-use mathlib.Core.Path.{_≡_, refl, sym, _∙_}
-use mathlib.Core.Bool.{true, false, _||_}
-use Prim.Native.Nat.{_+_, _*_, _/_, _≤_}
-use native.Mathlib.Omega.{arith}
-use lib.ListN.{length}
-use borrow.Author.Needs.{needs}
+use Rattle.kit.specs.Names.{_≡_, refl, sym, _∙_, true, false, _||_, _+_, _*_, _/_, _≤_, arith, length, needs}
 use Rattle.definitions.specs.Basics.{any, anyNumbered}
 use Rattle.file_decoded.specs.Slices.{nodesFrom}
 use Rattle.check_03_nodes.specs.Outside.{nodeOutside}
 use Rattle.check_04_nodes.specs.Naming.{nodeNamesNothing}
 use Rattle.check_03_04_sections.proofs.NamingLoops.{node-inside, node-outside, nodes-inside, node-names, nodes-name}
 use Rattle.check_03_04_sections.proofs.Order.{third, fourth}
-use Rattle.check_03_04_sections.proofs.nodes_number.Statement.{statement}
-use Rattle.check_03_04_sections.proofs.nodes_number.Tie as tie
+use Rattle.check_03_04_sections.proofs.nodes_number as own
 
-abbrev Inv-loop : tie.InvT-loop
+abbrev Inv-loop : own.Tie.InvT-loop
 Inv-loop nodes fields at₀ left₀ n₀ nothing₀ at left n nothing =
     (any nodeOutside (nodesFrom left nodes at) ≡ any nodeOutside (nodesFrom (length nodes / 5) nodes 0))
     × (nothing || anyNumbered (nodeNamesNothing fields) n (nodesFrom left nodes at) ≡ anyNumbered (nodeNamesNothing fields) 0 (nodesFrom (length nodes / 5) nodes 0))
     × (at + 5 * left ≤ length nodes) × (n + left ≤ length nodes)
 
-abbrev μ-loop : tie.MeasureT-loop
+abbrev μ-loop : own.Tie.MeasureT-loop
 μ-loop nodes fields at₀ left₀ n₀ nothing₀ at left n nothing = left
 
-pub nodes-number-spec : {M : Type 1} → statement M
+pub nodes-number-spec : {M : Type 1} → own.Statement.statement M
 nodes-number-spec =
-    tie.close (tie.spec Inv-loop μ-loop
-    (λ c. (refl, refl, omega arith, omega arith))
-    (λ c κs. search needs) (λ c κs. search needs)
+    own.Tie.close (own.Tie.spec Inv-loop μ-loop (λ c. (refl, refl, omega arith, omega arith)) (λ c κs. search needs) (λ c κs. search needs)
     (λ c. let turn = c .before .before .before in
     third _ _ (node-outside _ (turn .before .before .before .args .nodes .now) _ _ (turn .before .loop .inv .0) (turn .loop-test .taken) _
     (c .before .before .node-from .ensures) _ (c .before .node-in-tables .ensures) (c .if1 .taken)))

@@ -1,8 +1,4 @@
-use mathlib.Core.Path.{_≡_, ap}
-use Prim.Native.Nat.{ℕ, _*_, _-_, _/_, _≤_}
-use native.Mathlib.Omega.{arith}
-use lib.ListN.{length}
-use borrow.Author.Needs.{needs}
+use Rattle.kit.specs.Names.{_≡_, ap, ℕ, _*_, _-_, _/_, _≤_, arith, length, needs}
 use Rattle.definitions.specs.Basics.{any}
 use Rattle.file_decoded.specs.Slices.{functionsFrom}
 use Rattle.check_03_declarations.specs.Outside.{functionOutside}
@@ -20,8 +16,7 @@ abbrev μ-loop : tie.MeasureT-loop
 
 pub functions-outside-spec : {M : Type 1} → statement M
 functions-outside-spec =
-    tie.close (tie.spec Inv-loop μ-loop
-    (λ c. let args = c .before .before .args in
+    tie.close (tie.spec Inv-loop μ-loop (λ c. let args = c .before .before .args in
     let all : length (args .functions .now) / 3 - 0 ≡ length (args .functions .now) / 3 = omega arith in
     (ap (λ (n : ℕ). any functionOutside (functionsFrom (args .parameters .now) n (args .functions .now) 0)) all, omega arith))
     (λ c. search needs) (λ c κs. omega arith) (λ c. search needs) (λ c. search needs) (λ c κs. omega arith)
@@ -29,12 +24,10 @@ functions-outside-spec =
     omega (arith, start .pre .each (loop .f) (omega arith), c .number-from2 .ensures .0, c .before .number-from .ensures .0))
     (λ c. let own = c .before .before in let turn = own .before .before in let args = turn .before .before .before .before .args in
     function-outside _ _ (args .functions .now) (args .parameters .now) _ (turn .before .loop .inv .0) (turn .loop-test .taken) _ _ (own .before .number-from .ensures .0)
-    (own .number-from2 .ensures .0) _ (c .before .parameters-outside .ensures) (c .if1 .taken))
-    (λ c. search needs) (λ c. search needs)
+    (own .number-from2 .ensures .0) _ (c .before .parameters-outside .ensures) (c .if1 .taken)) (λ c. search needs) (λ c. search needs)
     (λ c. let own = c .before .before in let turn = own .before .before in let args = turn .before .before .before .before .args in (
       function-inside _ _ (args .functions .now) (args .parameters .now) _ (turn .before .loop .inv .0) (turn .loop-test .taken) _ _ (own .before .number-from .ensures .0)
           (own .number-from2 .ensures .0) _ (c .before .parameters-outside .ensures) (c .if1 .left),
       omega arith,
-    ))
-    (λ c. let args = c .before .before .before .before .args in
+    )) (λ c. let args = c .before .before .before .before .args in
     functions-inside _ _ (args .functions .now) (args .parameters .now) _ (c .before .loop .inv .0) (c .loop-test .left)))

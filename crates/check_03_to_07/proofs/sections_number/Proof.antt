@@ -2,13 +2,11 @@
 use Rattle.file_decoded.specs.Slices.{sectionsFrom}
 use Rattle.check_06_depth.proofs.Loops.{children-below}
 use Rattle.check_03_to_07.proofs.Shape.{first-two, names-settled, last-three}
-use Rattle.check_03_to_07.proofs.sections_number.Statement.{statement}
-use Rattle.check_03_to_07.proofs.sections_number.Tie as tie
+use Rattle.check_03_to_07.proofs.sections_number as own
 
-pub sections-number-spec : {M : Type 1} → statement M
+pub sections-number-spec : {M : Type 1} → own.Statement.statement M
 sections-number-spec =
-    tie.close (tie.spec
-    (λ c κs. c .before .before .before .before .pre .inside)
+    own.Tie.close (own.Tie.spec (λ c κs. c .before .before .before .before .pre .inside)
     (λ c. let args = c .before .before .before .before .before .before .args in
     first-two (sectionsFrom (args .fields .now) (args .functions .now) (args .parameters .now) (args .nodes .now)) _ (c .before .tables-and-names .ensures) (c .if1 .taken))
     (λ c κs. let start = c .before .before .before .before .before .before in let args = start .args in

@@ -1,9 +1,4 @@
-use mathlib.Core.Path.{_≡_}
-use mathlib.Core.Bool.{_||_}
-use Prim.Native.Nat.{_+_, _*_, _/_}
-use native.Mathlib.Omega.{arith}
-use lib.ListN.{length}
-use borrow.Author.Needs.{needs}
+use Rattle.kit.specs.Names.{_≡_, _||_, _+_, _*_, _/_, arith, length, needs}
 use Rattle.definitions.specs.Basics.{any, flatMap}
 use Rattle.file_bytes.specs.Node.{recordOf}
 use Rattle.file_decoded.specs.Slices.{nodesFrom}
@@ -14,23 +9,21 @@ use Rattle.check_06_depth.specs.Chains.{Chains}
 use Rattle.check_06_depth.proofs.Loops.{chains-next, chains-done}
 use Rattle.check_07_sorts.specs.Sorts.{nodesIn, partsWrong}
 use Rattle.check_07_sorts.proofs.SortLoops.{nodeWrong, nodes-all, node-noted, nodes-noted}
-use Rattle.check_05_to_07.proofs.look_at_nodes.Statement.{statement}
-use Rattle.check_05_to_07.proofs.look_at_nodes.Tie as tie
+use Rattle.check_05_to_07.proofs.look_at_nodes as own
 
-abbrev Inv-loop : tie.InvT-loop
+abbrev Inv-loop : own.Tie.InvT-loop
 Inv-loop nodes counts₀ depths₀ at₀ left₀ n₀ wrong₀ counts depths at left n wrong =
     (Leads counts₀ counts (flatMap childrenOf (nodesFrom left nodes at)) (flatMap childrenOf (nodesFrom (length nodes / 5) nodes 0)))
     × (Room counts (3 * left + 16)) × (Chains (nodesIn nodes) n depths)
     × (wrong || any (nodeWrong (nodesIn nodes)) (nodesFrom left nodes at) ≡ any (partsWrong (nodesIn nodes)) (nodesIn nodes))
     × (at ≡ 5 * n) × (n + left ≡ length nodes / 5)
 
-abbrev μ-loop : tie.MeasureT-loop
+abbrev μ-loop : own.Tie.MeasureT-loop
 μ-loop nodes counts₀ depths₀ at₀ left₀ n₀ wrong₀ counts depths at left n wrong = left
 
-pub look-at-nodes-spec : {M : Type 1} → statement M
+pub look-at-nodes-spec : {M : Type 1} → own.Statement.statement M
 look-at-nodes-spec =
-    tie.close (tie.spec Inv-loop μ-loop
-    (λ c. let start = c .before in let (_, _, room, chains) = start .pre in
+    own.Tie.close (own.Tie.spec Inv-loop μ-loop (λ c. let start = c .before in let (_, _, room, chains) = start .pre in
     (leads-all _ _, room, chains, nodes-all (start .args .nodes .now), omega arith, omega arith))
     (λ c κs. search needs) (λ c κs. search needs)
     (λ c κs. let (_, room, _, _, _, _) = c .before .before .before .before .loop .inv in (room-less _ _ 3 room (omega arith), c .before .child-count .ensures))
@@ -48,8 +41,7 @@ look-at-nodes-spec =
           (c .before .parts-wrong .ensures) _ (c .either .ensures),
       omega arith,
       omega arith,
-    ))
-    (λ c. let nodes = c .before .before .before .args .nodes .now in let (leads, room, chains, sorts, _, _) = c .before .loop .inv in (
+    )) (λ c. let nodes = c .before .before .before .args .nodes .now in let (leads, room, chains, sorts, _, _) = c .before .loop .inv in (
       nodes-done _ _ _ _ _ _ leads (c .loop-test .left),
       room-less _ _ 16 room (omega arith),
       chains-done _ _ _ _ chains (omega arith) (omega arith),

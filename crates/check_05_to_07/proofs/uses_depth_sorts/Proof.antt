@@ -1,26 +1,22 @@
-use mathlib.Core.Path.{sym, _∙_}
-use mathlib.Core.Bool.{true, false}
-use native.Mathlib.Omega.{arith}
-use borrow.Author.Needs.{needs}
+use Rattle.kit.specs.Names.{sym, _∙_, true, false, arith, needs}
 use Rattle.check_05_uses.proofs.Loops.{no-uses, room-start}
 use Rattle.check_05_uses.proofs.UseCounts.{room-less}
 use Rattle.check_06_depth.proofs.Loops.{no-depths, none-noted}
 use Rattle.check_05_to_07.proofs.Order.{all-numbers}
-use Rattle.check_05_to_07.proofs.uses_depth_sorts.Statement.{statement}
-use Rattle.check_05_to_07.proofs.uses_depth_sorts.Tie as tie
+use Rattle.check_05_to_07.proofs.uses_depth_sorts as own
 
-look-at-nodes-requires : tie.Need-look-at-nodes-requires
+look-at-nodes-requires : own.Tie.Need-look-at-nodes-requires
 unfolding no-uses no-depths
 look-at-nodes-requires c κs =
     let start = c .before .before .before .before in
     (start .pre .0 .fewNodes, start .pre .1, room-start _ (omega arith), none-noted _)
 
-look-at-roots-requires : tie.Need-look-at-roots-requires
+look-at-roots-requires : own.Tie.Need-look-at-roots-requires
 look-at-roots-requires c κs =
     let (_, room, chains, _) = c .before .before .look-at-nodes .ensures in
     (room-less _ 16 _ room (omega arith), chains .bounded)
 
-returns : tie.Need-returns
+returns : own.Tie.Need-returns
 unfolding no-uses
 returns c fields parameters =
     let roots = c .before .before .before in let look = roots .before .before .before in let start = look .before .before .before .before .before in
@@ -28,7 +24,7 @@ returns c fields parameters =
     all-numbers fields (start .args .functions .now) parameters (start .args .nodes .now) (start .pre .0 .fewNodes) _ _ _ _ counted chains sorts rooted _ number
     true (sym (c .if1 .taken) ∙ c .before .some-other-than-one .ensures)
 
-returns-2 : tie.Need-returns-2
+returns-2 : own.Tie.Need-returns-2
 unfolding no-uses
 returns-2 c fields parameters =
     let roots = c .before .before .before in let look = roots .before .before .before in let start = look .before .before .before .before .before in
@@ -36,5 +32,5 @@ returns-2 c fields parameters =
     all-numbers fields (start .args .functions .now) parameters (start .args .nodes .now) (start .pre .0 .fewNodes) _ _ _ _ counted chains sorts rooted _ number
     false (sym (c .if1 .left) ∙ c .before .some-other-than-one .ensures)
 
-pub uses-depth-sorts-spec : {M : Type 1} → statement M
-uses-depth-sorts-spec = tie.close (tie.spec look-at-nodes-requires look-at-roots-requires (λ c κs. search needs) returns returns-2)
+pub uses-depth-sorts-spec : {M : Type 1} → own.Statement.statement M
+uses-depth-sorts-spec = own.Tie.close (own.Tie.spec look-at-nodes-requires look-at-roots-requires (λ c κs. search needs) returns returns-2)

@@ -1,11 +1,4 @@
-use mathlib.Core.Path.{_≡_, refl, sym, ap, _∙_}
-use mathlib.Core.Bool.{true, false, not, _||_}
-use mathlib.Core.List.{List, map}
-use Prim.Native.Nat.{ℕ, _+_, _*_, _/_, _≤_}
-use native.Mathlib.Omega.{arith}
-use lib.Dec.{ltb}
-use lib.ListN.{length}
-use borrow.Author.Needs.{needs}
+use Rattle.kit.specs.Names.{_≡_, refl, sym, ap, _∙_, true, false, not, _||_, List, map, ℕ, _+_, _*_, _/_, _≤_, arith, ltb, length, needs}
 use Rattle.definitions.specs.Basics.{any}
 use Rattle.file_decoded.specs.Slices.{functionsFrom}
 use Rattle.check_05_uses.specs.Counting.{Room, rootOf}
@@ -14,10 +7,9 @@ use Rattle.check_05_uses.proofs.Loops.{Leads, leads-all, roots-next, roots-done
 use Rattle.check_06_depth.specs.Chains.{depthIn, rootTooDeep}
 use Rattle.check_07_sorts.specs.Sorts.{nodesIn, hasSort, rootWrong}
 use Rattle.check_05_to_07_roots.proofs.Roots.{root-noted, roots-noted, number-of-roots}
-use Rattle.check_05_to_07_roots.proofs.look_at_roots.Statement.{statement}
-use Rattle.check_05_to_07_roots.proofs.look_at_roots.Tie as tie
+use Rattle.check_05_to_07_roots.proofs.look_at_roots as own
 
-abbrev Inv-loop : tie.InvT-loop
+abbrev Inv-loop : own.Tie.InvT-loop
 Inv-loop functions nodes counts₀ depths noted at₀ left₀ deep₀ wrong₀ counts at left deep wrong =
     ((parameters : List ℕ)
     → (Leads counts₀ counts (map rootOf (functionsFrom parameters left functions at)) (map rootOf (functionsFrom parameters (length functions / 3) functions 0)))
@@ -27,13 +19,12 @@ Inv-loop functions nodes counts₀ depths noted at₀ left₀ deep₀ wrong₀ c
     ≡ noted || any (rootWrong (nodesIn nodes)) (functionsFrom parameters (length functions / 3) functions 0)))
     × (Room counts left) × (at + 3 * left ≤ length functions)
 
-abbrev μ-loop : tie.MeasureT-loop
+abbrev μ-loop : own.Tie.MeasureT-loop
 μ-loop functions nodes counts₀ depths noted at₀ left₀ deep₀ wrong₀ counts at left deep wrong = left
 
-pub look-at-roots-spec : {M : Type 1} → statement M
+pub look-at-roots-spec : {M : Type 1} → own.Statement.statement M
 look-at-roots-spec =
-    tie.close (tie.spec Inv-loop μ-loop
-    (λ c. ((λ parameters. (leads-all _ _, refl, refl)), c .before .before .pre .0, omega arith))
+    own.Tie.close (own.Tie.spec Inv-loop μ-loop (λ c. ((λ parameters. (leads-all _ _, refl, refl)), c .before .before .pre .0, omega arith))
     (λ c. search needs) (λ c κs. search needs)
     (λ c κs. let (_, room, _) = c .before .before .before .loop .inv in room-less _ _ 1 room (c .before .before .loop-test .taken))
     (λ c κs. search needs) (λ c κs. search needs) (λ c κs. search needs) (λ c κs. search needs)
@@ -50,8 +41,7 @@ look-at-roots-spec =
       )),
       room-after _ _ _ _ _ (used .count-use .ensures) room (omega arith),
       omega arith,
-    ))
-    (λ c parameters. let done = c .before in let loop = done .before .loop in let args = done .before .before .before .before .args in
+    )) (λ c parameters. let done = c .before in let loop = done .before .loop in let args = done .before .before .before .before .args in
     let (leads, deep, wrong) = loop .inv .0 parameters in (
       roots-done _ _ _ _ _ _ parameters leads (done .loop-test .left),
       number-of-roots _ _ true _

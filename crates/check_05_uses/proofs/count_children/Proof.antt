@@ -1,12 +1,11 @@
-use native.Mathlib.Omega.{arith}
+use Rattle.kit.specs.Names.{arith}
 use Rattle.file_bytes.specs.Node.{recordOf}
 use Rattle.check_05_uses.proofs.UseCounts.{room-less, room-after, counted-no-child, counted-one-child, counted-two-children, counted-three-children}
-use Rattle.check_05_uses.proofs.count_children.Statement.{statement}
-use Rattle.check_05_uses.proofs.count_children.Tie as tie
+use Rattle.check_05_uses.proofs.count_children as own
 
-pub count-children-spec : {M : Type 1} → statement M
+pub count-children-spec : {M : Type 1} → own.Statement.statement M
 count-children-spec =
-    tie.close (tie.spec
+    own.Tie.close (own.Tie.spec
     (λ c. let start = c .before in counted-no-child (recordOf (start .args .node)) _ (start .pre .1) _ (c .if1 .taken))
     (λ c κs. room-less _ 3 1 (c .before .before .pre .0) (omega arith))
     (λ c. let first = c .before in let one = first .before .before in let start = one .before in

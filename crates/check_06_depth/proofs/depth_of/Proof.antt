@@ -1,13 +1,10 @@
-use mathlib.Core.Path.{refl, sym}
-use native.Mathlib.Omega.{arith}
-use borrow.Author.Needs.{needs}
+use Rattle.kit.specs.Names.{refl, sym, arith, needs}
 use Rattle.file_bytes.proofs.ReadingSteps.{byteAt-past}
-use Rattle.check_06_depth.proofs.depth_of.Statement.{statement}
-use Rattle.check_06_depth.proofs.depth_of.Tie as tie
+use Rattle.check_06_depth.proofs.depth_of as own
 
-pub depth-of-spec : {M : Type 1} → statement M
+pub depth-of-spec : {M : Type 1} → own.Statement.statement M
 depth-of-spec =
-    tie.close (tie.spec (λ c. search needs) (λ c. search needs)
+    own.Tie.close (own.Tie.spec (λ c. search needs) (λ c. search needs)
     (λ c. omega (arith, c .before .before .pre .each (c .before .before .args .n)))
     (λ c. (refl, c .before .before .pre .each (c .before .before .args .n)))
     (λ c. let args = c .before .args in (sym (byteAt-past (args .depths .now) (args .n) (omega (arith, c .before .pre .long))), omega arith)))

@@ -1,13 +1,10 @@
-use mathlib.Core.Path.{_∙_}
-use borrow.Author.Needs.{needs}
+use Rattle.kit.specs.Names.{_∙_, needs}
 use Rattle.check_07_sorts.proofs.SortLoops.{no-sort, expression-there, statement-there}
-use Rattle.check_07_sorts.proofs.has_sort.Statement.{statement}
-use Rattle.check_07_sorts.proofs.has_sort.Tie as tie
+use Rattle.check_07_sorts.proofs.has_sort as own
 
-pub has-sort-spec : {M : Type 1} → statement M
+pub has-sort-spec : {M : Type 1} → own.Statement.statement M
 has-sort-spec =
-    tie.close (tie.spec
-    (λ c. let args = c .before .before .args in no-sort (args .nodes .now) (args .expression) _ (c .if1 .taken))
+    own.Tie.close (own.Tie.spec (λ c. let args = c .before .before .args in no-sort (args .nodes .now) (args .expression) _ (c .if1 .taken))
     (λ c. search needs) (λ c κs. search needs) (λ c κs. search needs) (λ c κs. search needs)
     (λ c. let numbers = c .before .before .before .before .before .args .nodes .now in
     rw (c .before .if2 .taken) (c .is-expression-kind .ensures ∙ expression-there numbers _ _

@@ -1,7 +1,6 @@
 -- The test is the contract's own.
-use mathlib.Core.Path.{refl}
-use Rattle.check_refusals.proofs.is_refused.Statement.{statement}
-use Rattle.check_refusals.proofs.is_refused.Tie as tie
+use Rattle.kit.specs.Names.{refl}
+use Rattle.check_refusals.proofs.is_refused as own
 
-pub is-refused-spec : {M : Type 1} → statement M
-is-refused-spec = tie.close (tie.spec (λ c. refl))
+pub is-refused-spec : {M : Type 1} → own.Statement.statement M
+is-refused-spec = own.Tie.close (own.Tie.spec (λ c. refl))

@@ -1,16 +1,12 @@
-use native.Mathlib.Omega.{arith}
-use borrow.Author.Needs.{needs}
+use Rattle.kit.specs.Names.{arith, needs}
 use Rattle.check_sections.proofs.Sections.{refused-part, accepted-ends, functions-before-nodes, nodes-within, fields-part, functions-part, nodes-part}
-use Rattle.check_sections.proofs.section.Statement.{statement}
-use Rattle.check_sections.proofs.section.Tie as tie
+use Rattle.check_sections.proofs.section as own
 
-pub section-spec : {M : Type 1} → statement M
+pub section-spec : {M : Type 1} → own.Statement.statement M
 section-spec =
-    tie.close (tie.spec
-    (λ c κs. search needs) (λ c. search needs) (λ c. search needs) (λ c. search needs)
+    own.Tie.close (own.Tie.spec (λ c κs. search needs) (λ c. search needs) (λ c. search needs) (λ c. search needs)
     (λ c. refused-part _ _ _ (c .before .before .section-number .ensures) (c .before .if1 .taken))
-    (λ c κs. search needs) (λ c. search needs) (λ c. search needs)
-    (λ c. let is = c .before .read-layout .ensures in
+    (λ c κs. search needs) (λ c. search needs) (λ c. search needs) (λ c. let is = c .before .read-layout .ensures in
     omega (arith, functions-before-nodes _ _ is, nodes-within _ _ is (accepted-ends _ _ _ (c .before .before .before .section-number .ensures) (c .before .before .if1 .left))))
     (λ c. let is = c .before .before .read-layout .ensures in
     omega (arith, functions-before-nodes _ _ is, nodes-within _ _ is (accepted-ends _ _ _ (c .before .before .before .before .section-number .ensures) (c .before .before .before .if1 .left))))

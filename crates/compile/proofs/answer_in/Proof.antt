@@ -1,17 +1,11 @@
 -- What is delivered is the front of the output.
-use native.Mathlib.Omega.{arith}
-use lib.Seq.{length-take-le}
-use mathlib.Core.Path.{sym}
+use Rattle.kit.specs.Names.{sym, arith, length-take-le, needs}
 use Rattle.write_output.proofs.Answers.{promised-within}
-use borrow.Author.Needs.{needs}
-use Rattle.compile.proofs.answer_in.Statement.{statement}
-use Rattle.compile.proofs.answer_in.Tie as tie
+use Rattle.compile.proofs.answer_in as own
 
-pub answer-in-spec : {M : Type 1} → statement M
+pub answer-in-spec : {M : Type 1} → own.Statement.statement M
 answer-in-spec =
-    tie.close (tie.spec
-    (λ c κs. c .before .before .before .pre)
-    (λ c. search needs)
+    own.Tie.close (own.Tie.spec (λ c κs. c .before .before .before .pre) (λ c. search needs)
     (λ c. omega (arith, promised-within _ _ _ _ _ _ (c .before .before .before .before .before .rewrite .ensures .0)))
     (λ c. let rewrite = c .before .before .before .before .before .before .rewrite in
     sym (length-take-le (rewrite .result .length) (rewrite .last .1 .0) (omega (arith, promised-within _ _ _ _ _ _ (rewrite .ensures .0)))))

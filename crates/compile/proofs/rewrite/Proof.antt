@@ -1,14 +1,11 @@
 -- The room is never too short.
-use mathlib.Core.Path.{_∙_}
+use Rattle.kit.specs.Names.{_∙_, needs}
 use Rattle.write_room.proofs.Room.{own-number-where-enough}
-use borrow.Author.Needs.{needs}
 use Rattle.compile.proofs.rewrite.Statement.{statement}
 use Rattle.compile.proofs.rewrite.Tie as tie
 
 pub rewrite-spec : {M : Type 1} → statement M
 rewrite-spec =
-    tie.close (tie.spec
-    (λ c κs. search needs) (λ c. search needs)
-    (λ c. let start = c .before .before .before .before .before .before in
+    tie.close (tie.spec (λ c κs. search needs) (λ c. search needs) (λ c. let start = c .before .before .before .before .before .before in
     let promised = c .before .before .write .ensures in
     (promised, promised .0 ∙ own-number-where-enough (start .args .file .now) _ (start .pre))))

@@ -1,6 +1,6 @@
 -- The file's own number stands before that of the addresses.
 use Rattle.deploy_17_addresses.proofs.Addresses.{own-first}
-use borrow.Author.Needs.{needs}
+use Rattle.kit.specs.Names.{needs}
 use Rattle.deploy.proofs.deploy_number.Statement.{statement}
 use Rattle.deploy.proofs.deploy_number.Tie as tie
 

@@ -1,11 +1,7 @@
 -- What is not worked out holds as little as what is false.
-use mathlib.Core.Path.{refl}
-use borrow.Author.Needs.{needs}
-use Rattle.disclose_branches.proofs.holds.Statement.{statement}
-use Rattle.disclose_branches.proofs.holds.Tie as tie
+use Rattle.kit.specs.Names.{refl, needs}
+use Rattle.disclose_branches.proofs.holds as own
 
-pub holds-spec : {M : Type 1} → statement M
+pub holds-spec : {M : Type 1} → own.Statement.statement M
 holds-spec =
-    tie.close (tie.spec
-    (λ c. rw (c .if1 .taken) refl)
-    (λ c. search needs))
+    own.Tie.close (own.Tie.spec (λ c. rw (c .if1 .taken) refl) (λ c. search needs))

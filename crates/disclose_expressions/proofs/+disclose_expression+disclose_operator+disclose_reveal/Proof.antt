@@ -1,18 +1,11 @@
 -- The values that nodes disclose, by their kind, as a cycle: the node number falls, or the same node goes on to its own kind.
-use mathlib.Core.Path.{refl, sym, _∙_}
-use Prim.Native.Nat.{_+_, _*_}
-use borrow.Author.Needs.{needs}
-use borrow.Author.Tests.{not-true, not-false}
-use native.Mathlib.Omega.{arith}
+use Rattle.kit.specs.Names.{refl, sym, _∙_, _+_, _*_, ℕ, _<_, arith, not-true, not-false, needs, In, Measures, is, falls, and}
 use Rattle.theory_trees.proofs.ByKind.{entry-is, operator-is, negation-is, reveal-is, key-below, part-below, revealed-below, operands-below}
 use Rattle.file_accepted.proofs.Nodes.{node-reads}
 use Rattle.honest_values.proofs.ValuesByKind.{kind-as}
 use Rattle.disclose_expressions.proofs.ExpressionsByKind.{value-here, ready-part, entry-like, negation-like, like-room, like-disclosed, silent-is, silent-disclosed}
 use Rattle.disclose_expressions.proofs.ExpressionsByKind.{left-stopped, left-room, right-room, right-stopped, operator-disclosed}
 use Rattle.disclose_expressions.proofs.ExpressionsByKind.{part-stopped, reveal-hidden, part-room, value-room, reveal-disclosed}
-use Prim.Native.Nat.{ℕ, _<_}
-use borrow.Fn.Kinds.{In}
-use borrow.Fn.PlainCycle.{Measures, is, falls, and}
 use Rattle.disclose_expressions.proofs.disclose_expression.Reads as disclose-expression
 use Rattle.disclose_expressions.proofs.disclose_expression.Kinds as disclose-expression-kinds
 use Rattle.disclose_expressions.proofs.+disclose_expression+disclose_operator+disclose_reveal.Lts-disclose_expression as disclose-expression-lts
@@ -93,14 +86,11 @@ pub +disclose-expression+disclose-operator+disclose-reveal-spec : {M : Type 1} �
     (λ c. let (_, ready) = c .before .before .before .before .before .before .before .before .before .before .before .before .pre in
     let same = c .before .before .before .before .before .node-at .ensures .same in let kind = c .before .before .before .before .match .keys1 in
     like-disclosed _ _ _ _ _ _ _ _ _ _ _ (entry-like _ _ _ _ _ _ _ _ (entry-is (node-reads _ _ _ (ready .context) _ (ready .inside) _ same) kind)) (c .before .before .disclose-expression .ensures))
-    (λ c. search needs)
-    (λ c. c .before .before .disclose-operator .ensures)
-    (λ c. search needs)
+    (λ c. search needs) (λ c. c .before .before .disclose-operator .ensures) (λ c. search needs)
     (λ c. let (_, ready) = c .before .before .before .before .before .before .before .before .before .before .before .before .pre in
     let same = c .before .before .before .before .before .node-at .ensures .same in let kind = c .before .before .before .before .match .keys3 in
     like-disclosed _ _ _ _ _ _ _ _ _ _ _ (negation-like _ _ _ _ _ _ _ (negation-is (node-reads _ _ _ (ready .context) _ (ready .inside) _ same) kind)) (c .before .before .disclose-expression2 .ensures))
-    (λ c. search needs)
-    (λ c. c .before .before .disclose-reveal .ensures)
+    (λ c. search needs) (λ c. c .before .before .disclose-reveal .ensures)
     (λ c. let (_, ready) = c .before .before .before .before .before .before .before .before .pre in let u = c .match .rest in
     silent-disclosed _ _ _ _ _ _ _ _ _ refl refl (silent-is _ _ _ _ _ _ _ (ready .context) _ (ready .inside) _ (c .before .node-at .ensures .same) (u .0 .0 .0 .1) (u .0 .0 .1) (u .0 .1) (u .1))))
     (λ t. disclose-operator-lts.spec (disclose-operator-claims t) (disclose-operator-at t) disclose-operator.Post
@@ -125,9 +115,7 @@ pub +disclose-expression+disclose-operator+disclose-reveal-spec : {M : Type 1} �
     (λ c κs. let (_, (kind-at-is, ready)) = c .before .before .before .before .before .before .before .before .before .before .before .before .before .before .before .before .before .before .before .pre in
     let same = c .before .before .before .before .before .before .before .before .before .before .before .before .node-at .ensures .same in
     let less = operands-below (node-reads _ _ _ (ready .context) _ (ready .inside) _ same) (kind-as _ _ _ same kind-at-is) in
-    (omega (arith, ready .inside, less .1), ready .context))
-    (λ c κs. tt)
-    (λ c. search needs)
+    (omega (arith, ready .inside, less .1), ready .context)) (λ c κs. tt) (λ c. search needs)
     (λ c. let (_, (kind-at-is, ready)) = c .before .before .before .before .before .before .before .before .before .before .before .before .before .before .before .before .before .before .before .before .before .pre in
     let same = c .before .before .before .before .before .before .before .before .before .before .before .before .before .before .node-at .ensures .same in
     let kind = kind-as _ _ _ same kind-at-is in
@@ -142,8 +130,7 @@ pub +disclose-expression+disclose-operator+disclose-reveal-spec : {M : Type 1} �
     (λ c. let (_, (kind-at-is, ready)) = c .before .before .before .before .before .before .before .before .before .before .before .before .before .pre in
     let same = c .before .before .before .before .before .before .node-at .ensures .same in let kind = kind-as _ _ _ same kind-at-is in
     part-stopped _ _ _ _ _ _ _ _ (reveal-is (node-reads _ _ _ (ready .context) _ (ready .inside) _ same) kind) _ _ _ _ (not-true _ (c .if1 .taken)) (c .before .before .before .before .disclose-expression .ensures))
-    (λ c κs. tt)
-    (λ c. search needs)
+    (λ c κs. tt) (λ c. search needs)
     (λ c. let (_, (kind-at-is, ready)) = c .before .before .before .before .before .before .before .before .before .before .before .before .before .before .before .pre in
     let same = c .before .before .before .before .before .before .before .before .node-at .ensures .same in
     let kind = kind-as _ _ _ same kind-at-is in

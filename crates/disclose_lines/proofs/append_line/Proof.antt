@@ -1,14 +1,12 @@
 -- The number, the values and the line feed.
-use native.Mathlib.Omega.{arith}
-use borrow.Author.Needs.{needs}
+use Rattle.kit.specs.Names.{arith, needs}
 use Rattle.report_text.proofs.Digits.{digits-length}
 use Rattle.disclose_lines.proofs.Written.{text-room, end-room, line-appended}
-use Rattle.disclose_lines.proofs.append_line.Statement.{statement}
-use Rattle.disclose_lines.proofs.append_line.Tie as tie
+use Rattle.disclose_lines.proofs.append_line as own
 
-pub append-line-spec : {M : Type 1} → statement M
+pub append-line-spec : {M : Type 1} → own.Statement.statement M
 append-line-spec =
-    tie.close (tie.spec
+    own.Tie.close (own.Tie.spec
     (λ c κs. omega (arith, digits-length 20 (c .before .before .before .args .number), c .before .before .before .pre))
     (λ c κs. let start = c .before .before .before .before .before .before .before in let args = start .args in
     let room = text-room (args .out .now) (args .values .now) (args .number) (start .pre) _ _ (c .before .before .before .append-digits .ensures) in

@@ -1,9 +1,5 @@
 -- The values that statements disclose, by their kind, as a cycle: the node number falls, or the same node goes on to its own kind.
-use mathlib.Core.Path.{refl, ap, sym}
-use Prim.Native.Nat.{_+_, _*_}
-use borrow.Author.Needs.{needs}
-use borrow.Author.Tests.{not-true, not-false}
-use native.Mathlib.Omega.{arith}
+use Rattle.kit.specs.Names.{refl, ap, sym, _+_, _*_, ℕ, _<_, arith, not-true, not-false, needs, In, Measures, is, falls, and}
 use Rattle.definitions.specs.Basics.{isTrue}
 use Rattle.theory_trees.proofs.ByKind.{still-is, sequence-is, conditional-is, steps-below, branches-below}
 use Rattle.file_accepted.proofs.Nodes.{node-reads}
@@ -12,9 +8,6 @@ use Rattle.disclose_expressions.proofs.ExpressionsByKind.{value-here}
 use Rattle.disclose_statements.proofs.StatementsByKind.{branch-in, branch-below, expression-ready, statement-ready, skip-disclosed}
 use Rattle.disclose_statements.proofs.StatementsByKind.{condition-stopped, condition-room, branch-room, conditional-disclosed}
 use Rattle.disclose_statements.proofs.StatementsByKind.{first-stopped, one-room, two-room, sequence-disclosed}
-use Prim.Native.Nat.{ℕ, _<_}
-use borrow.Fn.Kinds.{In}
-use borrow.Fn.PlainCycle.{Measures, is, falls, and}
 use Rattle.disclose_statements.proofs.disclose_conditional.Reads as disclose-conditional
 use Rattle.disclose_statements.proofs.disclose_conditional.Kinds as disclose-conditional-kinds
 use Rattle.disclose_statements.proofs.+disclose_conditional+disclose_sequence+disclose_statement.Lts-disclose_conditional as disclose-conditional-lts
@@ -84,15 +77,13 @@ pub +disclose-conditional+disclose-sequence+disclose-statement-spec : {M : Type 
     (λ c κs. let (falls-2, (kind-at-is, ready)) = c .before .before .before .before .before .before .before .before .pre in
     let same = c .before .node-at .ensures .same in let kind = kind-as _ _ _ same kind-at-is in
     let less = branches-below (node-reads _ _ _ (ready .context) _ (ready .inside) _ same) kind in (omega (arith, ready .inside, less .0), ready .context))
-    (λ c κs. tt)
-    (λ c κs. let start = c .before .before .before .before .before .before .before .before .before .before .before .before in
+    (λ c κs. tt) (λ c κs. let start = c .before .before .before .before .before .before .before .before .before .before .before .before in
     let (falls-2, (kind-at-is, ready)) = start .pre in let same = c .before .before .before .before .before .node-at .ensures .same in
     let kind = kind-as _ _ _ same kind-at-is in let less = branches-below (node-reads _ _ _ (ready .context) _ (ready .inside) _ same) kind in
     let chosen = branch-in (start .args .file .now) (isTrue (c .before .before .before .value-asked .result)) _ (c .before .before .before .before .before .node-at .result .second) (c .before .before .before .before .before .node-at .result .third) (c .before .before .branch-of .ensures) in
     let known = ap isTrue (value-here _ _ _ _ _ _ _ (ready .called) (c .before .before .before .value-asked .ensures)) in
     expression-ready _ _ _ _ _ _ _ _ _ _ _ _ ready (less .0) (condition-room _ _ _ _ _ _ _ _ _ _ (conditional-is (node-reads _ _ _ (ready .context) _ (ready .inside) _ same) kind) _ known chosen (start .args .out .now) _ (ready .room)))
-    (λ c. search needs)
-    (λ c. search needs)
+    (λ c. search needs) (λ c. search needs)
     (λ c. let start = c .before .before .before .before .before .before .before .before .before .before .before .before .before .before .before .before .before in
     let (falls-2, (kind-at-is, ready)) = start .pre in
     let same = c .before .before .before .before .before .before .before .before .before .before .node-at .ensures .same in
@@ -108,8 +99,7 @@ pub +disclose-conditional+disclose-sequence+disclose-statement-spec : {M : Type 
     let known = ap isTrue (value-here _ _ _ _ _ _ _ (ready .called) (c .before .before .before .before .before .before .before .before .before .before .value-asked .ensures)) in
     let lower = branch-below _ (isTrue (c .before .before .before .before .before .before .before .before .before .before .value-asked .result)) _ (c .before .before .before .before .before .before .before .before .before .before .before .before .node-at .result .second) (c .before .before .before .before .before .before .before .before .before .before .before .before .node-at .result .third) (c .before .before .before .before .before .before .before .before .before .branch-of .ensures) (less .1 .0) (less .1 .1) in
     (omega (arith, falls-2, lower), statement-ready _ _ _ _ _ _ _ _ _ _ _ _ _ ready lower (branch-room _ _ _ _ _ _ _ _ _ _ (conditional-is (node-reads _ _ _ (ready .context) _ (ready .inside) _ same) kind) _ known chosen _ _ (ready .room) _ _ (c .before .before .before .before .before .before .disclose-expression .ensures) (not-false _ (c .before .before .if1 .left)))))
-    (λ c. search needs)
-    (λ c. search needs)
+    (λ c. search needs) (λ c. search needs)
     (λ c. let start = c .before .before .before .before .before .before .before .before .before .before .before .before .before .before .before .before .before .before .before .before .before .before .before .before in
     let (falls-2, (kind-at-is, ready)) = start .pre in
     let same = c .before .before .before .before .before .before .before .before .before .before .before .before .before .before .before .before .before .node-at .ensures .same in
@@ -123,8 +113,7 @@ pub +disclose-conditional+disclose-sequence+disclose-statement-spec : {M : Type 
     let same = c .before .before .node-at .ensures .same in let kind = kind-as _ _ _ same kind-at-is in
     let less = steps-below (node-reads _ _ _ (ready .context) _ (ready .inside) _ same) kind in
     (omega (arith, falls-2, less .0), statement-ready _ _ _ _ _ _ _ _ _ _ _ _ _ ready (less .0) (one-room _ _ _ _ _ _ _ _ (sequence-is (node-reads _ _ _ (ready .context) _ (ready .inside) _ same) kind) (start .args .out .now) _ (ready .room))))
-    (λ c. search needs)
-    (λ c. search needs)
+    (λ c. search needs) (λ c. search needs)
     (λ c. let (falls-2, (kind-at-is, ready)) = c .before .before .before .before .before .before .before .before .before .before .before .before .before .before .before .before .pre in
     let same = c .before .before .before .before .before .before .before .before .before .node-at .ensures .same in
     let kind = kind-as _ _ _ same kind-at-is in
@@ -133,8 +122,7 @@ pub +disclose-conditional+disclose-sequence+disclose-statement-spec : {M : Type 
     let same = c .before .before .before .before .before .before .before .before .before .before .before .node-at .ensures .same in
     let kind = kind-as _ _ _ same kind-at-is in let less = steps-below (node-reads _ _ _ (ready .context) _ (ready .inside) _ same) kind in
     (omega (arith, falls-2, less .1), statement-ready _ _ _ _ _ _ _ _ _ _ _ _ _ ready (less .1) (two-room _ _ _ _ _ _ _ _ (sequence-is (node-reads _ _ _ (ready .context) _ (ready .inside) _ same) kind) _ _ (ready .room) _ _ _ (c .before .before .before .before .before .before .before .before .disclose-statement .ensures) (not-false _ (c .before .before .if1 .left)))))
-    (λ c. search needs)
-    (λ c. search needs)
+    (λ c. search needs) (λ c. search needs)
     (λ c. let (falls-2, (kind-at-is, ready)) = c .before .before .before .before .before .before .before .before .before .before .before .before .before .before .before .before .before .before .before .before .before .before .before .pre in
     let same = c .before .before .before .before .before .before .before .before .before .before .before .before .before .before .before .before .node-at .ensures .same in
     let kind = kind-as _ _ _ same kind-at-is in
@@ -151,20 +139,10 @@ pub +disclose-conditional+disclose-sequence+disclose-statement-spec : {M : Type 
     (kind-as _ _ _ (sym (c .before .before .before .node-at .ensures .same)) (c .before .before .match .keys4), ready))
     (λ c κs. let (falls-2, ready) = c .before .before .before .before .before .before .before .before .before .before .pre in
     (omega (arith, falls-2), (kind-as _ _ _ (sym (c .before .before .before .node-at .ensures .same)) (c .before .before .match .keys5), ready)))
-    (λ c. search needs)
-    (λ c. search needs)
-    (λ c. c .before .before .before .before .disclose-sequence .ensures)
-    (λ c. search needs)
-    (λ c. search needs)
-    (λ c. c .before .before .before .before .disclose-field .ensures)
-    (λ c. search needs)
-    (λ c. search needs)
-    (λ c. c .before .before .before .before .disclose-entry .ensures)
-    (λ c. search needs)
-    (λ c. search needs)
-    (λ c. c .before .before .disclose-require .ensures)
-    (λ c. search needs)
-    (λ c. search needs)
+    (λ c. search needs) (λ c. search needs) (λ c. c .before .before .before .before .disclose-sequence .ensures) (λ c. search needs)
+    (λ c. search needs) (λ c. c .before .before .before .before .disclose-field .ensures) (λ c. search needs) (λ c. search needs)
+    (λ c. c .before .before .before .before .disclose-entry .ensures) (λ c. search needs) (λ c. search needs)
+    (λ c. c .before .before .disclose-require .ensures) (λ c. search needs) (λ c. search needs)
     (λ c. c .before .before .before .before .disclose-conditional .ensures)
     (λ c. let (_, ready) = c .before .before .before .before .before .before .before .before .pre in let u = c .match .rest in
     skip-disclosed _ _ _ _ _ _ (still-is (node-reads _ _ _ (ready .context) _ (ready .inside) _ (c .before .node-at .ensures .same)) (record { sequence = u .0 .0 .0 .0 .1; assignField = u .0 .0 .0 .1; assignEntry = u .0 .0 .1; require = u .0 .1; conditional = u .1 })) _ _ _ refl refl)

@@ -1,17 +1,15 @@
 -- A field's assignment discloses what its value does, and puts that value in its place.
-use native.Mathlib.Omega.{arith}
-use borrow.Author.Needs.{needs}
+use Rattle.kit.specs.Names.{arith, needs}
 use Rattle.honest_values.proofs.ValuesByKind.{kind-as}
 use Rattle.disclose_expressions.proofs.ExpressionsByKind.{value-here}
 use Rattle.theory_trees.proofs.ByKind.{assign-field-is, value-below}
 use Rattle.file_accepted.proofs.Nodes.{node-reads}
 use Rattle.disclose_statements.proofs.StatementsByKind.{expression-ready, field-room, field-disclosed}
-use Rattle.disclose_statements.proofs.disclose_field.Statement.{statement}
-use Rattle.disclose_statements.proofs.disclose_field.Tie as tie
+use Rattle.disclose_statements.proofs.disclose_field as own
 
-pub disclose-field-spec : {M : Type 1} → statement M
+pub disclose-field-spec : {M : Type 1} → own.Statement.statement M
 disclose-field-spec =
-    tie.close (tie.spec
+    own.Tie.close (own.Tie.spec
     (λ c κs. let (_, ready) = c .before .before .before .before .before .before .pre in (ready .context .narrow, omega (arith, ready .context .long, ready .inside)))
     (λ c κs. let start = c .before .before .before .before .before .before .before .before .before in let (kind-at-is, ready) = start .pre in
     let same = c .before .before .node-at .ensures .same in let kind = kind-as _ _ _ same kind-at-is in
@@ -21,10 +19,7 @@ disclose-field-spec =
     let same = c .before .before .before .before .before .before .node-at .ensures .same in let kind = kind-as _ _ _ same kind-at-is in
     let less = value-below (node-reads _ _ _ (ready .context) _ (ready .inside) _ same) kind in (omega (arith, ready .inside, less), ready .context))
     (λ c κs. let (_, ready) = c .before .before .before .before .before .before .before .before .before .before .before .before .before .before .pre in
-    (ready .context .fewFields, omega arith))
-    (λ c κs. search needs)
-    (λ c. search needs)
-    (λ c. search needs)
+    (ready .context .fewFields, omega arith)) (λ c κs. search needs) (λ c. search needs) (λ c. search needs)
     (λ c. let (kind-at-is, ready) = c .before .before .before .before .before .before .before .before .before .before .before .before .before .before .before .before .before .before .before .pre in
     let same = c .before .before .before .before .before .before .before .before .before .before .before .before .node-at .ensures .same in
     let kind = kind-as _ _ _ same kind-at-is in

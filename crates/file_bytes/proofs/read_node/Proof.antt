@@ -1,13 +1,11 @@
-use borrow.Author.Needs.{needs}
-use Rattle.file_bytes.proofs.read_node.Statement.{statement}
-use Rattle.file_bytes.proofs.read_node.Tie as tie
+use Rattle.kit.specs.Names.{needs}
+use Rattle.file_bytes.proofs.read_node as own
 
-pub read-node-spec : {M : Type 1} → statement M
+pub read-node-spec : {M : Type 1} → own.Statement.statement M
 read-node-spec =
-    tie.close (tie.spec
+    own.Tie.close (own.Tie.spec
     (λ c κs. search needs) (λ c. search needs) (λ c κs. search needs) (λ c. search needs) (λ c κs. search needs) (λ c. search needs)
-    (λ c κs. search needs) (λ c. search needs) (λ c κs. search needs)
-    (λ c. record {
+    (λ c κs. search needs) (λ c. search needs) (λ c κs. search needs) (λ c. record {
       same = cc;
       smallKind = search needs;
       smallArg = search needs;

@@ -1,12 +1,10 @@
-use native.Mathlib.Omega.{arith}
-use borrow.Author.Needs.{needs}
+use Rattle.kit.specs.Names.{arith, needs}
 use Rattle.file_children.proofs.Children.{childCounts, childCount-table, childCount-high}
-use Rattle.file_children.proofs.child_count.Statement.{statement}
-use Rattle.file_children.proofs.child_count.Tie as tie
+use Rattle.file_children.proofs.child_count as own
 
-returns : tie.Need-returns
+returns : own.Tie.Need-returns
 unfolding childCounts
 returns c = childCount-table (c .before .args .kind) (omega arith)
 
-pub child-count-spec : {M : Type 1} → statement M
-child-count-spec = tie.close (tie.spec (λ c. search needs) (λ c. search needs) returns (λ c. childCount-high _ (omega (arith, c .if1 .left))))
+pub child-count-spec : {M : Type 1} → own.Statement.statement M
+child-count-spec = own.Tie.close (own.Tie.spec (λ c. search needs) (λ c. search needs) returns (λ c. childCount-high _ (omega (arith, c .if1 .left))))

@@ -1,12 +1,10 @@
-use native.Mathlib.Omega.{arith}
-use borrow.Author.Needs.{needs}
+use Rattle.kit.specs.Names.{arith, needs}
 use Rattle.file_children.proofs.Children.{expressionCounts, expressionCount-table, expressionCount-high}
-use Rattle.file_children.proofs.expression_count.Statement.{statement}
-use Rattle.file_children.proofs.expression_count.Tie as tie
+use Rattle.file_children.proofs.expression_count as own
 
-returns : tie.Need-returns
+returns : own.Tie.Need-returns
 unfolding expressionCounts
 returns c = expressionCount-table (c .before .args .kind) (omega arith)
 
-pub expression-count-spec : {M : Type 1} → statement M
-expression-count-spec = tie.close (tie.spec (λ c. search needs) (λ c. search needs) returns (λ c. expressionCount-high _ (c .if1 .left)))
+pub expression-count-spec : {M : Type 1} → own.Statement.statement M
+expression-count-spec = own.Tie.close (own.Tie.spec (λ c. search needs) (λ c. search needs) returns (λ c. expressionCount-high _ (c .if1 .left)))

@@ -1,11 +1,8 @@
-use mathlib.Core.Path.{refl}
-use native.Mathlib.Omega.{arith}
-use borrow.Author.Needs.{needs}
-use Rattle.file_decoded.proofs.number_from.Statement.{statement}
-use Rattle.file_decoded.proofs.number_from.Tie as tie
+use Rattle.kit.specs.Names.{refl, arith, needs}
+use Rattle.file_decoded.proofs.number_from as own
 
-pub number-from-spec : {M : Type 1} → statement M
+pub number-from-spec : {M : Type 1} → own.Statement.statement M
 number-from-spec =
-    tie.close (tie.spec (λ c. search needs) (λ c. search needs)
+    own.Tie.close (own.Tie.spec (λ c. search needs) (λ c. search needs)
     (λ c. omega (arith, c .shared-slice-known .given (c .before .args .at)))
     (λ c. (refl, omega (arith, c .shared-slice-known .given (c .before .args .at)))))

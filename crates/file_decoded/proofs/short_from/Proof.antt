@@ -1,7 +1,5 @@
-use mathlib.Core.Path.{refl}
-use borrow.Author.Needs.{needs}
-use Rattle.file_decoded.proofs.short_from.Statement.{statement}
-use Rattle.file_decoded.proofs.short_from.Tie as tie
+use Rattle.kit.specs.Names.{refl, needs}
+use Rattle.file_decoded.proofs.short_from as own
 
-pub short-from-spec : {M : Type 1} → statement M
-short-from-spec = tie.close (tie.spec (λ c. search needs) (λ c. search needs) (λ c. refl))
+pub short-from-spec : {M : Type 1} → own.Statement.statement M
+short-from-spec = own.Tie.close (own.Tie.spec (λ c. search needs) (λ c. search needs) (λ c. refl))

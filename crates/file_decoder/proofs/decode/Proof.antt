@@ -1,13 +1,11 @@
 -- Fields, functions with their parameters, nodes; together the file's sections.
-use native.Mathlib.Omega.{arith}
+use Rattle.kit.specs.Names.{arith, needs}
 use Rattle.file_decoder.proofs.Sections.{fields-there, functions-room, nodes-there, decoded}
-use borrow.Author.Needs.{needs}
-use Rattle.file_decoder.proofs.decode.Statement.{statement}
-use Rattle.file_decoder.proofs.decode.Tie as tie
+use Rattle.file_decoder.proofs.decode as own
 
-pub decode-spec : {M : Type 1} → statement M
+pub decode-spec : {M : Type 1} → own.Statement.statement M
 decode-spec =
-    tie.close (tie.spec
+    own.Tie.close (own.Tie.spec
     (λ c κs. let start = c .before .before .before .before .before .before in (fields-there _ _ _ _ _ _ (start .pre), omega arith))
     (λ c. search needs)
     (λ c κs. let start = c .before .before .before .before .before .before .before .before .before .before .before .before in functions-room _ _ _ _ _ _ (start .pre))

@@ -1,10 +1,6 @@
 -- The loop's invariant: the functions passed are the file's, and the places in file and slices belong together.
-use mathlib.Core.Path.{_≡_, refl, _∙_}
-use Prim.Native.Nat.{_-_, _≤_}
-use native.Mathlib.Omega.{arith}
-use lib.ListN.{length}
+use Rattle.kit.specs.Names.{_≡_, refl, _∙_, _-_, _≤_, arith, length, needs}
 use Rattle.file_decoder.proofs.Functions.{FunctionsSo, no-functions, next-room, next-near, functions-more, functions-done}
-use borrow.Author.Needs.{needs}
 use Rattle.file_decoder.proofs.decode_functions.Statement.{statement}
 use Rattle.file_decoder.proofs.decode_functions.Tie as tie
 
@@ -28,13 +24,11 @@ decode-functions-spec =
     let start = called .before .before .before .before .before .before .before .before in let args = start .args in
     let (so, _, long-functions, long-parameters) = loop .inv in let ((own, _), _) = called .decode-function .ensures in
     omega (arith, next-near (args .file .now) (args .from) (loop .f) (loop .place) (loop .first) (loop .functions) (loop .parameters) so (args .functions .now) (args .parameters .now) (start .pre) (omega arith) long-functions long-parameters))
-    (λ c. search needs)
-    (λ c. let called = c .before .before .before .before in let loop = called .before .before .before .before .loop in
+    (λ c. search needs) (λ c. let called = c .before .before .before .before in let loop = called .before .before .before .before .loop in
     let start = called .before .before .before .before .before .before .before .before in let args = start .args in
     let (so, _, long-functions, long-parameters) = loop .inv in let ((own, _), _) = called .decode-function .ensures in
     let room = next-room (args .file .now) (args .from) (loop .f) (loop .place) (loop .first) (loop .functions) (loop .parameters) so (args .functions .now) (args .parameters .now) (start .pre) (omega arith) long-functions long-parameters in
-    omega (arith, room .forParameters, start .pre .small))
-    (λ c. search needs) (λ c. search needs)
+    omega (arith, room .forParameters, start .pre .small)) (λ c. search needs) (λ c. search needs)
     (λ c. let called = c .before .before .before .before in let loop = called .before .before .before .before .loop in
     let args = called .before .before .before .before .before .before .before .before .args in
     let (so, _, long-functions, long-parameters) = loop .inv in let ((own, _), decoded) = called .decode-function .ensures in

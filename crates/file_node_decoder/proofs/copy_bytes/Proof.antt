@@ -1,21 +1,18 @@
 -- The loop's invariant: the bytes passed are copied.
-use Prim.Native.Nat.{_-_, _≤_}
-use native.Mathlib.Omega.{arith}
+use Rattle.kit.specs.Names.{_-_, _≤_, arith, needs}
 use Rattle.file_node_decoder.specs.Steps.{Copied}
 use Rattle.file_node_decoder.proofs.Steps.{copied-none, copied-next, copied-done}
-use borrow.Author.Needs.{needs}
-use Rattle.file_node_decoder.proofs.copy_bytes.Statement.{statement}
-use Rattle.file_node_decoder.proofs.copy_bytes.Tie as tie
+use Rattle.file_node_decoder.proofs.copy_bytes as own
 
-abbrev Inv-loop : tie.InvT-loop
+abbrev Inv-loop : own.Tie.InvT-loop
 Inv-loop file from count numbers₀ at i₀ numbers i = (Copied file from i numbers₀ numbers at) × (i ≤ count)
 
-abbrev μ-loop : tie.MeasureT-loop
+abbrev μ-loop : own.Tie.MeasureT-loop
 μ-loop file from count numbers₀ at i₀ numbers i = count - i
 
-pub copy-bytes-spec : {M : Type 1} → statement M
+pub copy-bytes-spec : {M : Type 1} → own.Statement.statement M
 copy-bytes-spec =
-    tie.close (tie.spec Inv-loop μ-loop
+    own.Tie.close (own.Tie.spec Inv-loop μ-loop
     (λ c. let args = c .before .before .args in (copied-none (args .file .now) (args .from) (args .numbers .now) (args .at), omega arith))
     (λ c. search needs) (λ c. search needs) (λ c κs. search needs)
     (λ c κs. let (copied, _) = c .before .before .before .loop .inv in (omega (arith, copied .kept .long), search needs))

@@ -1,19 +1,16 @@
 -- Five numbers one behind another.
 use Rattle.definitions.specs.ContractFile.{node}
 use Rattle.file_node_decoder.proofs.Steps.{node-put}
-use borrow.Author.Needs.{needs}
-use Rattle.file_node_decoder.proofs.decode_node.Statement.{statement}
-use Rattle.file_node_decoder.proofs.decode_node.Tie as tie
+use Rattle.kit.specs.Names.{needs}
+use Rattle.file_node_decoder.proofs.decode_node as own
 
-pub decode-node-spec : {M : Type 1} → statement M
+pub decode-node-spec : {M : Type 1} → own.Statement.statement M
 decode-node-spec =
-    tie.close (tie.spec
-    (λ c κs. search needs) (λ c κs. search needs)
+    own.Tie.close (own.Tie.spec (λ c κs. search needs) (λ c κs. search needs)
     (λ c. search needs) (λ c. search needs) (λ c κs. search needs) (λ c κs. search needs)
     (λ c. search needs) (λ c. search needs) (λ c κs. search needs) (λ c κs. search needs)
     (λ c. search needs) (λ c. search needs) (λ c κs. search needs) (λ c κs. search needs)
-    (λ c. search needs) (λ c. search needs) (λ c κs. search needs) (λ c κs. search needs)
-    (λ c. search needs)
+    (λ c. search needs) (λ c. search needs) (λ c κs. search needs) (λ c κs. search needs) (λ c. search needs)
     (λ c. let fifth = c .before .before in let fourth = fifth .before .before .before .before .before in
     let third = fourth .before .before .before .before .before in let second = third .before .before .before .before .before in
     let first = second .before .before .before .before .before in let args = first .before .before .before .before .before .args in

@@ -1,12 +1,10 @@
 use Rattle.honest_assignments.proofs.PrivatePlaces.{field-ready, field-wrote, put-at}
-use borrow.Author.Needs.{needs}
-use Rattle.honest_assignments.proofs.field_slots.Statement.{statement}
-use Rattle.honest_assignments.proofs.field_slots.Tie as tie
+use Rattle.kit.specs.Names.{needs}
+use Rattle.honest_assignments.proofs.field_slots as own
 
-pub field-slots-spec : {M : Type 1} → statement M
+pub field-slots-spec : {M : Type 1} → own.Statement.statement M
 field-slots-spec =
-    tie.close (tie.spec
-    (λ c κs. search needs)
+    own.Tie.close (own.Tie.spec (λ c κs. search needs)
     (λ c κs. let start = c .before .before .before .before .before .before .before .before in let args = start .args in let pre = start .pre in
     field-ready (args .file .now) _ (args .f) _ _ _ _ _ (c .before .before .is-private-field .ensures) pre)
     (λ c κs. search needs) (λ c κs. search needs) (λ c κs. search needs) (λ c. search needs) (λ c. search needs)
@@ -14,4 +12,4 @@ field-slots-spec =
     let is-private-field = c .before .before .before .before .before .before .before .before .before .before .before .before .is-private-field .ensures in
     let place-slots = c .before .before .before .before .before .before .before .before .before .place-slots .ensures in
     let value = c .before .before .before .before .before .value .ensures in
-    (put-at (args .live) (args .numbers .now) _ _ _ _ _ (c .before .before .before .before .position .ensures) value (c .before .before .put-taken .ensures), field-wrote (args .file .now) _ (args .f) _ _ _ _ _ _ _ _ _ _ is-private-field place-slots)))
+    (put-at (args .turn .live) (args .numbers .now) _ _ _ _ _ (c .before .before .before .before .position .ensures) value (c .before .before .put-taken .ensures), field-wrote (args .file .now) _ (args .f) _ _ _ _ _ _ _ _ _ _ is-private-field place-slots)))

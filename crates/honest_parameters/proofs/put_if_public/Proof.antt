@@ -1,17 +1,14 @@
 -- By the byte of the parameter's owner.
-use mathlib.Core.Path.{_∙_, ap}
-use lib.ListN.{set}
+use Rattle.kit.specs.Names.{_∙_, ap, set, needs}
 use Rattle.ledger_contents.specs.Contents.{contentsOf}
 use Rattle.definitions.specs.Ledger.{Content}
 use Rattle.honest_parameters.proofs.Honest.{public-here, private-here}
 use Rattle.honest_parameters.proofs.Public.{picked, not-picked}
-use borrow.Author.Needs.{needs}
-use Rattle.honest_parameters.proofs.put_if_public.Statement.{statement}
-use Rattle.honest_parameters.proofs.put_if_public.Tie as tie
+use Rattle.honest_parameters.proofs.put_if_public as own
 
-pub put-if-public-spec : {M : Type 1} → statement M
+pub put-if-public-spec : {M : Type 1} → own.Statement.statement M
 put-if-public-spec =
-    tie.close (tie.spec
+    own.Tie.close (own.Tie.spec
     (λ c. search needs) (λ c. search needs) (λ c. search needs) (λ c. search needs) (λ c κs. search needs) (λ c κs. search needs)
     (λ c κs. search needs) (λ c. search needs) (λ c. search needs)
     (λ c. let start = c .before .before .before .before .before .before .before .before .before .before in let args = start .args in

@@ -1,33 +1,25 @@
 -- The loop's invariant: the first contents are the first honest parameters.
-use mathlib.Core.Path.{_≡_, refl}
-use Prim.Native.Nat.{_-_, _≤_}
-use native.Mathlib.Omega.{arith}
-use lib.ListN.{length, take}
+use Rattle.kit.specs.Names.{_≡_, refl, _-_, _≤_, arith, length, take, needs}
 use Rattle.definitions.specs.Ledger.{honestParameters}
 use Rattle.file_accepted.specs.Context.{parametersIn}
 use Rattle.ledger_contents.specs.Contents.{contentsOf}
 use Rattle.honest_parameters.proofs.Honest.{parameter-more, parameters-done}
-use borrow.Author.Needs.{needs}
-use Rattle.honest_parameters.proofs.put_parameters.Statement.{statement}
-use Rattle.honest_parameters.proofs.put_parameters.Tie as tie
+use Rattle.honest_parameters.proofs.put_parameters as own
 
-abbrev Inv-loop : tie.InvT-loop
+abbrev Inv-loop : own.Tie.InvT-loop
 Inv-loop file function-at caller call arguments flat₀ count k₀ flat k =
     (take k (contentsOf flat) ≡ take k (honestParameters caller call 0 (parametersIn file function-at) arguments)) × ((k ≤ count) × ((count ≡ length arguments) × (length flat ≡ length flat₀)))
 
-abbrev μ-loop : tie.MeasureT-loop
+abbrev μ-loop : own.Tie.MeasureT-loop
 μ-loop file function-at caller call arguments flat₀ count k₀ flat k =
     count - k
 
-pub put-parameters-spec : {M : Type 1} → statement M
+pub put-parameters-spec : {M : Type 1} → own.Statement.statement M
 put-parameters-spec =
-    tie.close (tie.spec Inv-loop μ-loop
-    (λ c. (refl, (omega arith, (refl, refl))))
-    (λ c κs. let pre = c .before .before .before .before .before .pre in (pre .place, omega (arith, pre .count)))
-    (λ c κs. search needs)
+    own.Tie.close (own.Tie.spec Inv-loop μ-loop (λ c. (refl, (omega arith, (refl, refl))))
+    (λ c κs. let pre = c .before .before .before .before .before .pre in (pre .place, omega (arith, pre .count))) (λ c κs. search needs)
     (λ c. let pre = c .before .before .before .before .before .before .before .pre in omega (arith, pre .count, pre .place .few))
-    (λ c κs. c .before .parameter-reader .ensures .1)
-    (λ c κs. search needs) (λ c. omega arith) (λ c. omega arith)
+    (λ c κs. c .before .parameter-reader .ensures .1) (λ c κs. search needs) (λ c. omega arith) (λ c. omega arith)
     (λ c. let start = c .before .before .before .before .before .before .before .before .before .before .before .before in let args = start .args in
     let pre = start .pre in let loop-k = c .before .before .before .before .before .before .before .before .loop .k in
     let (take-is, (_, (count-is, flat-length))) = c .before .before .before .before .before .before .before .before .loop .inv in

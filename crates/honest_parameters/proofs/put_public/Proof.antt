@@ -1,26 +1,20 @@
 -- The loop's invariant: the public parameters picked and those left are all.
-use mathlib.Core.Path.{_≡_}
-use Prim.Native.Nat.{_-_}
-use native.Mathlib.Omega.{arith}
+use Rattle.kit.specs.Names.{_≡_, _-_, arith, needs}
 use Rattle.definitions.specs.ContractFile.{byteAt}
 use Rattle.honest_parameters.proofs.Public.{Picking, picking-none, picking-room, picking-more, picking-done}
-use borrow.Author.Needs.{needs}
-use Rattle.honest_parameters.proofs.put_public.Statement.{statement}
-use Rattle.honest_parameters.proofs.put_public.Tie as tie
+use Rattle.honest_parameters.proofs.put_public as own
 
-abbrev Inv-loop : tie.InvT-loop
+abbrev Inv-loop : own.Tie.InvT-loop
 Inv-loop file function-at parameters flat₀ count k₀ r₀ flat k r =
     (Picking file function-at parameters flat₀ flat k r) × (count ≡ byteAt file function-at)
 
-abbrev μ-loop : tie.MeasureT-loop
+abbrev μ-loop : own.Tie.MeasureT-loop
 μ-loop file function-at parameters flat₀ count k₀ r₀ flat k r =
     count - k
 
-pub put-public-spec : {M : Type 1} → statement M
+pub put-public-spec : {M : Type 1} → own.Statement.statement M
 put-public-spec =
-    tie.close (tie.spec Inv-loop μ-loop
-    (λ c κs. search needs)
-    (λ c. let args = c .before .before .before .before .args in
+    own.Tie.close (own.Tie.spec Inv-loop μ-loop (λ c κs. search needs) (λ c. let args = c .before .before .before .before .args in
     (picking-none (args .file .now) (args .function-at) (args .parameters .now) (args .flat .now) (c .before .before .before .before .pre), c .byte-at .ensures .0))
     (λ c κs. let start = c .before .before .before .before .before .before .before in let args = start .args in let pre = start .pre in
     let loop = c .before .before .loop in let (picking, _) = c .before .before .loop .inv in

@@ -1,16 +1,10 @@
 -- Statements by the kind of their node, sequences, conditionals and branches meet their contracts as a cycle: the node number falls, or the same node goes on to a part of the work.
-use mathlib.Core.Path.{sym}
-use Prim.Native.Nat.{_+_, _*_}
-use borrow.Author.Needs.{needs}
-use native.Mathlib.Omega.{arith}
+use Rattle.kit.specs.Names.{sym, _+_, _*_, ℕ, _<_, arith, needs, In, Measures, is, falls, and}
 use Rattle.theory_trees.proofs.ByKind.{sequence-is, conditional-is, steps-below, branches-below}
 use Rattle.file_accepted.proofs.Nodes.{node-reads}
 use Rattle.honest_values.proofs.ValuesByKind.{kind-as}
 use Rattle.honest_statements.proofs.Putting.{space-guard, space-branch}
 use Rattle.honest_statements.proofs.Steps.{simple-as, one-space, two-space, sequence-honest, condition-room, branches-space, conditional-honest, then-space, else-space, branches-honest, branch-honest}
-use Prim.Native.Nat.{ℕ, _<_}
-use borrow.Fn.Kinds.{In}
-use borrow.Fn.PlainCycle.{Measures, is, falls, and}
 use Rattle.honest_statements.proofs.branch_slots.Reads as branch-slots
 use Rattle.honest_statements.proofs.branch_slots.Kinds as branch-slots-kinds
 use Rattle.honest_statements.proofs.+branch_slots+branches_slots+conditional_slots+sequence_slots+statement_slots.Lts-branch_slots as branch-slots-lts
@@ -37,19 +31,19 @@ use Rattle.honest_statements.proofs.+branch_slots+branches_slots+condit
 use Rattle.honest_statements.proofs.+branch_slots+branches_slots+conditional_slots+sequence_slots+statement_slots.Tie.{close}
 
 abbrev μ-branch-slots : Measures 5 branch-slots-kinds.ps ℕ
-μ-branch-slots κs a = 4 * a .1 .1 .1 .1 .1 .1 .1 .0 + 3
+μ-branch-slots κs a = 4 * a .1 .1 .1 .1 .1 .0 + 3
 
 abbrev μ-branches-slots : Measures 5 branches-slots-kinds.ps ℕ
-μ-branches-slots κs a = 4 * a .1 .1 .1 .1 .1 .1 .1 .0
+μ-branches-slots κs a = 4 * a .1 .1 .1 .1 .1 .0
 
 abbrev μ-conditional-slots : Measures 5 conditional-slots-kinds.ps ℕ
-μ-conditional-slots κs a = 4 * a .1 .1 .1 .1 .1 .1 .1 .0 + 1
+μ-conditional-slots κs a = 4 * a .1 .1 .1 .1 .1 .0 + 1
 
 abbrev μ-sequence-slots : Measures 5 sequence-slots-kinds.ps ℕ
-μ-sequence-slots κs a = 4 * a .1 .1 .1 .1 .1 .1 .1 .0 + 1
+μ-sequence-slots κs a = 4 * a .1 .1 .1 .1 .1 .0 + 1
 
 abbrev μ-statement-slots : Measures 5 statement-slots-kinds.ps ℕ
-μ-statement-slots κs a = 4 * a .1 .1 .1 .1 .1 .1 .1 .0 + 2
+μ-statement-slots κs a = 4 * a .1 .1 .1 .1 .1 .0 + 2
 
 abbrev branch-slots-at : ℕ → In 5 branch-slots-kinds.ps
 branch-slots-at t = and 5 branch-slots-kinds.ps (is 5 branch-slots-kinds.ps μ-branch-slots t) branch-slots.Pre
@@ -121,8 +115,7 @@ pub +branch-slots+branches-slots+conditional-slots+sequence-slots+statement-slot
     (λ c κs. let (_, (kind-at-is, startable)) = c .before .before .before .before .before .before .before .pre in
     let node-at-same = c .before .node-at .ensures .same in
     let less = branches-below (node-reads _ _ _ (startable .context) _ (startable .inside) _ node-at-same) (kind-as _ _ _ node-at-same kind-at-is) in
-    (omega (arith, startable .inside, less .0), startable .context))
-    (λ c κs. tt)
+    (omega (arith, startable .inside, less .0), startable .context)) (λ c κs. tt)
     (λ c κs. let (falls-2, (kind-at-is, startable)) = c .before .before .before .before .before .before .before .before .before .before .before .pre in
     let node-at-same = c .before .before .before .before .before .node-at .ensures .same in
     let less = branches-below (node-reads _ _ _ (startable .context) _ (startable .inside) _ node-at-same) (kind-as _ _ _ node-at-same kind-at-is) in
@@ -185,9 +178,6 @@ pub +branch-slots+branches-slots+conditional-slots+sequence-slots+statement-slot
     (λ c κs. let (_, startable) = c .before .before .before .before .before .before .before .before .before .pre in
     let u = c .before .before .match .rest in
     (simple-as _ _ (sym (c .before .before .before .node-at .ensures .same)) (record { sequence = u .0 .1; conditional = u .1 }), startable))
-    (λ c. search needs) (λ c. search needs)
-    (λ c. c .before .before .before .before .sequence-slots .ensures)
-    (λ c. search needs) (λ c. search needs)
-    (λ c. c .before .before .before .before .conditional-slots .ensures)
-    (λ c. search needs) (λ c. search needs)
-    (λ c. c .before .before .before .before .simple-slots .ensures)
+    (λ c. search needs) (λ c. search needs) (λ c. c .before .before .before .before .sequence-slots .ensures)
+    (λ c. search needs) (λ c. search needs) (λ c. c .before .before .before .before .conditional-slots .ensures)
+    (λ c. search needs) (λ c. search needs) (λ c. c .before .before .before .before .simple-slots .ensures)

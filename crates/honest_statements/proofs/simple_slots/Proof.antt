@@ -1,16 +1,13 @@
 -- `honest_statements::simple_slots` meets its contract, kind by kind.
-use native.Mathlib.Omega.{arith}
+use Rattle.kit.specs.Names.{arith, needs}
 use Rattle.theory_trees.proofs.ByKind.{still-is, assign-field-is, assign-entry-is, require-is, value-below, key-and-value-below, required-below}
 use Rattle.file_accepted.proofs.Nodes.{node-reads}
 use Rattle.honest_statements.proofs.Steps.{simple-as, skip-honest, require-honest, require-room, field-honest, field-room, entry-honest, entry-room}
-use borrow.Author.Needs.{needs}
-use Rattle.honest_statements.proofs.simple_slots.Statement.{statement}
-use Rattle.honest_statements.proofs.simple_slots.Tie as tie
+use Rattle.honest_statements.proofs.simple_slots as own
 
-pub simple-slots-spec : {M : Type 1} → statement M
+pub simple-slots-spec : {M : Type 1} → own.Statement.statement M
 simple-slots-spec =
-    tie.close (tie.spec
-    (λ c κs. let (_, startable) = c .before .before .before .before .before .pre in
+    own.Tie.close (own.Tie.spec (λ c κs. let (_, startable) = c .before .before .before .before .before .pre in
     (startable .context .narrow, omega (arith, startable .context .long, startable .inside)))
     (λ c κs. let (_, startable) = c .before .before .before .before .before .before .before .before .before .pre in
     let node-at = c .before .before .before .node-at .ensures in let match-keys1 = c .before .before .match .keys1 in
@@ -42,7 +39,5 @@ simple-slots-spec =
     let match-keys3 = c .before .before .before .before .before .match .keys3 in
     require-honest _ _ _ _ _ _ _ _ _ _ _ _ (require-is (node-reads _ _ _ (startable .context) _ (startable .inside) _ node-at-same) match-keys3) (c .before .before .body-slots .ensures))
     (λ c. let (simple-kind, startable) = c .before .before .before .before .before .before .before .pre in
-    let node-at-same = c .before .node-at .ensures .same in
-    let u = c .match .rest in
-    let simple = simple-as _ _ node-at-same simple-kind in
+    let node-at-same = c .before .node-at .ensures .same in let u = c .match .rest in let simple = simple-as _ _ node-at-same simple-kind in
     skip-honest _ _ _ _ _ _ _ _ _ (still-is (node-reads _ _ _ (startable .context) _ (startable .inside) _ node-at-same) (record { sequence = simple .sequence; assignField = u .0 .0 .1; assignEntry = u .0 .1; require = u .1; conditional = simple .conditional }))))

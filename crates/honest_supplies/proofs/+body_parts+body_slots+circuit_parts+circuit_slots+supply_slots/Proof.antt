@@ -1,15 +1,11 @@
 -- The five meet their contracts, as a cycle: around it the node number falls, or a node asks for its own supply, circuit or parts.
-use Prim.Native.Nat.{_+_, _*_, _≤_}
-use native.Mathlib.Omega.{arith}
+use Rattle.kit.specs.Names.{_+_, _*_, _≤_, ℕ, _<_, arith, In, Measures, is, falls, and}
 use Rattle.definitions.specs.ContractFile.{meName, ownedBy}
 use Rattle.definitions.specs.Rewriting.{always}
 use Rattle.file_accepted.specs.Context.{scopeIn}
 use Rattle.rewrite_events.specs.Events.{bodyEvents, circuitEvents}
 use Rattle.honest_supplies.proofs.Writing.{wrote-as, wrote-length, wrote-supply, wrote-read, room-slot, room-circuit, room-parts, room-read}
 use Rattle.honest_supplies.proofs.Steps.{ready-as, one-ready, first-ready, second-ready, none-wrote, one-wrote, two-wrote, body-kept, body-supplied, circuit-kept, circuit-read, owner-ready, owner-wrote, supplied-is, read-is}
-use Prim.Native.Nat.{ℕ, _<_}
-use borrow.Fn.Kinds.{In}
-use borrow.Fn.PlainCycle.{Measures, is, falls, and}
 use Rattle.honest_supplies.proofs.body_parts.Reads as body-parts
 use Rattle.honest_supplies.proofs.body_parts.Kinds as body-parts-kinds
 use Rattle.honest_supplies.proofs.+body_parts+body_slots+circuit_parts+circuit_slots+supply_slots.Lts-body_parts as body-parts-lts
@@ -34,19 +30,19 @@ use Rattle.honest_supplies.proofs.+body_parts+body_slots+circuit_parts+
 use Rattle.honest_supplies.proofs.+body_parts+body_slots+circuit_parts+circuit_slots+supply_slots.Tie.{close}
 
 abbrev μ-body-parts : Measures 5 body-parts-kinds.ps ℕ
-μ-body-parts κs a = 4 * a .1 .1 .1 .1 .1 .1 .1 .0
+μ-body-parts κs a = 4 * a .1 .1 .1 .1 .1 .0
 
 abbrev μ-body-slots : Measures 5 body-slots-kinds.ps ℕ
-μ-body-slots κs a = 4 * a .1 .1 .1 .1 .1 .1 .1 .0 + 3
+μ-body-slots κs a = 4 * a .1 .1 .1 .1 .1 .0 + 3
 
 abbrev μ-circuit-parts : Measures 5 circuit-parts-kinds.ps ℕ
-μ-circuit-parts κs a = 4 * a .1 .1 .1 .1 .1 .1 .1 .0
+μ-circuit-parts κs a = 4 * a .1 .1 .1 .1 .1 .0
 
 abbrev μ-circuit-slots : Measures 5 circuit-slots-kinds.ps ℕ
-μ-circuit-slots κs a = 4 * a .1 .1 .1 .1 .1 .1 .1 .0 + 1
+μ-circuit-slots κs a = 4 * a .1 .1 .1 .1 .1 .0 + 1
 
 abbrev μ-supply-slots : Measures 5 supply-slots-kinds.ps ℕ
-μ-supply-slots κs a = 4 * a .1 .1 .1 .1 .1 .1 .1 .0 + 2
+μ-supply-slots κs a = 4 * a .1 .1 .1 .1 .1 .0 + 2
 
 abbrev body-parts-at : ℕ → In 5 body-parts-kinds.ps
 body-parts-at t = and 5 body-parts-kinds.ps (is 5 body-parts-kinds.ps μ-body-parts t) body-parts.Pre
@@ -100,46 +96,39 @@ pub +body-parts+body-slots+circuit-parts+circuit-slots+supply-slots-spec :
     (body-parts-at t) body-parts.Post
     (λ c κs. let (_, ready) = c .before .before .before .before .before .pre in (ready .inside, ready .context))
     (λ c κs. let start = c .before .before .before .before .before .before .before .before in let args = start .args in let (_, ready) = start .pre in
-    let parts-of = c .before .before .parts-of .ensures in
-    let less = parts-of .first (omega arith) in
-    (omega arith, one-ready _ _ _ _ _ _ (bodyEvents (scopeIn (args .file .now) (args .function-at)) always) _ parts-of ready (c .before .match .keys2)))
+    let parts-of = c .before .before .parts-of .ensures in let less = parts-of .first (omega arith) in
+    (omega arith, one-ready _ _ _ _ _ _ (bodyEvents (scopeIn (args .file .now) (args .turn .«function_at»)) always) _ parts-of ready (c .before .match .keys2)))
     (λ c κs. let start = c .before .before .before .before .before .before .before .before in let args = start .args in let (_, ready) = start .pre in
-    let parts-of = c .before .before .parts-of in
-    let u = c .before .match .rest in
-    let many : 2 ≤ parts-of .result .count = omega arith in
+    let parts-of = c .before .before .parts-of in let u = c .before .match .rest in let many : 2 ≤ parts-of .result .count = omega arith in
     let less = parts-of .ensures .first (omega arith) in
-    (omega arith, first-ready _ _ _ _ _ _ (bodyEvents (scopeIn (args .file .now) (args .function-at)) always) _ (parts-of .ensures) ready many))
+    (omega arith, first-ready _ _ _ _ _ _ (bodyEvents (scopeIn (args .file .now) (args .turn .«function_at»)) always) _ (parts-of .ensures) ready many))
     (λ c κs. let start = c .before .before .before .before .before .before .before .before .before .before .before .before in let args = start .args in
     let (_, ready) = start .pre in let parts-of = c .before .before .before .before .before .before .parts-of in
-    let match-rest = c .before .before .before .before .before .match .rest in
-    let u = match-rest in
-    let many : 2 ≤ parts-of .result .count = omega arith in
-    let less = parts-of .ensures .second many in
-    (omega arith, second-ready _ _ _ _ _ _ (bodyEvents (scopeIn (args .file .now) (args .function-at)) always) _ (parts-of .ensures) ready _ _ _ many (c .before .before .before .body-slots2 .ensures)))
+    let match-rest = c .before .before .before .before .before .match .rest in let u = match-rest in
+    let many : 2 ≤ parts-of .result .count = omega arith in let less = parts-of .ensures .second many in
+    (omega arith, second-ready _ _ _ _ _ _ (bodyEvents (scopeIn (args .file .now) (args .turn .«function_at»)) always) _ (parts-of .ensures) ready _ _ _ many (c .before .before .before .body-slots2 .ensures)))
     (λ c. let start = c .before .before .before .before .before .before .before in let args = start .args in let (_, ready) = start .pre in
-    none-wrote _ _ _ _ _ _ (bodyEvents (scopeIn (args .file .now) (args .function-at)) always) _ (c .before .parts-of .ensures) ready _ (c .match .keys1))
+    none-wrote _ _ _ _ _ _ (bodyEvents (scopeIn (args .file .now) (args .turn .«function_at»)) always) _ (c .before .parts-of .ensures) ready _ (c .match .keys1))
     (λ c. let start = c .before .before .before .before .before .before .before .before .before .before .before in let args = start .args in
     let (_, ready) = start .pre in let parts-of = c .before .before .before .before .before .parts-of .ensures in
-    wrote-length _ _ _ _ _ _ (one-ready _ _ _ _ _ _ (bodyEvents (scopeIn (args .file .now) (args .function-at)) always) _ parts-of ready (c .before .before .before .before .match .keys2) .room) (c .before .before .body-slots .ensures))
+    wrote-length _ _ _ _ _ _ (one-ready _ _ _ _ _ _ (bodyEvents (scopeIn (args .file .now) (args .turn .«function_at»)) always) _ parts-of ready (c .before .before .before .before .match .keys2) .room) (c .before .before .body-slots .ensures))
     (λ c. let start = c .before .before .before .before .before .before .before .before .before .before .before in let args = start .args in
     let (_, ready) = start .pre in let parts-of = c .before .before .before .before .before .parts-of .ensures in
-    one-wrote _ _ _ _ _ _ (bodyEvents (scopeIn (args .file .now) (args .function-at)) always) _ parts-of ready _ _ _ (c .before .before .before .before .match .keys2) (c .before .before .body-slots .ensures))
+    one-wrote _ _ _ _ _ _ (bodyEvents (scopeIn (args .file .now) (args .turn .«function_at»)) always) _ parts-of ready _ _ _ (c .before .before .before .before .match .keys2) (c .before .before .body-slots .ensures))
     (λ c. let start = c .before .before .before .before .before .before .before .before .before .before .before .before .before .before .before in
     let args = start .args in let (_, ready) = start .pre in
     let parts-of = c .before .before .before .before .before .before .before .before .before .parts-of in
     let match-rest = c .before .before .before .before .before .before .before .before .match .rest in
-    let body-slots2 = c .before .before .before .before .before .before .body-slots2 .ensures in
-    let u = match-rest in
+    let body-slots2 = c .before .before .before .before .before .before .body-slots2 .ensures in let u = match-rest in
     let many : 2 ≤ parts-of .result .count = omega arith in
-    wrote-length _ _ _ _ _ _ (ready .room) (two-wrote _ _ _ _ _ _ (bodyEvents (scopeIn (args .file .now) (args .function-at)) always) _ (parts-of .ensures) ready _ _ _ _ _ many body-slots2 (c .before .before .body-slots3 .ensures)))
+    wrote-length _ _ _ _ _ _ (ready .room) (two-wrote _ _ _ _ _ _ (bodyEvents (scopeIn (args .file .now) (args .turn .«function_at»)) always) _ (parts-of .ensures) ready _ _ _ _ _ many body-slots2 (c .before .before .body-slots3 .ensures)))
     (λ c. let start = c .before .before .before .before .before .before .before .before .before .before .before .before .before .before .before in
     let args = start .args in let (_, ready) = start .pre in
     let parts-of = c .before .before .before .before .before .before .before .before .before .parts-of in
     let match-rest = c .before .before .before .before .before .before .before .before .match .rest in
-    let body-slots2 = c .before .before .before .before .before .before .body-slots2 .ensures in
-    let u = match-rest in
+    let body-slots2 = c .before .before .before .before .before .before .body-slots2 .ensures in let u = match-rest in
     let many : 2 ≤ parts-of .result .count = omega arith in
-    two-wrote _ _ _ _ _ _ (bodyEvents (scopeIn (args .file .now) (args .function-at)) always) _ (parts-of .ensures) ready _ _ _ _ _ many body-slots2 (c .before .before .body-slots3 .ensures)))
+    two-wrote _ _ _ _ _ _ (bodyEvents (scopeIn (args .file .now) (args .turn .«function_at»)) always) _ (parts-of .ensures) ready _ _ _ _ _ many body-slots2 (c .before .before .body-slots3 .ensures)))
     (λ t. body-slots-lts.spec (body-slots-claims t) (body-slots-at t) body-slots.Post
     (λ c κs. let (_, ready) = c .before .before .before .before .before .pre in (ready .inside, ready .context))
     (λ c κs. let (_, ready) = c .before .before .before .before .before .before .before .before .pre in
@@ -158,46 +147,39 @@ pub +body-parts+body-slots+circuit-parts+circuit-slots+supply-slots-spec :
     (λ t. circuit-parts-lts.spec (circuit-parts-claims t) (circuit-parts-at t) circuit-parts.Post
     (λ c κs. let (_, ready) = c .before .before .before .before .before .pre in (ready .inside, ready .context))
     (λ c κs. let start = c .before .before .before .before .before .before .before .before in let args = start .args in let (_, ready) = start .pre in
-    let parts-of = c .before .before .parts-of .ensures in
-    let less = parts-of .first (omega arith) in
-    (omega arith, one-ready _ _ _ _ _ _ (circuitEvents (scopeIn (args .file .now) (args .function-at)) always) _ parts-of ready (c .before .match .keys2)))
+    let parts-of = c .before .before .parts-of .ensures in let less = parts-of .first (omega arith) in
+    (omega arith, one-ready _ _ _ _ _ _ (circuitEvents (scopeIn (args .file .now) (args .turn .«function_at»)) always) _ parts-of ready (c .before .match .keys2)))
     (λ c κs. let start = c .before .before .before .before .before .before .before .before in let args = start .args in let (_, ready) = start .pre in
-    let parts-of = c .before .before .parts-of in
-    let u = c .before .match .rest in
-    let many : 2 ≤ parts-of .result .count = omega arith in
+    let parts-of = c .before .before .parts-of in let u = c .before .match .rest in let many : 2 ≤ parts-of .result .count = omega arith in
     let less = parts-of .ensures .first (omega arith) in
-    (omega arith, first-ready _ _ _ _ _ _ (circuitEvents (scopeIn (args .file .now) (args .function-at)) always) _ (parts-of .ensures) ready many))
+    (omega arith, first-ready _ _ _ _ _ _ (circuitEvents (scopeIn (args .file .now) (args .turn .«function_at»)) always) _ (parts-of .ensures) ready many))
     (λ c κs. let start = c .before .before .before .before .before .before .before .before .before .before .before .before in let args = start .args in
     let (_, ready) = start .pre in let parts-of = c .before .before .before .before .before .before .parts-of in
-    let match-rest = c .before .before .before .before .before .match .rest in
-    let u = match-rest in
-    let many : 2 ≤ parts-of .result .count = omega arith in
-    let less = parts-of .ensures .second many in
-    (omega arith, second-ready _ _ _ _ _ _ (circuitEvents (scopeIn (args .file .now) (args .function-at)) always) _ (parts-of .ensures) ready _ _ _ many (c .before .before .before .circuit-slots2 .ensures)))
+    let match-rest = c .before .before .before .before .before .match .rest in let u = match-rest in
+    let many : 2 ≤ parts-of .result .count = omega arith in let less = parts-of .ensures .second many in
+    (omega arith, second-ready _ _ _ _ _ _ (circuitEvents (scopeIn (args .file .now) (args .turn .«function_at»)) always) _ (parts-of .ensures) ready _ _ _ many (c .before .before .before .circuit-slots2 .ensures)))
     (λ c. let start = c .before .before .before .before .before .before .before in let args = start .args in let (_, ready) = start .pre in
-    none-wrote _ _ _ _ _ _ (circuitEvents (scopeIn (args .file .now) (args .function-at)) always) _ (c .before .parts-of .ensures) ready _ (c .match .keys1))
+    none-wrote _ _ _ _ _ _ (circuitEvents (scopeIn (args .file .now) (args .turn .«function_at»)) always) _ (c .before .parts-of .ensures) ready _ (c .match .keys1))
     (λ c. let start = c .before .before .before .before .before .before .before .before .before .before .before in let args = start .args in
     let (_, ready) = start .pre in let parts-of = c .before .before .before .before .before .parts-of .ensures in
-    wrote-length _ _ _ _ _ _ (one-ready _ _ _ _ _ _ (circuitEvents (scopeIn (args .file .now) (args .function-at)) always) _ parts-of ready (c .before .before .before .before .match .keys2) .room) (c .before .before .circuit-slots .ensures))
+    wrote-length _ _ _ _ _ _ (one-ready _ _ _ _ _ _ (circuitEvents (scopeIn (args .file .now) (args .turn .«function_at»)) always) _ parts-of ready (c .before .before .before .before .match .keys2) .room) (c .before .before .circuit-slots .ensures))
     (λ c. let start = c .before .before .before .before .before .before .before .before .before .before .before in let args = start .args in
     let (_, ready) = start .pre in let parts-of = c .before .before .before .before .before .parts-of .ensures in
-    one-wrote _ _ _ _ _ _ (circuitEvents (scopeIn (args .file .now) (args .function-at)) always) _ parts-of ready _ _ _ (c .before .before .before .before .match .keys2) (c .before .before .circuit-slots .ensures))
+    one-wrote _ _ _ _ _ _ (circuitEvents (scopeIn (args .file .now) (args .turn .«function_at»)) always) _ parts-of ready _ _ _ (c .before .before .before .before .match .keys2) (c .before .before .circuit-slots .ensures))
     (λ c. let start = c .before .before .before .before .before .before .before .before .before .before .before .before .before .before .before in
     let args = start .args in let (_, ready) = start .pre in
     let parts-of = c .before .before .before .before .before .before .before .before .before .parts-of in
     let match-rest = c .before .before .before .before .before .before .before .before .match .rest in
-    let circuit-slots2 = c .before .before .before .before .before .before .circuit-slots2 .ensures in
-    let u = match-rest in
+    let circuit-slots2 = c .before .before .before .before .before .before .circuit-slots2 .ensures in let u = match-rest in
     let many : 2 ≤ parts-of .result .count = omega arith in
-    wrote-length _ _ _ _ _ _ (ready .room) (two-wrote _ _ _ _ _ _ (circuitEvents (scopeIn (args .file .now) (args .function-at)) always) _ (parts-of .ensures) ready _ _ _ _ _ many circuit-slots2 (c .before .before .circuit-slots3 .ensures)))
+    wrote-length _ _ _ _ _ _ (ready .room) (two-wrote _ _ _ _ _ _ (circuitEvents (scopeIn (args .file .now) (args .turn .«function_at»)) always) _ (parts-of .ensures) ready _ _ _ _ _ many circuit-slots2 (c .before .before .circuit-slots3 .ensures)))
     (λ c. let start = c .before .before .before .before .before .before .before .before .before .before .before .before .before .before .before in
     let args = start .args in let (_, ready) = start .pre in
     let parts-of = c .before .before .before .before .before .before .before .before .before .parts-of in
     let match-rest = c .before .before .before .before .before .before .before .before .match .rest in
-    let circuit-slots2 = c .before .before .before .before .before .before .circuit-slots2 .ensures in
-    let u = match-rest in
+    let circuit-slots2 = c .before .before .before .before .before .before .circuit-slots2 .ensures in let u = match-rest in
     let many : 2 ≤ parts-of .result .count = omega arith in
-    two-wrote _ _ _ _ _ _ (circuitEvents (scopeIn (args .file .now) (args .function-at)) always) _ (parts-of .ensures) ready _ _ _ _ _ many circuit-slots2 (c .before .before .circuit-slots3 .ensures)))
+    two-wrote _ _ _ _ _ _ (circuitEvents (scopeIn (args .file .now) (args .turn .«function_at»)) always) _ (parts-of .ensures) ready _ _ _ _ _ many circuit-slots2 (c .before .before .circuit-slots3 .ensures)))
     (λ t. circuit-slots-lts.spec (circuit-slots-claims t) (circuit-slots-at t) circuit-slots.Post
     (λ c κs. let (_, ready) = c .before .before .before .before .before .pre in (ready .inside, ready .context))
     (λ c κs. let (_, ready) = c .before .before .before .before .before .before .before .before .pre in

@@ -1,8 +1,6 @@
-use mathlib.Core.Path.{sym}
+use Rattle.kit.specs.Names.{sym, needs}
 use Rattle.memory_buffer.proofs.Storing.{stored-one}
-use borrow.Author.Needs.{needs}
-use Rattle.honest_supplies.proofs.put_slot.Statement.{statement}
-use Rattle.honest_supplies.proofs.put_slot.Tie as tie
+use Rattle.honest_supplies.proofs.put_slot as own
 
-pub put-slot-spec : {M : Type 1} → statement M
-put-slot-spec = tie.close (tie.spec (λ c. search needs) (λ c. search needs) (λ c. search needs) (λ c. sym (stored-one _ _ _ (c .pre))))
+pub put-slot-spec : {M : Type 1} → own.Statement.statement M
+put-slot-spec = own.Tie.close (own.Tie.spec (λ c. search needs) (λ c. search needs) (λ c. search needs) (λ c. sym (stored-one _ _ _ (c .pre))))

@@ -1,14 +1,8 @@
 -- The values of nodes by their kind, as a cycle: the node number falls, or the same node goes on to its own kind.
-use mathlib.Core.Path.{refl, sym}
-use Prim.Native.Nat.{_+_, _*_}
-use borrow.Author.Needs.{needs}
-use native.Mathlib.Omega.{arith}
+use Rattle.kit.specs.Names.{refl, sym, _+_, _*_, ℕ, _<_, arith, needs, In, Measures, is, falls, and}
 use Rattle.theory_trees.proofs.ByKind.{constant-is, field-is, entry-is, parameter-is, operator-is, negation-is, reveal-is, other-is, key-below, part-below, revealed-below, operands-below}
 use Rattle.file_accepted.proofs.Nodes.{node-reads}
 use Rattle.honest_values.proofs.ValuesByKind.{kind-as, constant-value, me-value, field-value, entry-value, parameter-value, operator-value, negation-value, reveal-value}
-use Prim.Native.Nat.{ℕ, _<_}
-use borrow.Fn.Kinds.{In}
-use borrow.Fn.PlainCycle.{Measures, is, falls, and}
 use Rattle.honest_values.proofs.entry_value.Reads as entry-value
 use Rattle.honest_values.proofs.entry_value.Kinds as entry-value-kinds
 use Rattle.honest_values.proofs.+entry_value+negation_value+operator_value+value.Lts-entry_value as entry-value-lts
@@ -85,19 +79,16 @@ pub +entry-value+negation-value+operator-value+value-spec : {M : Type 1} → sta
     (λ c κs. let (_, (_, (n-bound, context))) = c .before .before .before .before .pre in (context .narrow, omega (arith, context .long, n-bound)))
     (λ c κs. let (falls-2, (kind-at-is, (n-bound, context))) = c .before .before .before .before .before .pre in
     let less = key-below (node-reads _ _ _ context _ n-bound _ (c .node-at .ensures .same)) (kind-as _ _ _ (c .node-at .ensures .same) kind-at-is) in
-    (omega (arith, falls-2, less), (omega (arith, n-bound, less), context)))
-    (λ c. search needs)
+    (omega (arith, falls-2, less), (omega (arith, n-bound, less), context))) (λ c. search needs)
     (λ c κs. let (_, (_, (_, context))) = c .before .before .before .before .before .before .pre in (context .fewFields, omega arith))
-    (λ c κs. tt)
-    (λ c. let (_, (kind-at-is, (n-bound, context))) = c .before .before .before .before .before .before .before .before .pre in
+    (λ c κs. tt) (λ c. let (_, (kind-at-is, (n-bound, context))) = c .before .before .before .before .before .before .before .before .pre in
     let node-at-same = c .before .before .before .node-at .ensures .same in
     entry-value _ _ _ _ _ _ _ _ _ _ (entry-is (node-reads _ _ _ context _ n-bound _ node-at-same) (kind-as _ _ _ node-at-same kind-at-is)) (c .before .before .value .ensures) (c .before .position .ensures) (c .number-at .ensures)))
     (λ t. negation-value-lts.spec (negation-value-claims t) (negation-value-at t) negation-value.Post
     (λ c κs. let (_, (_, (n-bound, context))) = c .before .before .before .before .pre in (context .narrow, omega (arith, context .long, n-bound)))
     (λ c κs. let (falls-2, (kind-at-is, (n-bound, context))) = c .before .before .before .before .before .pre in
     let less = part-below (node-reads _ _ _ context _ n-bound _ (c .node-at .ensures .same)) (kind-as _ _ _ (c .node-at .ensures .same) kind-at-is) in
-    (omega (arith, falls-2, less), (omega (arith, n-bound, less), context)))
-    (λ c κs. tt)
+    (omega (arith, falls-2, less), (omega (arith, n-bound, less), context))) (λ c κs. tt)
     (λ c. let (_, (kind-at-is, (n-bound, context))) = c .before .before .before .before .before .before .before .pre in
     let node-at-same = c .before .before .node-at .ensures .same in
     negation-value _ _ _ _ _ _ _ _ (negation-is (node-reads _ _ _ context _ n-bound _ node-at-same) (kind-as _ _ _ node-at-same kind-at-is)) (c .before .value .ensures) (c .negated .ensures)))
@@ -109,8 +100,7 @@ pub +entry-value+negation-value+operator-value+value-spec : {M : Type 1} → sta
     (λ c κs. let (falls-2, (kind-at-is, (n-bound, context))) = c .before .before .before .before .before .before .pre in
     let node-at-same = c .before .node-at .ensures .same in
     let less = operands-below (node-reads _ _ _ context _ n-bound _ node-at-same) (kind-as _ _ _ node-at-same kind-at-is) in
-    (omega (arith, falls-2, less .1), (omega (arith, n-bound, less .1), context)))
-    (λ c κs. tt)
+    (omega (arith, falls-2, less .1), (omega (arith, n-bound, less .1), context))) (λ c κs. tt)
     (λ c. let (_, (kind-at-is, (n-bound, context))) = c .before .before .before .before .before .before .before .before .pre in
     let node-at-same = c .before .before .before .node-at .ensures .same in
     operator-value _ _ _ _ _ _ _ _ _ _ _ (operator-is (node-reads _ _ _ context _ n-bound _ node-at-same) (kind-as _ _ _ node-at-same kind-at-is)) (c .before .before .value .ensures) (c .before .value2 .ensures) (c .operated .ensures)))
@@ -118,10 +108,8 @@ pub +entry-value+negation-value+operator-value+value-spec : {M : Type 1} → sta
     (λ c κs. let (_, (n-bound, context)) = c .before .before .before .before .pre in (context .narrow, omega (arith, context .long, n-bound)))
     (λ c κs. let node-at = c .before .node-at .ensures in (node-at .smallFirst, node-at .smallSecond))
     (λ c κs. let (_, (_, context)) = c .before .before .before .before .before .before .pre in (context .fewFields, omega arith))
-    (λ c κs. tt)
-    (λ c κs. let (falls-2, (n-bound, context)) = c .before .before .before .before .before .before .pre in
-    (omega (arith, falls-2), (kind-as _ _ _ (sym (c .before .node-at .ensures .same)) (c .match .keys3), (n-bound, context))))
-    (λ c κs. tt)
+    (λ c κs. tt) (λ c κs. let (falls-2, (n-bound, context)) = c .before .before .before .before .before .before .pre in
+    (omega (arith, falls-2), (kind-as _ _ _ (sym (c .before .node-at .ensures .same)) (c .match .keys3), (n-bound, context)))) (λ c κs. tt)
     (λ c κs. let (falls-2, (n-bound, context)) = c .before .before .before .before .before .before .pre in
     (omega (arith, falls-2), (kind-as _ _ _ (sym (c .before .node-at .ensures .same)) (c .match .keys5), (n-bound, context))))
     (λ c κs. let (falls-2, (n-bound, context)) = c .before .before .before .before .before .before .pre in
@@ -133,12 +121,10 @@ pub +entry-value+negation-value+operator-value+value-spec : {M : Type 1} → sta
     constant-value _ _ _ _ _ _ _ _ (constant-is (node-reads _ _ _ context _ n-bound _ (c .before .before .node-at .ensures .same)) (c .before .match .keys1)) (c .constant-of .ensures))
     (λ c. let (_, (n-bound, context)) = c .before .before .before .before .before .before .before .before .pre in
     field-value _ _ _ _ _ _ _ _ (field-is (node-reads _ _ _ context _ n-bound _ (c .before .before .before .node-at .ensures .same)) (c .before .before .match .keys2)) (c .before .position .ensures) (c .number-at .ensures))
-    (λ c. c .entry-value .ensures)
-    (λ c. let (_, (n-bound, context)) = c .before .before .before .before .before .before .before .pre in
+    (λ c. c .entry-value .ensures) (λ c. let (_, (n-bound, context)) = c .before .before .before .before .before .before .before .pre in
     parameter-value _ _ _ _ _ _ _ (parameter-is (node-reads _ _ _ context _ n-bound _ (c .before .before .node-at .ensures .same)) (c .before .match .keys4)) (c .number-at2 .ensures))
     (λ c. c .operator-value .ensures) (λ c. c .negation-value .ensures)
     (λ c. let (_, (n-bound, context)) = c .before .before .before .before .before .before .before .pre in
     reveal-value _ _ _ _ _ _ _ _ (reveal-is (node-reads _ _ _ context _ n-bound _ (c .before .before .node-at .ensures .same)) (c .before .match .keys7)) (c .value .ensures))
-    (λ c. let (_, (n-bound, context)) = c .before .before .before .before .before .before .pre in
-    let u = c .match .rest in
+    (λ c. let (_, (n-bound, context)) = c .before .before .before .before .before .before .pre in let u = c .match .rest in
     me-value _ _ _ _ _ _ (other-is (node-reads _ _ _ context _ n-bound _ (c .before .node-at .ensures .same)) (record { constant = u .0 .0 .0 .0 .0 .0 .1; field = u .0 .0 .0 .0 .0 .1; entry = u .0 .0 .0 .0 .1; parameter = u .0 .0 .0 .1; operator = u .0 .0 .1; negation = u .0 .1; reveal = u .1 })) refl)

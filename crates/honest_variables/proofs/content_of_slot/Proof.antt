@@ -1,16 +1,13 @@
 -- 0 is plain 0, and one more than a value that value.
-use mathlib.Core.Path.{refl}
+use Rattle.kit.specs.Names.{refl, needs}
 use Rattle.definitions.specs.ContractFile.{ownerOfCode}
 use Rattle.ledger_circuits.specs.Circuits.{addressFrom}
 use Rattle.honest_variables.proofs.Codes.{reader-short, slot-none, slot-some}
-use borrow.Author.Needs.{needs}
-use Rattle.honest_variables.proofs.content_of_slot.Statement.{statement}
-use Rattle.honest_variables.proofs.content_of_slot.Tie as tie
+use Rattle.honest_variables.proofs.content_of_slot as own
 
-pub content-of-slot-spec : {M : Type 1} → statement M
+pub content-of-slot-spec : {M : Type 1} → own.Statement.statement M
 content-of-slot-spec =
-    tie.close (tie.spec
-    (λ c κs. search needs) (λ c. search needs) (λ c. search needs) (λ c. search needs) (λ c. search needs)
+    own.Tie.close (own.Tie.spec (λ c κs. search needs) (λ c. search needs) (λ c. search needs) (λ c. search needs) (λ c. search needs)
     (λ c κs. let args = c .before .before .before .args in
     reader-short (args .addresses .now) (args .code) (c .reader-of .result) (c .reader-of .ensures) (c .before .before .before .pre .narrow))
     (λ c. let args = c .before .before .args in

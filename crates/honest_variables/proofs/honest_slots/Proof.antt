@@ -1,28 +1,22 @@
 -- The loop's invariant: as many zeros are put as parameters are passed.
-use mathlib.Core.Path.{_≡_, refl, ap, _∙_}
-use Prim.Native.Nat.{ℕ, _+_, _-_, _≤_}
-use native.Mathlib.Omega.{arith}
-use lib.ListN.{length, replicate}
+use Rattle.kit.specs.Names.{_≡_, refl, ap, _∙_, ℕ, _+_, _-_, _≤_, arith, length, replicate, needs}
 use Rattle.memory_buffer.specs.Buffer.{stored}
 use Rattle.write_parameters.specs.Parameters.{privateCount}
 use Rattle.write_function_room.specs.Functions.{privateIn}
 use Rattle.honest_variables.proofs.Slots.{zeros-none, zeros-more, body-startable, slots-done}
-use borrow.Author.Needs.{needs}
-use Rattle.honest_variables.proofs.honest_slots.Statement.{statement}
-use Rattle.honest_variables.proofs.honest_slots.Tie as tie
+use Rattle.honest_variables.proofs.honest_slots as own
 
-abbrev Inv-loop : tie.InvT-loop
+abbrev Inv-loop : own.Tie.InvT-loop
 Inv-loop file function-at nodes-at numbers arguments caller slots₀ count private i₀ slots i =
     (slots ≡ stored slots₀ 0 (replicate i 0)) × ((i ≤ private) × ((private ≡ privateIn file function-at) × (length slots ≡ length slots₀)))
 
-abbrev μ-loop : tie.MeasureT-loop
+abbrev μ-loop : own.Tie.MeasureT-loop
 μ-loop file function-at nodes-at numbers arguments caller slots₀ count private i₀ slots i =
     private - i
 
-pub honest-slots-spec : {M : Type 1} → statement M
+pub honest-slots-spec : {M : Type 1} → own.Statement.statement M
 honest-slots-spec =
-    tie.close (tie.spec Inv-loop μ-loop
-    (λ c κs. search needs)
+    own.Tie.close (own.Tie.spec Inv-loop μ-loop (λ c κs. search needs)
     (λ c. omega (arith, c .before .before .before .before .before .before .pre .context .nearFunction))
     (λ c κs. omega (arith, c .before .before .before .before .before .before .pre .context .nearFunction, c .byte-at .ensures .1))
     (λ c. let args = c .before .before .before .before .before .before .before .args in

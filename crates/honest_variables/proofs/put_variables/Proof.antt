@@ -1,35 +1,29 @@
 -- The loops' invariant: the contents put and those left are all; first the reads of private parameters, then the log's entries.
-use mathlib.Core.Path.{_≡_, refl, _∙_}
-use Prim.Native.Nat.{_+_, _-_, _≤_}
-use native.Mathlib.Omega.{arith}
-use lib.ListN.{length, drop}
+use Rattle.kit.specs.Names.{_≡_, refl, _∙_, _+_, _-_, _≤_, arith, length, drop, needs}
 use Rattle.write_variables.specs.PerEntry.{perEntry}
 use Rattle.honest_variables.specs.Variables.{codeOf, codesOf}
 use Rattle.honest_variables.proofs.Contents.{Opening, Entering, entry-ready, opening-start, opening-next, opening-done, entering-next, entering-done}
-use borrow.Author.Needs.{needs}
-use Rattle.honest_variables.proofs.put_variables.Statement.{statement}
-use Rattle.honest_variables.proofs.put_variables.Tie as tie
+use Rattle.honest_variables.proofs.put_variables as own
 
-abbrev Inv-loop : tie.InvT-loop
+abbrev Inv-loop : own.Tie.InvT-loop
 Inv-loop log private slots addresses call flat₀ n₀ left₀ flat n left =
     (Opening log private slots addresses flat₀ call left flat n) × (length flat ≡ length flat₀)
 
-abbrev μ-loop : tie.MeasureT-loop
+abbrev μ-loop : own.Tie.MeasureT-loop
 μ-loop log private slots addresses call flat₀ n₀ left₀ flat n left =
     left
 
-abbrev Inv-loop2 : tie.InvT-loop2
+abbrev Inv-loop2 : own.Tie.InvT-loop2
 Inv-loop2 log private slots addresses call flat₀ n₀ left i₀ flat n i =
     (Entering log private slots addresses flat₀ call i flat n) × ((i ≤ length log) × (length flat ≡ length flat₀))
 
-abbrev μ-loop2 : tie.MeasureT-loop2
+abbrev μ-loop2 : own.Tie.MeasureT-loop2
 μ-loop2 log private slots addresses call flat₀ n₀ left i₀ flat n i =
     length log - i
 
-pub put-variables-spec : {M : Type 1} → statement M
+pub put-variables-spec : {M : Type 1} → own.Statement.statement M
 put-variables-spec =
-    tie.close (tie.spec Inv-loop μ-loop Inv-loop2 μ-loop2
-    (λ c. let args = c .before .before .before .before .args in
+    own.Tie.close (own.Tie.spec Inv-loop μ-loop Inv-loop2 μ-loop2 (λ c. let args = c .before .before .before .before .args in
     (opening-start (args .log .now) (args .private) (args .slots .now) (args .addresses .now) (args .flat .now) (args .call) (c .before .before .before .before .pre), refl))
     (λ c κs. let start = c .before .before .before .before .before .before .before in let args = start .args in let pre = start .pre in
     let loop = c .before .before .loop in let (opening, _) = c .before .before .loop .inv in

@@ -1,9 +1,6 @@
 -- A number that is not there reads as 0.
-use mathlib.Core.Path.{sym}
-use lib.ListN.{List·getD-eq-default}
-use borrow.Author.Needs.{needs}
-use Rattle.honest_variables.proofs.slot_at.Statement.{statement}
-use Rattle.honest_variables.proofs.slot_at.Tie as tie
+use Rattle.kit.specs.Names.{sym, List·getD-eq-default, needs}
+use Rattle.honest_variables.proofs.slot_at as own
 
-pub slot-at-spec : {M : Type 1} → statement M
-slot-at-spec = tie.close (tie.spec (λ c. search needs) (λ c. search needs) (λ c. search needs) (λ c. sym (List·getD-eq-default (c .before .args .slots .now) 0 (c .if1 .left))))
+pub slot-at-spec : {M : Type 1} → own.Statement.statement M
+slot-at-spec = own.Tie.close (own.Tie.spec (λ c. search needs) (λ c. search needs) (λ c. search needs) (λ c. sym (List·getD-eq-default (c .before .args .slots .now) 0 (c .if1 .left))))

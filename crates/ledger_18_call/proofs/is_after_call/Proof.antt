@@ -1,19 +1,14 @@
 -- The numbers of the last call, then what it shows.
-use mathlib.Core.Path.{sym, _∙_}
-use Prim.Native.Nat.{_≤_, _<_}
-use native.Mathlib.Omega.{arith}
-use borrow.Author.Tests.{lt-ltb, le-ltb, le-leb, lt-leb}
+use Rattle.kit.specs.Names.{sym, _∙_, _≤_, _<_, arith, lt-ltb, le-ltb, le-leb, lt-leb, needs}
 use Rattle.definitions.specs.ContractFile.{functionCount}
 use Rattle.ledger_struct.specs.Ledgers.{ledgerOf}
 use Rattle.ledger_18_parts.proofs.WellFormedParts.{call-is}
-use borrow.Author.Needs.{needs}
-use Rattle.ledger_18_call.proofs.is_after_call.Statement.{statement}
-use Rattle.ledger_18_call.proofs.is_after_call.Tie as tie
+use Rattle.ledger_18_call.proofs.is_after_call as own
 
-few : (c : tie.Start) → c .args .l .call ≤ 65535
+few : (c : own.Tie.Start) → c .args .l .call ≤ 65535
 few c = search needs
 
-returns : tie.Need-returns
+returns : own.Tie.Need-returns
 unfolding ledgerOf
 returns c =
     let s = c .before .before .before .before in
@@ -22,7 +17,7 @@ returns c =
     let none : l .call ≤ 0 = omega (arith, c .if1 .taken) in
     sym (call-is (ledgerOf l) file (s .pre .accepted .is) ∙ rw (le-ltb 0 (l .call) none))
 
-returns-2 : tie.Need-returns-2
+returns-2 : own.Tie.Need-returns-2
 unfolding ledgerOf
 returns-2 c =
     let b = c .before .before .before in
@@ -33,7 +28,7 @@ returns-2 c =
     let past : functionCount file ≤ l .function = omega (arith, c .if2 .taken, b .read-layout .ensures .functions) in
     sym (call-is (ledgerOf l) file (s .pre .accepted .is) ∙ rw (lt-ltb 0 (l .call) some, le-leb (l .call) 65535 (few s), le-ltb (l .function) (functionCount file) past))
 
-returns-3 : tie.Need-returns-3
+returns-3 : own.Tie.Need-returns-3
 unfolding ledgerOf
 returns-3 c =
     let b = c .before .before .before .before .before in
@@ -46,7 +41,7 @@ returns-3 c =
     (call-is (ledgerOf l) file (s .pre .accepted .is)
     ∙ rw (lt-ltb 0 (l .call) some, le-leb (l .call) 65535 (few s), lt-ltb (l .function) (functionCount file) inside, lt-leb (l .caller) 15 (omega (arith, c .if3 .taken))))
 
-returns-4 : tie.Need-returns-4
+returns-4 : own.Tie.Need-returns-4
 unfolding ledgerOf
 returns-4 c =
     let b = c .before .before .before .before .before .before .before in
@@ -61,7 +56,7 @@ returns-4 c =
     ∙ rw
     (lt-ltb 0 (l .call) some, le-leb (l .call) 65535 (few s), lt-ltb (l .function) (functionCount file) inside, le-leb (l .caller) 15 low, sym (c .before .is-after-done .ensures) ∙ c .if4 .taken))
 
-returns-5 : tie.Need-returns-5
+returns-5 : own.Tie.Need-returns-5
 unfolding ledgerOf
 returns-5 c =
     let d = c .before .before in
@@ -78,14 +73,7 @@ returns-5 c =
     (lt-ltb 0 (l .call) some, le-leb (l .call) 65535 (few s), lt-ltb (l .function) (functionCount file) inside, le-leb (l .caller) 15 low, sym (d .is-after-done .ensures) ∙ c .before .if4 .left)
     (sym (c .is-after-failed .ensures)))
 
-pub is-after-call-spec : {M : Type 1} → statement M
+pub is-after-call-spec : {M : Type 1} → own.Statement.statement M
 is-after-call-spec =
-    tie.close (tie.spec
-    returns
-    (λ c κs. search needs) (λ c. search needs)
-    returns-2
-    returns-3
-    (λ c κs. search needs)
-    returns-4
-    (λ c κs. search needs)
-    returns-5)
+    own.Tie.close (own.Tie.spec returns (λ c κs. search needs) (λ c. search needs) returns-2 returns-3 (λ c κs. search needs) returns-4
+    (λ c κs. search needs) returns-5)

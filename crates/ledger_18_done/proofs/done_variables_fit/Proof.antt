@@ -1,7 +1,5 @@
 -- The variables by the addresses of the names in the call.
-use mathlib.Core.Path.{ap, sym, _∙_}
-use mathlib.Core.List.{List, map}
-use Prim.Native.Nat.{ℕ}
+use Rattle.kit.specs.Names.{ap, sym, _∙_, List, map, ℕ, needs}
 use Rattle.definitions.specs.ContractFile.{Name}
 use Rattle.definitions.specs.Original.{addressIn}
 use Rattle.definitions.specs.Ledger.{allFit}
@@ -11,22 +9,14 @@ use Rattle.ledger_18_forms.specs.Forms.{fitsOrZero}
 use Rattle.write_function_room.specs.Functions.{writtenIn}
 use Rattle.ledger_18_variable.specs.Variables.{variableForm}
 use Rattle.ledger_18_parts.proofs.Flats.{arguments-long}
-use borrow.Author.Needs.{needs}
-use Rattle.ledger_18_done.proofs.done_variables_fit.Statement.{statement}
-use Rattle.ledger_18_done.proofs.done_variables_fit.Tie as tie
+use Rattle.ledger_18_done.proofs.done_variables_fit as own
 
-pub done-variables-fit-spec : {M : Type 1} → statement M
+pub done-variables-fit-spec : {M : Type 1} → own.Statement.statement M
 done-variables-fit-spec =
-    tie.close (tie.spec
-    (λ c. search needs) (λ c κs. search needs) (λ c. search needs)
-    (λ c. let k = c .before .before in
+    own.Tie.close (own.Tie.spec (λ c. search needs) (λ c κs. search needs) (λ c. search needs) (λ c. let k = c .before .before in
     sym (arguments-long _ _ _ (k .plain-numbers .ensures)))
-    (λ c. search needs) (λ c κs. search needs) (λ c. search needs) (λ c κs. search needs)
-    (λ c. let k = c .before .before .before in
-    let n = k .before .before .before .before in
-    let a = n .before .before .before .before .before .before .before .args in
-    let file = a .file .now in
-    let scope = scopeIn file (a .function-at) in
-    c .variables-fit .ensures
+    (λ c. search needs) (λ c κs. search needs) (λ c. search needs) (λ c κs. search needs) (λ c. let k = c .before .before .before in
+    let n = k .before .before .before .before in let a = n .before .before .before .before .before .before .before .args in
+    let file = a .file .now in let scope = scopeIn file (a .function-at) in c .variables-fit .ensures
     ∙ ap (λ (address : Name → ℕ). allFit fitsOrZero (map (variableForm scope address) ((writtenIn file (a .function-at)) .variables)) (contentsOf (a .variables .now)))
     (k .put-addresses .ensures .addresses ∙ ap (λ (arguments : List ℕ). addressIn scope (a .caller) arguments (a .numbers .now)) (n .plain-numbers .ensures .first))))

@@ -1,14 +1,11 @@
 -- A field is final by the byte of its shape.
 use Rattle.ledger_addresses.proofs.AddressesByCode.{final-held, final-not, final-missing}
-use mathlib.Core.Path.{sym, _∙_}
-use native.Mathlib.Omega.{arith}
-use borrow.Author.Needs.{needs}
-use Rattle.ledger_addresses.proofs.final_address.Statement.{statement}
-use Rattle.ledger_addresses.proofs.final_address.Tie as tie
+use Rattle.kit.specs.Names.{sym, _∙_, arith, needs}
+use Rattle.ledger_addresses.proofs.final_address as own
 
-pub final-address-spec : {M : Type 1} → statement M
+pub final-address-spec : {M : Type 1} → own.Statement.statement M
 final-address-spec =
-    tie.close (tie.spec
+    own.Tie.close (own.Tie.spec
     (λ c κs. search needs) (λ c. search needs) (λ c. search needs) (λ c κs. search needs) (λ c κs. search needs) (λ c κs. search needs)
     (λ c. let args = c .before .before .before .before .before .before .before .before .args in
     let byte-at = c .before .before .before .before .before .byte-at .ensures .0 in

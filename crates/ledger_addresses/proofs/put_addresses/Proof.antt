@@ -1,26 +1,20 @@
 -- The loop's invariant: the codes passed have their addresses.
-use Prim.Native.Nat.{_-_}
+use Rattle.kit.specs.Names.{sym, _∙_, _-_, arith, needs}
 use Rattle.ledger_addresses.proofs.AddressesByCode.{Placed, placed-none, placed-more, placed-all}
-use mathlib.Core.Path.{sym, _∙_}
-use native.Mathlib.Omega.{arith}
-use borrow.Author.Needs.{needs}
-use Rattle.ledger_addresses.proofs.put_addresses.Statement.{statement}
-use Rattle.ledger_addresses.proofs.put_addresses.Tie as tie
+use Rattle.ledger_addresses.proofs.put_addresses as own
 
-abbrev Inv-loop : tie.InvT-loop
+abbrev Inv-loop : own.Tie.InvT-loop
 Inv-loop file function-at caller arguments places out₀ code₀ out code =
     Placed file function-at caller arguments places out code
 
-abbrev μ-loop : tie.MeasureT-loop
+abbrev μ-loop : own.Tie.MeasureT-loop
 μ-loop file function-at caller arguments places out₀ code₀ out code =
     136 - code
 
-pub put-addresses-spec : {M : Type 1} → statement M
+pub put-addresses-spec : {M : Type 1} → own.Statement.statement M
 put-addresses-spec =
-    tie.close (tie.spec Inv-loop μ-loop
-    (λ c. placed-none _ _ _ _ _ _ (c .before .before .before .before .pre .room))
-    (λ c κs. c .before .before .before .before .before .before .pre .names)
-    (λ c κs. search needs) (λ c. omega arith) (λ c. omega arith)
+    own.Tie.close (own.Tie.spec Inv-loop μ-loop (λ c. placed-none _ _ _ _ _ _ (c .before .before .before .before .pre .room))
+    (λ c κs. c .before .before .before .before .before .before .pre .names) (λ c κs. search needs) (λ c. omega arith) (λ c. omega arith)
     (λ c. let args = c .before .before .before .before .before .before .before .before .before .before .before .args in
     let loop-code = c .before .before .before .before .before .before .loop .code in
     let loop = c .before .before .before .before .before .before .loop .inv in

@@ -1,12 +1,8 @@
 -- `ledger_circuits::circuit_value` meets its contract, by recursion with the node number falling.
-use borrow.Author.Needs.{needs}
-use native.Mathlib.Omega.{arith}
+use Rattle.kit.specs.Names.{ℕ, _<_, arith, needs, In, Measures, is, falls, and}
 use Rattle.write_trees.proofs.Read.{read-here}
 use Rattle.write_trees.proofs.ByKind.{circuit-constant, circuit-operator, circuit-negation, circuit-variable, circuit-opened, circuit-rest, one-falls, two-fall, form-operator, form-negation}
 use Rattle.ledger_circuits.proofs.Values.{constant-value, me-value, operator-value, negation-value, variable-value, opened-value}
-use Prim.Native.Nat.{ℕ, _<_}
-use borrow.Fn.Kinds.{In}
-use borrow.Fn.PlainCycle.{Measures, is, falls, and}
 use Rattle.ledger_circuits.proofs.circuit_value.Reads as circuit-value
 use Rattle.ledger_circuits.proofs.circuit_value.Kinds as circuit-value-kinds
 use Rattle.ledger_circuits.proofs.+circuit_value.Lts-circuit_value as circuit-value-lts
@@ -34,8 +30,7 @@ circuit-value-claims t = (read-node-reads.Asked, read-node-reads.Learnt, constan
 
 pub +circuit-value-spec : {M : Type 1} → statement M
 +circuit-value-spec = close μ-circuit-value λ t. circuit-value-lts.spec (circuit-value-claims t)
-    (circuit-value-at t) circuit-value.Post
-    (λ c. search needs)
+    (circuit-value-at t) circuit-value.Post (λ c. search needs)
     (λ c κs. let (_, (_, readable)) = c .before .before .before .pre in omega (arith, readable .few))
     (λ c κs. let read-node = c .before .read-node .ensures in (read-node .smallFirst, read-node .smallSecond))
     (λ c κs. let (_, (n-bound, readable)) = c .before .before .before .before .before .pre in
@@ -43,12 +38,10 @@ pub +circuit-value-spec : {M : Type 1} → statement M
     (omega arith, (omega arith, readable)))
     (λ c κs. let (_, (n-bound, readable)) = c .before .before .before .before .before .before .pre in
     let less = two-fall _ (readable .falling) _ _ (read-here _ _ n-bound _ (c .before .before .read-node .ensures)) (form-operator _ (c .before .match .keys2)) in
-    (omega arith, (omega arith, readable)))
-    (λ c κs. search needs)
+    (omega arith, (omega arith, readable))) (λ c κs. search needs)
     (λ c κs. let (_, (n-bound, readable)) = c .before .before .before .before .before .pre in
     let less = one-falls _ (readable .falling) _ _ (read-here _ _ n-bound _ (c .before .read-node .ensures)) (form-negation _ (c .match .keys3)) in
-    (omega arith, (omega arith, readable)))
-    (λ c κs. search needs) (λ c κs. search needs) (λ c κs. search needs) (λ c κs. search needs)
+    (omega arith, (omega arith, readable))) (λ c κs. search needs) (λ c κs. search needs) (λ c κs. search needs) (λ c κs. search needs)
     (λ c. let (_, (n-bound, readable)) = c .before .before .before .before .before .before .pre in
     constant-value _ _ _ _ _ _ (circuit-constant _ (readable .falling) _ _ (read-here _ _ n-bound _ (c .before .before .read-node .ensures)) (c .before .match .keys1)) (c .constant-of .ensures))
     (λ c. let (_, (n-bound, readable)) = c .before .before .before .before .before .before .before .before .pre in
@@ -59,6 +52,5 @@ pub +circuit-value-spec : {M : Type 1} → statement M
     variable-value _ _ _ _ _ (circuit-variable _ (readable .falling) _ _ (read-here _ _ n-bound _ (c .before .before .read-node .ensures)) (c .before .match .keys4)) (c .plain-at .ensures))
     (λ c. let (_, (n-bound, readable)) = c .before .before .before .before .before .before .pre in
     opened-value _ _ _ _ _ (circuit-opened _ (readable .falling) _ _ (read-here _ _ n-bound _ (c .before .before .read-node .ensures)) (c .before .match .keys5)) (c .opened-at .ensures))
-    (λ c. let (_, (n-bound, readable)) = c .before .before .before .before .before .before .pre in
-    let u = c .before .match .rest in
+    (λ c. let (_, (n-bound, readable)) = c .before .before .before .before .before .before .pre in let u = c .before .match .rest in
     me-value _ _ _ _ (circuit-rest _ (readable .falling) _ _ (read-here _ _ n-bound _ (c .before .before .read-node .ensures)) (record { constant = u .0 .0 .0 .0 .1; operator = u .0 .0 .0 .1; negation = u .0 .0 .1; variable = u .0 .1; opened = u .1 })) (c .number-at .ensures))

@@ -1,9 +1,7 @@
 -- The number of the content read.
-use mathlib.Core.Path.{ap, _∙_}
+use Rattle.kit.specs.Names.{ap, _∙_, needs}
 use Rattle.definitions.specs.Ledger.{openedNumber}
-use borrow.Author.Needs.{needs}
-use Rattle.ledger_contents.proofs.opened_at.Statement.{statement}
-use Rattle.ledger_contents.proofs.opened_at.Tie as tie
+use Rattle.ledger_contents.proofs.opened_at as own
 
-pub opened-at-spec : {M : Type 1} → statement M
-opened-at-spec = tie.close (tie.spec (λ c κs. search needs) (λ c κs. search needs) (λ c. c .opened-number .ensures ∙ ap openedNumber (c .before .content-at .ensures)))
+pub opened-at-spec : {M : Type 1} → own.Statement.statement M
+opened-at-spec = own.Tie.close (own.Tie.spec (λ c κs. search needs) (λ c κs. search needs) (λ c. c .opened-number .ensures ∙ ap openedNumber (c .before .content-at .ensures)))

@@ -1,30 +1,23 @@
 -- The loop's invariant: the arguments left are off as all are.
-use mathlib.Core.Path.{_≡_, refl, sym, _∙_}
-use Prim.Native.Nat.{_-_, _≤_}
-use native.Mathlib.Omega.{arith}
-use lib.ListN.{length, drop}
+use Rattle.kit.specs.Names.{_≡_, refl, sym, _∙_, _-_, _≤_, arith, length, drop, needs}
 use Rattle.definitions.specs.ContractFile.{byteAt}
 use Rattle.file_accepted.proofs.Declarations.{parameters-count}
 use Rattle.file_accepted.specs.Context.{parametersIn}
 use Rattle.ledger_numbers.specs.Arguments.{anyOutside}
 use Rattle.ledger_numbers.proofs.Arguments.{typed, off-count, off-types, off-none, off-next, off-found}
-use borrow.Author.Needs.{needs}
-use Rattle.ledger_numbers.proofs.arguments_off.Statement.{statement}
-use Rattle.ledger_numbers.proofs.arguments_off.Tie as tie
+use Rattle.ledger_numbers.proofs.arguments_off as own
 
-abbrev Inv-loop : tie.InvT-loop
+abbrev Inv-loop : own.Tie.InvT-loop
 Inv-loop file function-at arguments count k₀ k =
     (anyOutside (drop k (parametersIn file function-at)) (drop k arguments) ≡ anyOutside (parametersIn file function-at) arguments) × ((k ≤ count) × ((count ≡ byteAt file function-at) × (length arguments ≡ count)))
 
-abbrev μ-loop : tie.MeasureT-loop
+abbrev μ-loop : own.Tie.MeasureT-loop
 μ-loop file function-at arguments count k₀ k =
     count - k
 
-pub arguments-off-spec : {M : Type 1} → statement M
+pub arguments-off-spec : {M : Type 1} → own.Statement.statement M
 arguments-off-spec =
-    tie.close (tie.spec Inv-loop μ-loop
-    (λ c κs. search needs)
-    (λ c. let args = c .before .before .before .before .args in
+    own.Tie.close (own.Tie.spec Inv-loop μ-loop (λ c κs. search needs) (λ c. let args = c .before .before .before .before .args in
     off-count (parametersIn (args .file .now) (args .function-at)) (args .arguments .now) (λ e. c .if1 .taken (e ∙ parameters-count (args .file .now) (args .function-at) ∙ sym (c .before .byte-at .ensures .0))))
     (λ c. (refl, (omega arith, (c .before .byte-at .ensures .0, c .if1 .left))))
     (λ c. search needs) (λ c. search needs) (λ c. search needs) (λ c κs. search needs) (λ c κs. search needs) (λ c κs. search needs)

@@ -1,9 +1,6 @@
-use mathlib.Core.Path.{sym}
-use lib.Seq.{set-out}
-use borrow.Author.Needs.{needs}
-use Rattle.ledger_places.proofs.put_number.Statement.{statement}
-use Rattle.ledger_places.proofs.put_number.Tie as tie
+use Rattle.kit.specs.Names.{sym, set-out, needs}
+use Rattle.ledger_places.proofs.put_number as own
 
-pub put-number-spec : {M : Type 1} → statement M
+pub put-number-spec : {M : Type 1} → own.Statement.statement M
 put-number-spec =
-    tie.close (tie.spec (λ c. search needs) (λ c. search needs) (λ c. search needs) (λ c. search needs) (λ c. sym (set-out _ _ _ (c .if1 .left))))
+    own.Tie.close (own.Tie.spec (λ c. search needs) (λ c. search needs) (λ c. search needs) (λ c. search needs) (λ c. sym (set-out _ _ _ (c .if1 .left))))

@@ -1,17 +1,15 @@
 -- The two parts of a form.
-use mathlib.Core.Path.{ap, _∙_}
+use Rattle.kit.specs.Names.{ap, _∙_, needs}
 use Rattle.definitions.specs.ContractFile.{dataTypeOf, isOfType}
 use Rattle.ledger_contents.specs.Contents.{contentOfCode}
 use Rattle.ledger_readers.specs.Readers.{formOf}
 use Rattle.ledger_readers.proofs.ReadersByCode.{fits-both, fits-not}
-use borrow.Author.Needs.{needs}
-use Rattle.ledger_readers.proofs.fits.Statement.{statement}
-use Rattle.ledger_readers.proofs.fits.Tie as tie
+use Rattle.ledger_readers.proofs.fits as own
 
-pub fits-spec : {M : Type 1} → statement M
+pub fits-spec : {M : Type 1} → own.Statement.statement M
 fits-spec =
-    tie.close
-    (tie.spec (λ c κs. search needs) (λ c κs. search needs) (λ c κs. search needs) (λ c. let k = c .before .before .before in
+    own.Tie.close
+    (own.Tie.spec (λ c κs. search needs) (λ c κs. search needs) (λ c κs. search needs) (λ c. let k = c .before .before .before in
     let a = k .before .args in
     fits-both (formOf (a .code) (a .reader)) (contentOfCode (a .content)) _ _ (k .is-content .ensures) (c .before .before .if1 .taken)
     (c .is-of-type .ensures ∙ ap (isOfType (dataTypeOf (k .before .args .code))) (c .before .opened-number .ensures))) (λ c. let a = c .before .before .args in

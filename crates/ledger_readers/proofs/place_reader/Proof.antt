@@ -1,18 +1,13 @@
 -- By cases of the owner's byte.
-use mathlib.Core.Path.{ap, _∙_}
-use Prim.Native.Nat.{ℕ}
-use lib.ListN.{getD}
+use Rattle.kit.specs.Names.{ap, _∙_, ℕ, getD, needs}
 use Rattle.definitions.specs.Original.{finalAddress, position}
 use Rattle.file_accepted.specs.Context.{fieldsIn}
 use Rattle.ledger_readers.proofs.ReadersByCode.{reader-all, reader-key, reader-final}
-use borrow.Author.Needs.{needs}
-use Rattle.ledger_readers.proofs.place_reader.Statement.{statement}
-use Rattle.ledger_readers.proofs.place_reader.Tie as tie
+use Rattle.ledger_readers.proofs.place_reader as own
 
-pub place-reader-spec : {M : Type 1} → statement M
+pub place-reader-spec : {M : Type 1} → own.Statement.statement M
 place-reader-spec =
-    tie.close (tie.spec
-    (λ c. search needs) (λ c. search needs) (λ c. search needs) (λ c κs. search needs)
+    own.Tie.close (own.Tie.spec (λ c. search needs) (λ c. search needs) (λ c. search needs) (λ c κs. search needs)
     (λ c. let s = c .before .before .before .before in
     reader-all (s .args .file .now) (s .args .f) (s .pre .0) (finalAddress (fieldsIn (s .args .file .now)) (s .args .numbers .now)) (s .args .key) _ (c .before .byte-at .ensures .0) (c .if1 .taken))
     (λ c. let s = c .before .before .before .before .before in

@@ -1,18 +1,14 @@
 -- Each of the eight is copied to its own number.
-use mathlib.Core.Path.{_≡_}
-use native.Mathlib.Omega.{arith}
-use lib.ListN.{length}
-use borrow.Author.Needs.{needs}
+use Rattle.kit.specs.Names.{_≡_, arith, length, needs}
 use Rattle.ledger_struct.proofs.Flat.{unmapped, front-same}
-use Rattle.ledger_struct.proofs.among_many.Statement.{statement}
-use Rattle.ledger_struct.proofs.among_many.Tie as tie
+use Rattle.ledger_struct.proofs.among_many as own
 
-long : (c : tie.Start) → length (c .args .t1) ≡ 8
+long : (c : own.Tie.Start) → length (c .args .t1) ≡ 8
 long c = search (unmapped, needs)
 
-pub among-many-spec : {M : Type 1} → statement M
+pub among-many-spec : {M : Type 1} → own.Statement.statement M
 among-many-spec =
-    tie.close (tie.spec
+    own.Tie.close (own.Tie.spec
     (λ c. search needs) (λ c. search needs) (λ c. search needs) (λ c. search needs) (λ c. search needs) (λ c. search needs)
     (λ c. search needs) (λ c. search needs) (λ c. search needs) (λ c. search needs) (λ c. search needs) (λ c. search needs)
     (λ c. search needs) (λ c. search needs) (λ c. search needs) (λ c. search needs)

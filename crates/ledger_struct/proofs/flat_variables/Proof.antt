@@ -1,12 +1,11 @@
 -- The meaning of the ledger names its contents.
 use Rattle.ledger_struct.specs.Ledgers.{ledgerOf}
-use borrow.Author.Needs.{needs}
-use Rattle.ledger_struct.proofs.flat_variables.Statement.{statement}
-use Rattle.ledger_struct.proofs.flat_variables.Tie as tie
+use Rattle.kit.specs.Names.{needs}
+use Rattle.ledger_struct.proofs.flat_variables as own
 
-returns : tie.Need-returns
+returns : own.Tie.Need-returns
 unfolding ledgerOf
 returns c = c .before .before .flatten .ensures
 
-pub flat-variables-spec : {M : Type 1} → statement M
-flat-variables-spec = tie.close (tie.spec (λ c κs. search needs) (λ c. search needs) returns)
+pub flat-variables-spec : {M : Type 1} → own.Statement.statement M
+flat-variables-spec = own.Tie.close (own.Tie.spec (λ c κs. search needs) (λ c. search needs) returns)

@@ -1,28 +1,22 @@
 -- Each turn flattens one place more.
-use mathlib.Core.Path.{_≡_, refl, _∙_}
-use mathlib.Core.List.{map}
-use Prim.Native.Nat.{_≤_, _-_}
-use native.Mathlib.Omega.{arith}
-use lib.ListN.{length, take}
-use borrow.Author.Needs.{needs}
+use Rattle.kit.specs.Names.{_≡_, refl, _∙_, map, _≤_, _-_, arith, length, take, needs}
 use Rattle.ledger_contents.specs.Contents.{contentOfPlace, contentsOf}
 use Rattle.ledger_struct.proofs.Flat.{unmapped, flatten-next, flatten-done}
-use Rattle.ledger_struct.proofs.flatten.Statement.{statement}
-use Rattle.ledger_struct.proofs.flatten.Tie as tie
+use Rattle.ledger_struct.proofs.flatten as own
 
-abbrev Inv-loop : tie.InvT-loop
+abbrev Inv-loop : own.Tie.InvT-loop
 Inv-loop count flat₀ places many i₀ flat i =
     (i ≤ many) × ((length flat ≡ length flat₀) × (take i (contentsOf flat) ≡ map contentOfPlace (take i places)))
 
-abbrev μ-loop : tie.MeasureT-loop
+abbrev μ-loop : own.Tie.MeasureT-loop
 μ-loop count flat₀ places many i₀ flat i = many - i
 
-long : (c : tie.Start Inv-loop μ-loop) → length (c .args .t1) ≡ 1024
+long : (c : own.Tie.Start Inv-loop μ-loop) → length (c .args .t1) ≡ 1024
 long c = search (unmapped, needs)
 
-pub flatten-spec : {M : Type 1} → statement M
+pub flatten-spec : {M : Type 1} → own.Statement.statement M
 flatten-spec =
-    tie.close (tie.spec Inv-loop μ-loop
+    own.Tie.close (own.Tie.spec Inv-loop μ-loop
     (λ c κs. search needs) (λ c. (omega arith, (refl, refl))) (λ c. search needs) (λ c. search needs) (λ c κs. search needs) (λ c. search needs) (λ c. search needs)
     (λ c. let put-content = c .before .before .put-content in let k = c .before .before .before .before .before .before in
     let n = long (k .before .before .before) in let (_, (kept, taken)) = k .loop .inv in

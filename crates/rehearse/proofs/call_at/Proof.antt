@@ -1,13 +1,8 @@
 -- As many arguments are lent as the call has.
-use native.Mathlib.Omega.{arith}
-use lib.ListN.{length-take}
-use borrow.Author.Needs.{needs}
-use Rattle.rehearse.proofs.call_at.Statement.{statement}
-use Rattle.rehearse.proofs.call_at.Tie as tie
+use Rattle.kit.specs.Names.{arith, length-take, needs}
+use Rattle.rehearse.proofs.call_at as own
 
-pub call-at-spec : {M : Type 1} → statement M
+pub call-at-spec : {M : Type 1} → own.Statement.statement M
 call-at-spec =
-    tie.close (tie.spec
-    (λ c κs. search needs) (λ c κs. search needs) (λ c. search needs) (λ c. search needs)
-    (λ c. simp length-take (omega arith))
-    (λ c κs. search needs) (λ c. search needs))
+    own.Tie.close (own.Tie.spec (λ c κs. search needs) (λ c κs. search needs) (λ c. search needs) (λ c. search needs)
+    (λ c. simp length-take (omega arith)) (λ c κs. search needs) (λ c. search needs))

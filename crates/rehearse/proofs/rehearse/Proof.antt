@@ -1,18 +1,16 @@
 -- Each turn runs one call more.
-use Prim.Native.Nat.{_-_, _≤_}
-use borrow.Author.Needs.{needs}
-use Rattle.rehearse.proofs.rehearse.Statement.{statement}
-use Rattle.rehearse.proofs.rehearse.Tie as tie
+use Rattle.kit.specs.Names.{_-_, _≤_, needs}
+use Rattle.rehearse.proofs.rehearse as own
 
-abbrev Inv-loop : tie.InvT-loop
+abbrev Inv-loop : own.Tie.InvT-loop
 Inv-loop bytes script ledger₀ k₀ ledger k = k ≤ script .calls
 
-abbrev μ-loop : tie.MeasureT-loop
+abbrev μ-loop : own.Tie.MeasureT-loop
 μ-loop bytes script ledger₀ k₀ ledger k = script .calls - k
 
-pub rehearse-spec : {M : Type 1} → statement M
+pub rehearse-spec : {M : Type 1} → own.Statement.statement M
 rehearse-spec =
-    tie.close (tie.spec Inv-loop μ-loop
+    own.Tie.close (own.Tie.spec Inv-loop μ-loop
     (λ c κs. search needs) (λ c κs. search needs) (λ c κs. search needs) (λ c κs. search needs) (λ c. search needs) (λ c κs. search needs)
     (λ c. search needs) (λ c κs. search needs) (λ c. search needs) (λ c. search needs) (λ c κs. search needs) (λ c κs. search needs)
     (λ c. search needs) (λ c. search needs) (λ c. search needs) (λ c. search needs) (λ c. search needs))

@@ -1,15 +1,11 @@
 -- One, two or three digits.
-use mathlib.Core.Path.{refl}
-use native.Mathlib.Omega.{arith}
+use Rattle.kit.specs.Names.{refl, arith, needs}
 use Rattle.rehearse_lines.proofs.Decimals.{one-appended, two-appended, three-digits}
-use borrow.Author.Needs.{needs}
-use Rattle.rehearse_lines.proofs.append_decimal.Statement.{statement}
-use Rattle.rehearse_lines.proofs.append_decimal.Tie as tie
+use Rattle.rehearse_lines.proofs.append_decimal as own
 
-pub append-decimal-spec : {M : Type 1} → statement M
+pub append-decimal-spec : {M : Type 1} → own.Statement.statement M
 append-decimal-spec =
-    tie.close (tie.spec
-    (λ c. search needs) (λ c κs. search needs) (λ c. search needs)
+    own.Tie.close (own.Tie.spec (λ c. search needs) (λ c κs. search needs) (λ c. search needs)
     (λ c. one-appended _ _ _ _ _ (c .before .before .before .before .if1 .taken) (c .before .before .append-byte .ensures))
     (λ c. search needs) (λ c κs. search needs) (λ c. search needs) (λ c κs. search needs) (λ c. search needs)
     (λ c. let start = c .before .before .before .before .before .before .before .before .before .before .before in let args = start .args in

@@ -1,12 +1,11 @@
 -- The high digit, then the low one.
 use Rattle.rehearse_lines.proofs.Hex.{byte-appended}
-use borrow.Author.Needs.{needs}
-use Rattle.rehearse_lines.proofs.append_hex_byte.Statement.{statement}
-use Rattle.rehearse_lines.proofs.append_hex_byte.Tie as tie
+use Rattle.kit.specs.Names.{needs}
+use Rattle.rehearse_lines.proofs.append_hex_byte as own
 
-pub append-hex-byte-spec : {M : Type 1} → statement M
+pub append-hex-byte-spec : {M : Type 1} → own.Statement.statement M
 append-hex-byte-spec =
-    tie.close (tie.spec
+    own.Tie.close (own.Tie.spec
     (λ c κs. search needs) (λ c κs. search needs) (λ c κs. search needs) (λ c κs. search needs) (λ c. search needs)
     (λ c. let start = c .before .before .before .before .before .before .before .before .before .before .before in let args = start .args in
     let pre = start .pre in let hex-digit = c .before .before .before .before .before .before .before .before .before .hex-digit .ensures in

@@ -1,14 +1,11 @@
 -- The number, the space, the view and the line feed.
-use native.Mathlib.Omega.{arith}
+use Rattle.kit.specs.Names.{arith, needs}
 use Rattle.rehearse_lines.proofs.Written.{space-room, text-room, end-room, line-appended}
-use borrow.Author.Needs.{needs}
-use Rattle.rehearse_lines.proofs.append_line.Statement.{statement}
-use Rattle.rehearse_lines.proofs.append_line.Tie as tie
+use Rattle.rehearse_lines.proofs.append_line as own
 
-pub append-line-spec : {M : Type 1} → statement M
+pub append-line-spec : {M : Type 1} → own.Statement.statement M
 append-line-spec =
-    tie.close (tie.spec
-    (λ c κs. search needs)
+    own.Tie.close (own.Tie.spec (λ c κs. search needs)
     (λ c κs. let start = c .before .before .before .before .before .before .before in let args = start .args in
     let fits-number = c .before .before .before .before .before .before .before .fits .number in let pre = start .pre in
     let room = space-room (args .out .now) (args .view .now) (args .number) (omega (arith, fits-number)) pre _ _ (c .before .before .before .append-decimal .ensures) in omega arith)

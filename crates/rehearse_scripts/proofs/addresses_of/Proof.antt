@@ -1,13 +1,11 @@
 -- The addresses lie inside a script.
 use Rattle.rehearse_scripts.proofs.Reading.{no-addresses, addresses-inside, addresses-part}
-use borrow.Author.Needs.{needs}
-use Rattle.rehearse_scripts.proofs.addresses_of.Statement.{statement}
-use Rattle.rehearse_scripts.proofs.addresses_of.Tie as tie
+use Rattle.kit.specs.Names.{needs}
+use Rattle.rehearse_scripts.proofs.addresses_of as own
 
-pub addresses-of-spec : {M : Type 1} → statement M
+pub addresses-of-spec : {M : Type 1} → own.Statement.statement M
 addresses-of-spec =
-    tie.close (tie.spec
-    (λ c κs. search needs) (λ c κs. search needs) (λ c. search needs) (λ c. search needs) (λ c. search needs)
+    own.Tie.close (own.Tie.spec (λ c κs. search needs) (λ c κs. search needs) (λ c. search needs) (λ c. search needs) (λ c. search needs)
     (λ c. addresses-inside _ _ (c .before .before .before .is-script .ensures) (c .before .before .if1 .taken) _ (c .before .read-script .ensures))
     (λ c. search needs) (λ c. search needs) (λ c. search needs)
     (λ c. addresses-part _ _ (c .before .before .before .before .is-script .ensures) (c .before .before .before .if1 .taken) _ (c .before .before .read-script .ensures))

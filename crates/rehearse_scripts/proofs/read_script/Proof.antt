@@ -1,12 +1,11 @@
 -- The parts are read one after another.
 use Rattle.rehearse_scripts.proofs.Reading.{script-is}
-use borrow.Author.Needs.{needs}
-use Rattle.rehearse_scripts.proofs.read_script.Statement.{statement}
-use Rattle.rehearse_scripts.proofs.read_script.Tie as tie
+use Rattle.kit.specs.Names.{needs}
+use Rattle.rehearse_scripts.proofs.read_script as own
 
-pub read-script-spec : {M : Type 1} → statement M
+pub read-script-spec : {M : Type 1} → own.Statement.statement M
 read-script-spec =
-    tie.close (tie.spec
+    own.Tie.close (own.Tie.spec
     (λ c κs. search needs) (λ c. search needs) (λ c. search needs) (λ c κs. search needs) (λ c. search needs) (λ c κs. search needs)
     (λ c. search needs) (λ c κs. search needs) (λ c. search needs) (λ c. search needs) (λ c. search needs)
     (λ c. let two-bytes-at = c .before .before .before .two-bytes-at .ensures in let byte-at = c .before .before .byte-at .ensures in

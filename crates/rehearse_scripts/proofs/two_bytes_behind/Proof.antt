@@ -1,14 +1,11 @@
 -- Two bytes past the end read as 0.
-use native.Mathlib.Omega.{arith}
-use Prim.Native.Nat.{_+_}
+use Rattle.kit.specs.Names.{_+_, arith, needs}
 use Rattle.file_bytes.proofs.ReadingSteps.{byteAt-past}
-use borrow.Author.Needs.{needs}
-use Rattle.rehearse_scripts.proofs.two_bytes_behind.Statement.{statement}
-use Rattle.rehearse_scripts.proofs.two_bytes_behind.Tie as tie
+use Rattle.rehearse_scripts.proofs.two_bytes_behind as own
 
-pub two-bytes-behind-spec : {M : Type 1} → statement M
+pub two-bytes-behind-spec : {M : Type 1} → own.Statement.statement M
 two-bytes-behind-spec =
-    tie.close (tie.spec (λ c. let s = c .before .before in
+    own.Tie.close (own.Tie.spec (λ c. let s = c .before .before in
     let low = byteAt-past (s .args .bytes .now) (s .args .at + 2) (omega arith) in
     let high = byteAt-past (s .args .bytes .now) (s .args .at + 2 + 1) (omega arith) in
     (omega arith, omega arith)) (λ c. search needs) (λ c. let s = c .before .before .before in

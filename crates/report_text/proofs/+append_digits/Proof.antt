@@ -1,10 +1,6 @@
 -- The digits of a number: none, one, or those of its tenth and its last.
-use native.Mathlib.Omega.{arith}
+use Rattle.kit.specs.Names.{ℕ, _<_, arith, needs, In, Measures, is, falls, and}
 use Rattle.report_text.proofs.Digits.{one-room, front-room, last-room, none-appended, one-appended, more-appended}
-use borrow.Author.Needs.{needs}
-use Prim.Native.Nat.{ℕ, _<_}
-use borrow.Fn.Kinds.{In}
-use borrow.Fn.PlainCycle.{Measures, is, falls, and}
 use Rattle.report_text.proofs.append_digits.Reads as append-digits
 use Rattle.report_text.proofs.append_digits.Kinds as append-digits-kinds
 use Rattle.report_text.proofs.+append_digits.Lts-append_digits as append-digits-lts

@@ -1,31 +1,25 @@
 -- The loop's invariant: the lines of the functions passed are appended.
-use mathlib.Core.Path.{_≡_, refl}
-use Prim.Native.Nat.{_-_, _≤_}
-use native.Mathlib.Omega.{arith}
-use lib.ListN.{length, take}
-use borrow.Author.Needs.{needs}
+use Rattle.kit.specs.Names.{_≡_, refl, _-_, _≤_, arith, length, take, needs}
 use Rattle.definitions.specs.Basics.{flatMap}
 use Rattle.definitions.specs.Report.{tallyLine}
 use Rattle.memory_append.specs.Append.{Appended}
 use Rattle.report_order.specs.Counts.{orderedTallies}
 use Rattle.report_text.proofs.Lines.{lines-start, line-room, line-appended, lines-done}
-use Rattle.report_text.proofs.append_tallies.Statement.{statement}
-use Rattle.report_text.proofs.append_tallies.Tie as tie
+use Rattle.report_text.proofs.append_tallies as own
 
-abbrev Inv-loop : tie.InvT-loop
+abbrev Inv-loop : own.Tie.InvT-loop
 Inv-loop counts order out₀ from at₀ i₀ out at i =
     (Appended out₀ out from (flatMap tallyLine (take i (orderedTallies counts (length counts) order))) at) × (i ≤ length counts) × (length out ≡ length out₀)
 
-abbrev μ-loop : tie.MeasureT-loop
+abbrev μ-loop : own.Tie.MeasureT-loop
 μ-loop counts order out₀ from at₀ i₀ out at i = length counts - i
 
-pub append-tallies-spec : {M : Type 1} → statement M
+pub append-tallies-spec : {M : Type 1} → own.Statement.statement M
 append-tallies-spec =
-    tie.close (tie.spec Inv-loop μ-loop
+    own.Tie.close (own.Tie.spec Inv-loop μ-loop
     (λ c. let start = c .before .before .before in let args = start .args in let (order-room, out-room) = start .pre in
     (lines-start (args .counts .now) (args .order .now) order-room (args .out .now) (args .from) out-room, omega arith, refl))
-    (λ c. search needs)
-    (λ c. omega (arith, c .before .before .before .before .shared-slice-known2 .given (c .before .before .loop .i)))
+    (λ c. search needs) (λ c. omega (arith, c .before .before .before .before .shared-slice-known2 .given (c .before .before .loop .i)))
     (λ c κs. search needs)
     (λ c κs. let start = c .before .before .before .before .before .before .before .before in let args = start .args in
     let (order-room, out-room) = start .pre in let (appended-2, _, _) = c .before .before .before .before .loop .inv in

@@ -1,15 +1,12 @@
 -- The word, the number and the line's end.
-use mathlib.Core.List.{[], _∷_}
+use Rattle.kit.specs.Names.{[], _∷_, needs}
 use Rattle.definitions.specs.Report.{decimal}
 use Rattle.memory_append.proofs.Appending.{first-room, second-room, third-room, three-appended}
-use borrow.Author.Needs.{needs}
-use Rattle.report_text.proofs.append_word.Statement.{statement}
-use Rattle.report_text.proofs.append_word.Tie as tie
+use Rattle.report_text.proofs.append_word as own
 
-pub append-word-spec : {M : Type 1} → statement M
+pub append-word-spec : {M : Type 1} → own.Statement.statement M
 append-word-spec =
-    tie.close (tie.spec
-    (λ c κs. let start = c .before .before .before in let args = start .args in
+    own.Tie.close (own.Tie.spec (λ c κs. let start = c .before .before .before in let args = start .args in
     first-room (args .out .now) (args .at) (args .word .now) (decimal (args .number)) (10 ∷ []) (start .pre))
     (λ c κs. let start = c .before .before .before .before .before .before .before in let args = start .args in
     second-room (args .out .now) (args .at) (args .word .now) (decimal (args .number)) (10 ∷ []) (start .pre) _ _ (c .before .before .before .append .ensures))

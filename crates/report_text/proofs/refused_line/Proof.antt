@@ -1,9 +1,7 @@
 -- The word, the number and the line's end.
-use borrow.Author.Needs.{needs}
-use Rattle.report_text.proofs.refused_line.Statement.{statement}
-use Rattle.report_text.proofs.refused_line.Tie as tie
+use Rattle.kit.specs.Names.{needs}
+use Rattle.report_text.proofs.refused_line as own
 
-pub refused-line-spec : {M : Type 1} → statement M
+pub refused-line-spec : {M : Type 1} → own.Statement.statement M
 refused-line-spec =
-    tie.close (tie.spec
-    (λ c. search needs) (λ c κs. search needs) (λ c. search needs) (λ c. search needs))
+    own.Tie.close (own.Tie.spec (λ c. search needs) (λ c κs. search needs) (λ c. search needs) (λ c. search needs))

@@ -1,14 +1,11 @@
 -- The heading, then the lines in sorted order, then the total of them.
-use mathlib.Core.Path.{refl}
-use native.Mathlib.Omega.{arith}
+use Rattle.kit.specs.Names.{refl, arith, needs}
 use Rattle.report_text.proofs.Lines.{lines-room, total-room, report-appended}
-use borrow.Author.Needs.{needs}
-use Rattle.report_text.proofs.report_lines.Statement.{statement}
-use Rattle.report_text.proofs.report_lines.Tie as tie
+use Rattle.report_text.proofs.report_lines as own
 
-pub report-lines-spec : {M : Type 1} → statement M
+pub report-lines-spec : {M : Type 1} → own.Statement.statement M
 report-lines-spec =
-    tie.close (tie.spec
+    own.Tie.close (own.Tie.spec
     (λ c. search needs) (λ c κs. search needs) (λ c. search needs) (λ c κs. search needs) (λ c. search needs) (λ c κs. search needs)
     (λ c. search needs)
     (λ c κs. let headed = c .before .before .before .before in let summed = headed .before .before .before in let sorted = summed .before .before .before in

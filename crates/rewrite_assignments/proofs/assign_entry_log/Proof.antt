@@ -1,14 +1,11 @@
 -- The place belongs to its field's owner, or to the name used as key.
-use mathlib.Core.Path.{_∙_}
-use native.Mathlib.Omega.{arith}
+use Rattle.kit.specs.Names.{_∙_, arith, needs}
 use Rattle.rewrite_assignments.proofs.Placing.{key-ready, entry-ready, entry-logged}
-use borrow.Author.Needs.{needs}
-use Rattle.rewrite_assignments.proofs.assign_entry_log.Statement.{statement}
-use Rattle.rewrite_assignments.proofs.assign_entry_log.Tie as tie
+use Rattle.rewrite_assignments.proofs.assign_entry_log as own
 
-pub assign-entry-log-spec : {M : Type 1} → statement M
+pub assign-entry-log-spec : {M : Type 1} → own.Statement.statement M
 assign-entry-log-spec =
-    tie.close (tie.spec
+    own.Tie.close (own.Tie.spec
     (λ c κs. let ((f-bound, _), ready) = c .before .before .before .pre in (f-bound, record { at = ready .context .fieldListed }))
     (λ c κs. let (_, ready) = c .before .before .before .before .pre in (ready .inside, ready .context))
     (λ c κs. search needs) (λ c. search needs)

@@ -1,13 +1,11 @@
 -- The place belongs to its field's owner.
-use native.Mathlib.Omega.{arith}
+use Rattle.kit.specs.Names.{arith, needs}
 use Rattle.rewrite_assignments.proofs.Placing.{field-ready, field-logged}
-use borrow.Author.Needs.{needs}
-use Rattle.rewrite_assignments.proofs.assign_field_log.Statement.{statement}
-use Rattle.rewrite_assignments.proofs.assign_field_log.Tie as tie
+use Rattle.rewrite_assignments.proofs.assign_field_log as own
 
-pub assign-field-log-spec : {M : Type 1} → statement M
+pub assign-field-log-spec : {M : Type 1} → own.Statement.statement M
 assign-field-log-spec =
-    tie.close (tie.spec
+    own.Tie.close (own.Tie.spec
     (λ c κs. let (f-bound, ready) = c .before .before .before .pre in (f-bound, record { at = ready .context .fieldListed }))
     (λ c κs. search needs) (λ c. search needs)
     (λ c κs. let start = c .before .before .before .before .before .before in let args = start .args in let (_, ready) = start .pre in

@@ -1,13 +1,8 @@
 -- The cycle of body, supplying and circuit translation: each function meets its contract, the node number falling around the cycle.
-use mathlib.Core.Path.{_∙_}
-use native.Mathlib.Omega.{arith}
-use Prim.Native.Nat.{_+_, _*_}
+use Rattle.kit.specs.Names.{_∙_, _+_, _*_, ℕ, _<_, arith, In, Measures, is, falls, and}
 use Rattle.rewrite_expressions.proofs.Steps.{kept-ready, kept-logged, supplied-ready, supplied-logged, circuit-ready, circuit-logged, read-ready, read-room, read-small, read-done}
 use Rattle.rewrite_expressions.proofs.Parts.{none-logged, first-below, first-ready, one-logged, second-below, second-ready, two-logged}
 use Rattle.rewrite_expressions.proofs.Supplying.{variable-slot, variable-small, inside-ready, claimed-slot, claimed-small, supplied-done}
-use Prim.Native.Nat.{ℕ, _<_}
-use borrow.Fn.Kinds.{In}
-use borrow.Fn.PlainCycle.{Measures, is, falls, and}
 use Rattle.rewrite_expressions.proofs.body_log.Reads as body-log
 use Rattle.rewrite_expressions.proofs.body_log.Kinds as body-log-kinds
 use Rattle.rewrite_expressions.proofs.+body_log+body_parts_log+circuit_log+circuit_parts_log+supply_log.Lts-body_log as body-log-lts
@@ -117,17 +112,14 @@ supply-returns t c =
 pub +body-log+body-parts-log+circuit-log+circuit-parts-log+supply-log-spec :
     {M : Type 1} → statement M
 +body-log+body-parts-log+circuit-log+circuit-parts-log+supply-log-spec =
-    close μ-body-log μ-body-parts-log μ-circuit-log μ-circuit-parts-log μ-supply-log
-    (λ t. body-log-lts.spec (
+    close μ-body-log μ-body-parts-log μ-circuit-log μ-circuit-parts-log μ-supply-log (λ t. body-log-lts.spec (
       supplied-code-reads.Asked,
       supplied-code-reads.Learnt,
       body-parts-log-below t,
       body-parts-log.Post,
       supply-log-below t,
       supply-log.Post,
-    )
-    (body-log-at t) body-log.Post
-    (λ c κs. let (_, ready) = c .before .before .before .pre in (ready .inside, ready .context))
+    ) (body-log-at t) body-log.Post (λ c κs. let (_, ready) = c .before .before .before .pre in (ready .inside, ready .context))
     (λ c κs. let start = c .before .before .before .before .before .before in let args = start .args in let (_, ready) = start .pre in
     (omega arith, kept-ready _ _ (args .source .now) (args .guard) _ _ (c .before .before .supplied-code .ensures) _ _ (c .before .if1 .taken) ready))
     (λ c. omega arith)
@@ -142,13 +134,11 @@ pub +body-log+body-parts-log+circuit-log+circuit-parts-log+supply-log-spec :
     let supplied-code = c .before .before .before .before .before .supplied-code .ensures in
     supplied-logged _ _ (args .source .now) (args .guard) _ _ supplied-code _ _ _ _ (c .before .before .before .before .if1 .left) (c .before .before .supply-log .ensures)))
     (λ t. body-parts-log-lts.spec (parts-of-reads.Asked, parts-of-reads.Learnt, body-log-below t, body-log.Post)
-    (body-parts-log-at t) body-parts-log.Post
-    (λ c κs. let (_, ready) = c .before .before .before .pre in (ready .inside, ready .context))
+    (body-parts-log-at t) body-parts-log.Post (λ c κs. let (_, ready) = c .before .before .before .pre in (ready .inside, ready .context))
     (λ c. let (_, ready) = c .before .before .before .before .before .before .pre in
     none-logged _ _ _ _ _ _ (c .before .before .parts-of .ensures) _ _ ready (c .if1 .taken))
     (λ c κs. let (_, ready) = c .before .before .before .before .before .before .before .pre in let parts-of = c .before .before .before .parts-of .ensures in
-    let if1-left = c .before .if1 .left in
-    let less = first-below _ _ _ _ _ _ parts-of _ _ ready if1-left in
+    let if1-left = c .before .if1 .left in let less = first-below _ _ _ _ _ _ parts-of _ _ ready if1-left in
     (omega arith, first-ready _ _ _ _ _ _ parts-of _ _ ready if1-left))
     (λ c. c .before .before .before .before .body-log .kept .1 .1 .1 .1 .1 .0)
     (λ c. let (_, ready) = c .before .before .before .before .before .before .before .before .before .before .before .before .pre in
@@ -167,8 +157,7 @@ pub +body-log+body-parts-log+circuit-log+circuit-parts-log+supply-log-spec :
     let if1-left = c .before .before .before .before .before .before .before .before .before .before .if1 .left in
     let body-log-2 = c .before .before .before .before .before .before .before .before .body-log .ensures in
     two-logged _ _ _ _ _ _ parts-of _ _ ready if1-left _ _ body-log-2 (c .before .before .before .before .if2 .left) _ _ (c .before .before .body-log2 .ensures)))
-    (λ t. circuit-log-lts.spec (circuit-log-claims t)
-    (circuit-log-at t) circuit-log.Post
+    (λ t. circuit-log-lts.spec (circuit-log-claims t) (circuit-log-at t) circuit-log.Post
     (λ c κs. let (_, ready) = c .before .before .before .pre in (ready .inside, ready .context))
     (λ c κs. let start = c .before .before .before .before .before .before in let args = start .args in let (_, ready) = start .pre in
     (omega arith, circuit-ready _ _ (args .source .now) (args .guard) _ _ (c .before .before .read-code .ensures) _ _ (c .before .if1 .taken) ready))
@@ -185,15 +174,13 @@ pub +body-log+body-parts-log+circuit-log+circuit-parts-log+supply-log-spec :
     let read-code = c .before .before .before .before .before .read-code .ensures in
     circuit-logged _ _ (args .source .now) (args .guard) _ _ read-code _ _ _ _ (c .before .before .before .before .if1 .taken) (c .before .before .circuit-parts-log .ensures))
     (λ c. c .before .before .log-entry .kept .0 ∙ c .before .before .before .before .before .before .body-parts-log .kept .1 .1 .1 .1 .1 .0)
-    (read-returns t))
-    (λ t. circuit-parts-log-lts.spec (parts-of-reads.Asked, parts-of-reads.Learnt, circuit-log-below t, circuit-log.Post)
+    (read-returns t)) (λ t. circuit-parts-log-lts.spec (parts-of-reads.Asked, parts-of-reads.Learnt, circuit-log-below t, circuit-log.Post)
     (circuit-parts-log-at t) circuit-parts-log.Post
     (λ c κs. let (_, ready) = c .before .before .before .pre in (ready .inside, ready .context))
     (λ c. let (_, ready) = c .before .before .before .before .before .before .pre in
     none-logged _ _ _ _ _ _ (c .before .before .parts-of .ensures) _ _ ready (c .if1 .taken))
     (λ c κs. let (_, ready) = c .before .before .before .before .before .before .before .pre in let parts-of = c .before .before .before .parts-of .ensures in
-    let if1-left = c .before .if1 .left in
-    let less = first-below _ _ _ _ _ _ parts-of _ _ ready if1-left in
+    let if1-left = c .before .if1 .left in let less = first-below _ _ _ _ _ _ parts-of _ _ ready if1-left in
     (omega arith, first-ready _ _ _ _ _ _ parts-of _ _ ready if1-left))
     (λ c. c .before .before .before .before .circuit-log .kept .1 .1 .1 .1 .1 .0)
     (λ c. let (_, ready) = c .before .before .before .before .before .before .before .before .before .before .before .before .pre in
@@ -212,8 +199,7 @@ pub +body-log+body-parts-log+circuit-log+circuit-parts-log+supply-log-spec :
     let if1-left = c .before .before .before .before .before .before .before .before .before .before .if1 .left in
     let circuit-log-2 = c .before .before .before .before .before .before .before .before .circuit-log .ensures in
     two-logged _ _ _ _ _ _ parts-of _ _ ready if1-left _ _ circuit-log-2 (c .before .before .before .before .if2 .left) _ _ (c .before .before .circuit-log2 .ensures)))
-    λ t. supply-log-lts.spec (supply-log-claims t)
-    (supply-log-at t) supply-log.Post
+    λ t. supply-log-lts.spec (supply-log-claims t) (supply-log-at t) supply-log.Post
     (λ c κs. let start = c .before .before .before .before in let args-guard = start .args .guard in let (_, ready-to-supply) = start .pre in
     (variable-slot _ _ _ _ args-guard _ (omega arith) _ _ ready-to-supply, variable-small _ _ _ _ args-guard _ (omega arith) _ _ ready-to-supply))
     (λ c κs. let start = c .before .before .before .before .before .before .before .before in let args-guard = start .args .guard in
@@ -226,5 +212,4 @@ pub +body-log+body-parts-log+circuit-log+circuit-parts-log+supply-log-spec :
     (claimed-slot _ _ _ _ args-guard _ (omega arith) _ _ ready-to-supply _ _ log-entry _ _ circuit-log-2, claimed-small _ _ _ _ args-guard _ (omega arith) _ _ ready-to-supply _ _ log-entry _ _ circuit-log-2))
     (λ c. let log-entry-kept = c .before .before .before .before .before .before .before .before .before .before .log-entry .kept .0 in
     let circuit-log-kept = c .before .before .before .before .before .before .circuit-log .kept .1 .1 .1 .1 .1 .0 in
-    c .before .before .log-entry2 .kept .0 ∙ circuit-log-kept ∙ log-entry-kept)
-    (supply-returns t)
+    c .before .before .log-entry2 .kept .0 ∙ circuit-log-kept ∙ log-entry-kept) (supply-returns t)

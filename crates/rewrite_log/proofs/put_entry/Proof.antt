@@ -1,18 +1,15 @@
 -- Five numbers are stored one after another.
-use native.Mathlib.Omega.{arith}
+use Rattle.kit.specs.Names.{arith, needs}
 use Rattle.rewrite_log.proofs.FiveNumbers.{five-stored}
-use borrow.Author.Needs.{needs}
-use Rattle.rewrite_log.proofs.put_entry.Statement.{statement}
-use Rattle.rewrite_log.proofs.put_entry.Tie as tie
+use Rattle.rewrite_log.proofs.put_entry as own
 
-pub put-entry-spec : {M : Type 1} → statement M
+pub put-entry-spec : {M : Type 1} → own.Statement.statement M
 put-entry-spec =
-    tie.close (tie.spec
+    own.Tie.close (own.Tie.spec
     (λ c. search needs) (λ c κs. search needs) (λ c. search needs) (λ c. search needs) (λ c κs. search needs) (λ c. search needs)
     (λ c. search needs) (λ c κs. search needs) (λ c. search needs) (λ c. search needs) (λ c κs. search needs) (λ c. search needs)
     (λ c. let (_, small-entry) = c .before .before .before .before .before .before .before .before .before .before .before .before .before .before .before .before .before .before .before .before .before .before .before .pre in
-    omega (arith, small-entry .last))
-    (λ c κs. search needs) (λ c. search needs)
+    omega (arith, small-entry .last)) (λ c κs. search needs) (λ c. search needs)
     (λ c. let (log-room, _) = c .before .before .before .before .before .before .before .before .before .before .before .before .before .before .before .before .before .before .before .before .before .before .before .before .before .before .pre in
     let put-number = c .before .before .before .before .before .before .before .before .before .before .before .before .before .before .before .before .before .before .before .before .before .before .put-number .ensures in
     let put-number2 = c .before .before .before .before .before .before .before .before .before .before .before .before .before .before .before .before .before .put-number2 .ensures in

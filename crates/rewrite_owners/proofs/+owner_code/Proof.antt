@@ -1,13 +1,9 @@
 -- `rewrite_owners::owner_code` meets its contract, by recursion with the node number falling.
-use borrow.Author.Needs.{needs}
-use native.Mathlib.Omega.{arith}
+use Rattle.kit.specs.Names.{ℕ, _<_, arith, needs, In, Measures, is, falls, and}
 use Rattle.theory_trees.proofs.ByKind.{constant-is, field-is, entry-is, parameter-is, operator-is, negation-is, reveal-is, other-is, key-below, part-below, operands-below}
 use Rattle.file_accepted.proofs.Nodes.{node-reads}
 use Rattle.rewrite_owners.proofs.Names.{owned-constant, owned-me, owned-field, owned-entry, owned-parameter, owned-by-left, owned-by-right, owned-negation, owned-reveal}
 use Rattle.rewrite_owners.proofs.Targets.{target-listed}
-use Prim.Native.Nat.{ℕ, _<_}
-use borrow.Fn.Kinds.{In}
-use borrow.Fn.PlainCycle.{Measures, is, falls, and}
 use Rattle.rewrite_owners.proofs.owner_code.Reads as owner-code
 use Rattle.rewrite_owners.proofs.owner_code.Kinds as owner-code-kinds
 use Rattle.rewrite_owners.proofs.+owner_code.Lts-owner_code as owner-code-lts
@@ -34,28 +30,23 @@ owner-code-claims t = (node-at-reads.Asked, node-at-reads.Learnt, field-owner-re
 
 pub +owner-code-spec : {M : Type 1} → statement M
 +owner-code-spec =
-    close μ-owner-code
-    (λ t. owner-code-lts.spec (owner-code-claims t) (owner-code-at t) owner-code.Post
+    close μ-owner-code (λ t. owner-code-lts.spec (owner-code-claims t) (owner-code-at t) owner-code.Post
     (λ c κs. let (_, (_, context)) = c .before .before .pre in (context .narrow, omega (arith, context .long)))
     (λ c κs. let (_, (_, context)) = c .before .before .before .before .pre in (c .before .node-at .ensures .smallArg, record { at = context .fieldListed }))
     (λ c κs. search needs)
     (λ c κs. let (_, (_, context)) = c .before .before .before .before .pre in (c .before .node-at .ensures .smallArg, record { at = context .fieldListed }))
     (λ c κs. let (_, (n-bound, context)) = c .before .before .before .before .before .pre in
     let less = key-below (node-reads _ _ _ context _ n-bound _ (c .before .before .node-at .ensures .same)) (c .before .match .keys3) in
-    (omega arith, context))
-    (λ c κs. search needs)
+    (omega arith, context)) (λ c κs. search needs)
     (λ c κs. let (_, (_, context)) = c .before .before .before .before .pre in (context .nearFunction, context .fewParameters))
     (λ c κs. let (_, (n-bound, context)) = c .before .before .before .before .pre in
     let less = operands-below (node-reads _ _ _ context _ n-bound _ (c .before .node-at .ensures .same)) (c .match .keys5) in
-    (omega arith, (omega arith, context)))
-    (λ c κs. let (_, (n-bound, context)) = c .before .before .before .before .before .before .pre in
+    (omega arith, (omega arith, context))) (λ c κs. let (_, (n-bound, context)) = c .before .before .before .before .before .before .pre in
     let less = operands-below (node-reads _ _ _ context _ n-bound _ (c .before .before .before .node-at .ensures .same)) (c .before .before .match .keys5) in
-    (omega arith, (omega arith, context)))
-    (λ c κs. search needs)
+    (omega arith, (omega arith, context))) (λ c κs. search needs)
     (λ c κs. let (_, (n-bound, context)) = c .before .before .before .before .pre in
     let less = part-below (node-reads _ _ _ context _ n-bound _ (c .before .node-at .ensures .same)) (c .match .keys6) in
-    (omega arith, (omega arith, context)))
-    (λ c κs. search needs) (λ c. search needs)
+    (omega arith, (omega arith, context))) (λ c κs. search needs) (λ c. search needs)
     (λ c. let (_, (n-bound, context)) = c .before .before .before .before .pre in
     owned-constant _ _ _ _ (constant-is (node-reads _ _ _ context _ n-bound _ (c .before .node-at .ensures .same)) (c .match .keys1)))
     (λ c. let (_, (n-bound, context)) = c .before .before .before .before .before .before .pre in
@@ -73,6 +64,5 @@ pub +owner-code-spec : {M : Type 1} → statement M
     (λ c. let (_, (n-bound, context)) = c .before .before .before .before .before .pre in let node-at-same = c .before .before .node-at .ensures .same in
     let match-keys7 = c .before .match .keys7 in
     owned-reveal _ _ _ _ (reveal-is (node-reads _ _ _ context _ n-bound _ node-at-same) match-keys7) (target-listed _ _ _ context _ n-bound _ node-at-same match-keys7))
-    (λ c. let (_, (n-bound, context)) = c .before .before .before .before .pre in
-    let u = c .match .rest in
+    (λ c. let (_, (n-bound, context)) = c .before .before .before .before .pre in let u = c .match .rest in
     owned-me _ _ (other-is (node-reads _ _ _ context _ n-bound _ (c .before .node-at .ensures .same)) (record { constant = u .0 .0 .0 .0 .0 .0 .1; field = u .0 .0 .0 .0 .0 .1; entry = u .0 .0 .0 .0 .1; parameter = u .0 .0 .0 .1; operator = u .0 .0 .1; negation = u .0 .1; reveal = u .1 }))))

@@ -1,13 +1,10 @@
-use mathlib.Core.Path.{sym, _∙_}
-use native.Mathlib.Omega.{arith}
+use Rattle.kit.specs.Names.{sym, _∙_, arith, needs}
 use Rattle.rewrite_owners.proofs.Declared.{address-named, address-private, address-other, address-missing}
-use borrow.Author.Needs.{needs}
-use Rattle.rewrite_owners.proofs.address_code.Statement.{statement}
-use Rattle.rewrite_owners.proofs.address_code.Tie as tie
+use Rattle.rewrite_owners.proofs.address_code as own
 
-pub address-code-spec : {M : Type 1} → statement M
+pub address-code-spec : {M : Type 1} → own.Statement.statement M
 address-code-spec =
-    tie.close (tie.spec
+    own.Tie.close (own.Tie.spec
     (λ c κs. search needs) (λ c. search needs) (λ c. search needs) (λ c. search needs) (λ c κs. search needs) (λ c. search needs)
     (λ c. search needs) (λ c. search needs) (λ c. search needs) (λ c κs. search needs) (λ c. search needs) (λ c. search needs)
     (λ c. address-other _ _ _ (omega arith) (omega arith))

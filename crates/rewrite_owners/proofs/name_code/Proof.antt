@@ -1,14 +1,12 @@
 use Rattle.theory_trees.proofs.ByKind.{constant-is, field-is, entry-is, parameter-is, operator-is, negation-is, reveal-is, other-is}
 use Rattle.file_accepted.proofs.Nodes.{node-reads}
 use Rattle.rewrite_owners.proofs.Names.{unnamed-constant, named-me, named-field, unnamed-entry, named-parameter, unnamed-operator, unnamed-negation, unnamed-reveal}
-use borrow.Author.Needs.{needs}
-use Rattle.rewrite_owners.proofs.name_code.Statement.{statement}
-use Rattle.rewrite_owners.proofs.name_code.Tie as tie
+use Rattle.kit.specs.Names.{needs}
+use Rattle.rewrite_owners.proofs.name_code as own
 
-pub name-code-spec : {M : Type 1} → statement M
+pub name-code-spec : {M : Type 1} → own.Statement.statement M
 name-code-spec =
-    tie.close (tie.spec
-    (λ c κs. search needs) (λ c κs. search needs) (λ c κs. search needs)
+    own.Tie.close (own.Tie.spec (λ c κs. search needs) (λ c κs. search needs) (λ c κs. search needs)
     (λ c. let (n-bound, context) = c .before .before .before .before .pre in
     unnamed-constant _ _ _ _ (constant-is (node-reads _ _ _ context _ n-bound _ (c .before .node-at .ensures .same)) (c .match .keys1)))
     (λ c. let (n-bound, context) = c .before .before .before .before .before .pre in
@@ -23,6 +21,5 @@ name-code-spec =
     unnamed-negation _ _ _ (negation-is (node-reads _ _ _ context _ n-bound _ (c .before .node-at .ensures .same)) (c .match .keys6)))
     (λ c. let (n-bound, context) = c .before .before .before .before .pre in
     unnamed-reveal _ _ _ _ (reveal-is (node-reads _ _ _ context _ n-bound _ (c .before .node-at .ensures .same)) (c .match .keys7)))
-    (λ c. let (n-bound, context) = c .before .before .before .before .pre in
-    let u = c .match .rest in
+    (λ c. let (n-bound, context) = c .before .before .before .before .pre in let u = c .match .rest in
     named-me _ _ (other-is (node-reads _ _ _ context _ n-bound _ (c .before .node-at .ensures .same)) (record { constant = u .0 .0 .0 .0 .0 .0 .1; field = u .0 .0 .0 .0 .0 .1; entry = u .0 .0 .0 .0 .1; parameter = u .0 .0 .0 .1; operator = u .0 .0 .1; negation = u .0 .1; reveal = u .1 }))))

@@ -2,20 +2,14 @@
 use Rattle.rewrite_plans.proofs.PlansByKind.{read-place, read-operator, read-rest, read-field, read-entry, read-parameter}
 use Rattle.theory_trees.proofs.ByKind.{operator-is}
 use Rattle.file_accepted.proofs.Nodes.{node-reads}
-use native.Mathlib.Omega.{arith}
-use borrow.Author.Needs.{needs}
-use Rattle.rewrite_plans.proofs.read_code.Statement.{statement}
-use Rattle.rewrite_plans.proofs.read_code.Tie as tie
+use Rattle.kit.specs.Names.{arith, needs}
+use Rattle.rewrite_plans.proofs.read_code as own
 
-pub read-code-spec : {M : Type 1} → statement M
+pub read-code-spec : {M : Type 1} → own.Statement.statement M
 read-code-spec =
-    tie.close (tie.spec
-    (λ c κs. search needs)
-    (λ c κs. search needs) (λ c. search needs) (λ c. search needs)
-    (λ c κs. search needs) (λ c. search needs) (λ c. search needs)
-    (λ c κs. search needs) (λ c. search needs) (λ c. search needs)
-    (λ c. search needs) (λ c κs. search needs)
-    (λ c. let (n-bound, context) = c .before .before .before .before .before .pre in
+    own.Tie.close (own.Tie.spec (λ c κs. search needs) (λ c κs. search needs) (λ c. search needs) (λ c. search needs)
+    (λ c κs. search needs) (λ c. search needs) (λ c. search needs) (λ c κs. search needs) (λ c. search needs) (λ c. search needs)
+    (λ c. search needs) (λ c κs. search needs) (λ c. let (n-bound, context) = c .before .before .before .before .before .pre in
     read-place _ _ _ (c .owner-code .ensures) (omega arith) (read-field _ _ _ context _ n-bound _ (c .before .before .node-at .ensures .same) (c .before .match .keys1)))
     (λ c. let (n-bound, context) = c .before .before .before .before .before .pre in
     read-place _ _ _ (c .owner-code2 .ensures) (omega arith) (read-entry _ _ _ context _ n-bound _ (c .before .before .node-at .ensures .same) (c .before .match .keys2)))

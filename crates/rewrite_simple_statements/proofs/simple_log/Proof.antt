@@ -1,13 +1,11 @@
 -- The events of the statement's expressions, and their end.
-use borrow.Author.Needs.{needs}
+use Rattle.kit.specs.Names.{needs}
 use Rattle.rewrite_simple_statements.proofs.Ends.{parts-ready, end-ready, end-written, simple-ready, simple-logged}
-use Rattle.rewrite_simple_statements.proofs.simple_log.Statement.{statement}
-use Rattle.rewrite_simple_statements.proofs.simple_log.Tie as tie
+use Rattle.rewrite_simple_statements.proofs.simple_log as own
 
-pub simple-log-spec : {M : Type 1} → statement M
+pub simple-log-spec : {M : Type 1} → own.Statement.statement M
 simple-log-spec =
-    tie.close (tie.spec
-    (λ c κs. let (simple, ready) = c .before .before .before .before .pre in
+    own.Tie.close (own.Tie.spec (λ c κs. let (simple, ready) = c .before .before .before .before .pre in
     (simple, parts-ready _ _ _ _ _ _ _ (simple-ready _ _ (c .before .before .before .before .args .guard) _ simple _ _ _ ready)))
     (λ c κs. let (simple, ready) = c .before .before .before .before .before .before .before .before .pre in
     end-ready _ _ _ _ _ _ _ (simple-ready _ _ (c .before .before .before .before .before .before .before .before .args .guard) _ simple _ _ _ ready) _ _ (c .before .before .before .parts-log .ensures))

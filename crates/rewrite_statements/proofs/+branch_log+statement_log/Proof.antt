@@ -1,11 +1,6 @@
 -- Statements by the kind of their node, and branches: the node number falls.
-use mathlib.Core.Path.{_∙_}
-use native.Mathlib.Omega.{arith}
-use Prim.Native.Nat.{_+_, _*_}
+use Rattle.kit.specs.Names.{_∙_, _+_, _*_, ℕ, _<_, arith, In, Measures, is, falls, and}
 use Rattle.rewrite_statements.proofs.Statements.{others-ready, steps-less, first-ready, second-ready, sequence-logged, branches-less, condition-ready, then-ready, else-ready, conditional-logged, guard-slot, guard-small, inside-ready, branch-done}
-use Prim.Native.Nat.{ℕ, _<_}
-use borrow.Fn.Kinds.{In}
-use borrow.Fn.PlainCycle.{Measures, is, falls, and}
 use Rattle.rewrite_statements.proofs.branch_log.Reads as branch-log
 use Rattle.rewrite_statements.proofs.branch_log.Kinds as branch-log-kinds
 use Rattle.rewrite_statements.proofs.+branch_log+statement_log.Lts-branch_log as branch-log-lts
@@ -79,9 +74,7 @@ pub +branch-log+statement-log-spec : {M : Type 1} → statement M
     (λ c κs. let (_, ready) = c .before .before .before .before .before .before .before .before .pre in
     (omega arith, inside-ready _ _ _ _ _ _ ready _ _ (c .before .before .before .log-entry .ensures)))
     (λ c. c .before .before .statement-log .kept .1 .1 .1 .1 .1 .0 ∙ c .before .before .before .before .before .before .log-entry .kept .0)
-    (branch-returns t))
-    λ t. statement-log-lts.spec (statement-log-claims t)
-    (statement-log-at t) statement-log.Post
+    (branch-returns t)) λ t. statement-log-lts.spec (statement-log-claims t) (statement-log-at t) statement-log.Post
     (λ c κs. let (_, ready) = c .before .before .before .pre in (ready .context .narrow, omega (arith, ready .inside, ready .context .long)))
     (λ c κs. let guard = c .before .before .before .before .before .before .args .guard in let (_, ready) = c .before .before .before .before .before .before .pre in
     let same = c .before .before .node-at .ensures .same in let kind = c .before .match .keys1 in
@@ -106,5 +99,4 @@ pub +branch-log+statement-log-spec : {M : Type 1} → statement M
     (λ c. let guard = c .before .before .before .before .before .before .before .before .before .before .before .before .before .before .before .before .before .args .guard in let (_, ready) = c .before .before .before .before .before .before .before .before .before .before .before .before .before .before .before .before .before .pre in
     let same = c .before .before .before .before .before .before .before .before .before .before .before .before .before .node-at .ensures .same in let kind = c .before .before .before .before .before .before .before .before .before .before .before .before .match .keys2 in
     conditional-logged _ _ _ guard _ _ _ ready _ same kind _ _ (c .before .before .before .before .before .before .before .before .before .before .condition-log .ensures) _ _ (c .before .before .before .before .before .before .branch-log .ensures) _ _ (c .before .before .branch-log2 .ensures))
-    (λ c. c .before .before .simple-log .kept .1 .1 .1 .1 .1 .0)
-    (λ c. c .before .before .simple-log .ensures)
+    (λ c. c .before .before .simple-log .kept .1 .1 .1 .1 .1 .0) (λ c. c .before .before .simple-log .ensures)

@@ -1,12 +1,8 @@
-use borrow.Author.Needs.{needs}
-use Rattle.rules_assignments.proofs.entry_put_fault.Statement.{statement}
-use Rattle.rules_assignments.proofs.entry_put_fault.Tie as tie
+use Rattle.kit.specs.Names.{needs}
+use Rattle.rules_assignments.proofs.entry_put_fault as own
 
-pub entry-put-fault-spec : {M : Type 1} → statement M
+pub entry-put-fault-spec : {M : Type 1} → own.Statement.statement M
 entry-put-fault-spec =
-    tie.close (tie.spec
-    (λ c κs. search needs) (λ c κs. search needs) (λ c κs. search needs)
-    (λ c κs. let s = c .before .before .before .before in
-    (s .pre .1, rw (c .place-owner .ensures) (s .pre .0)))
-    (λ c κs. search needs)
+    own.Tie.close (own.Tie.spec (λ c κs. search needs) (λ c κs. search needs) (λ c κs. search needs)
+    (λ c κs. let s = c .before .before .before .before in (s .pre .1, rw (c .place-owner .ensures) (s .pre .0))) (λ c κs. search needs)
     (λ c. cc))

@@ -1,14 +1,10 @@
-use mathlib.Core.Path.{ap, sym, _∙_}
-use Prim.Native.Nat.{ℕ, min}
-use lib.Seq.{length-take-le}
-use borrow.Author.Needs.{needs}
+use Rattle.kit.specs.Names.{ap, sym, _∙_, ℕ, min, length-take-le, needs}
 use Rattle.rules_branches.specs.declared.Checked.{Checked}
-use Rattle.rules_branches.proofs.branched.Statement.{statement}
-use Rattle.rules_branches.proofs.branched.Tie as tie
+use Rattle.rules_branches.proofs.branched as own
 
-pub branched-spec : {M : Type 1} → statement M
+pub branched-spec : {M : Type 1} → own.Statement.statement M
 branched-spec =
-    tie.close (tie.spec (λ c κs. search needs)
+    own.Tie.close (own.Tie.spec (λ c κs. search needs)
     (λ c. let s = c .before .before .before .before .before .before in sym (length-take-le _ _ (s .pre .3)))
     (λ c. let s = c .before .before .before .before .before .before .before in sym (length-take-le _ _ (s .pre .4)))
     (λ c κs. let s = c .before .before .before .before .before .before .before in
@@ -16,8 +12,7 @@ branched-spec =
     (λ c κs. search needs) (λ c κs. search needs) (λ c κs. search needs) (λ c. search needs)
     (λ c. let call = c .before .before .before .before .before in
     let s = call .before .before .before .before .before .before .before .before in
-    let grown = call .before .before .before .before .either .ensures in
-    let is = c .outcome .ensures in (
+    let grown = call .before .before .before .before .either .ensures in let is = c .outcome .ensures in (
       ap (λ (r : Checked). r .fault) is ∙ c .before .least2 .ensures ∙ ap (λ (k : ℕ). min k (s .args .no .fault)) (c .before .before .least .ensures),
       (rw (← grown, ap (λ (r : Checked). r .added) is) (call .behind .ensures), search needs),
     )))

@@ -1,21 +1,14 @@
 -- No links at the start, in room for as many classes as there are owners' numbers.
-use mathlib.Core.Path.{ap, sym, _∙_}
-use Prim.Native.Nat.{_+_, _/_}
-use native.Mathlib.Omega.{arith}
-use lib.ListN.{length, drop}
-use lib.Seq.{length-take-le}
+use Rattle.kit.specs.Names.{ap, sym, _∙_, _+_, _/_, arith, length, drop, length-take-le, needs}
 use Rattle.rules_branches.proofs.Arrays.{array-long, array-front}
 use Rattle.rules_statements.proofs.Judged.{classed-as, column-long}
 use Rattle.rules_contract.proofs.Functions.{function-judged}
-use borrow.Author.Needs.{needs}
 use Rattle.rules_contract.proofs.function_fault.Statement.{statement}
 use Rattle.rules_contract.proofs.function_fault.Tie as tie
 
 pub function-fault-spec : {M : Type 1} → statement M
 function-fault-spec =
-    tie.close (tie.spec
-    (λ c. let few = c .before .before .before .before .pre .1 .few in omega (arith, few))
-    (λ c κs. search needs)
+    tie.close (tie.spec (λ c. let few = c .before .before .before .before .pre .1 .few in omega (arith, few)) (λ c κs. search needs)
     (λ c. let s = c .before .before .before .before .before in let room = c .class-room .ensures in let few = s .pre .1 .few in let count = 10 + length (s .args .fields .now) / 3 in omega (arith, few, room))
     (λ c. let s = c .before .before .before .before .before .before in let room = c .before .class-room .ensures in let few = s .pre .1 .few in let count = 10 + length (s .args .fields .now) / 3 in sym (length-take-le count (c .before .class-room .result) (omega (arith, few, room))))
     (λ c κs. let s = c .before .before .before .before .before .before in let room = c .before .class-room .ensures in let few = s .pre .1 .few in let count = 10 + length (s .args .fields .now) / 3 in let long = length-take-le count (c .before .class-room .result) (omega (arith, few, room)) in (omega (arith, long), omega (arith, long, few)))

@@ -1,10 +1,8 @@
-use borrow.Author.Needs.{needs}
-use Rattle.rules_entries.proofs.entry_fault.Statement.{statement}
-use Rattle.rules_entries.proofs.entry_fault.Tie as tie
+use Rattle.kit.specs.Names.{needs}
+use Rattle.rules_entries.proofs.entry_fault as own
 
-pub entry-fault-spec : {M : Type 1} → statement M
+pub entry-fault-spec : {M : Type 1} → own.Statement.statement M
 entry-fault-spec =
-    tie.close (tie.spec
+    own.Tie.close (own.Tie.spec
     (λ c κs. search needs) (λ c κs. search needs) (λ c κs. search needs) (λ c κs. search needs) (λ c κs. search needs)
-    (λ c κs. search needs) (λ c κs. search needs)
-    (λ c. cc))
+    (λ c κs. search needs) (λ c κs. search needs) (λ c. cc))

@@ -1,6 +1,4 @@
-use mathlib.Core.Path.{_≡_, ap, ap₂, _∙_}
-use Prim.Native.Nat.{ℕ, min}
-use borrow.Author.Needs.{needs}
+use Rattle.kit.specs.Names.{_≡_, ap, ap₂, _∙_, ℕ, min, needs}
 use Rattle.definitions.specs.Owners.{Links}
 use Rattle.rules_scopes.specs.declared.Declared.{Declared}
 use Rattle.rules_links.specs.Classes.{linkedBy}
@@ -20,10 +18,8 @@ whole linked d key owner own two last r least two-is own-is last-is owner-is =
 
 pub entry-judged-spec : {M : Type 1} → statement M
 entry-judged-spec =
-    tie.close (tie.spec
-    (λ c κs. search needs) (λ c κs. search needs) (λ c κs. search needs)
-    (λ c κs. rw (c .before .before .place-owner .ensures) (c .before .before .before .before .pre))
-    (λ c κs. search needs)
+    tie.close (tie.spec (λ c κs. search needs) (λ c κs. search needs) (λ c κs. search needs)
+    (λ c κs. rw (c .before .before .place-owner .ensures) (c .before .before .before .before .pre)) (λ c κs. search needs)
     (λ c. let s = c .before .before .before .before .before .before in
     whole (linkedBy (s .args .classes .now)) (s .args .d) (s .args .key) _ _ _ _ _ (c .least2 .ensures) (c .before .before .least .ensures) (c .before .before .before .entry-fault .ensures)
     (c .before .unread .ensures) (c .before .before .before .before .place-owner .ensures)))

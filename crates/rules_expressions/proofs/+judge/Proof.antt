@@ -1,13 +1,9 @@
 -- `rules_expressions::judge` meets its contract, by the number of its node: each kind from the judgements of its parts.
-use native.Mathlib.Omega.{arith}
-use borrow.Author.Needs.{needs}
-use Prim.Native.Nat.{ℕ, _<_}
+use Rattle.kit.specs.Names.{ℕ, _<_, arith, needs, In, Measures, is, falls, and}
 use Rattle.theory_trees.proofs.ByKind.{key-below, operands-below, part-below, revealed-below}
 use Rattle.rules_scopes.proofs.Nodes.{node-reads}
 use Rattle.rules_scopes.proofs.Named.{field-there, mapping-there, target-listed, target-there}
 use Rattle.rules_expressions.proofs.Judging as kinds
-use borrow.Fn.Kinds.{In}
-use borrow.Fn.PlainCycle.{Measures, is, falls, and}
 use Rattle.rules_expressions.proofs.judge.Reads as judge
 use Rattle.rules_expressions.proofs.judge.Kinds as judge-kinds
 use Rattle.rules_expressions.proofs.+judge.Lts-judge as judge-lts
@@ -73,8 +69,7 @@ judge-claims t = (
 
 pub +judge-spec : {M : Type 1} → statement M
 +judge-spec = close μ-judge λ t. judge-lts.spec (judge-claims t)
-    (judge-at t) judge.Post
-    (λ c κs. let s = c .before .before .before .before .before in (s .pre .1 .0, s .pre .1 .1 .bodies .few))
+    (judge-at t) judge.Post (λ c κs. let s = c .before .before .before .before .before in (s .pre .1 .0, s .pre .1 .1 .bodies .few))
     (λ c κs. search needs)
     (λ c κs. let s = c .before .before .before .before .before .before .before .before .before in omega (arith, s .pre .1 .0, s .pre .1 .2))
     (λ c κs. let s = c .before .before .before .before .before .before .before .before in let ready = s .pre .1 .1 in let inside = s .pre .1 .0 in (ready .declared, field-there _ _ (ready .bodies) _ inside _ (c .before .before .read-node .ensures) (c .before .match .keys2)))

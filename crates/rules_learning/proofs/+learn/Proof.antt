@@ -1,15 +1,10 @@
 -- `rules_learning::learn` meets its contract, by the number of its node: an equality joins two names, an "and" learns from both halves.
-use native.Mathlib.Omega.{arith}
-use borrow.Author.Needs.{needs}
-use mathlib.Core.Path.{sym}
-use Prim.Native.Nat.{ℕ, _<_}
+use Rattle.kit.specs.Names.{sym, ℕ, _<_, arith, needs, In, Measures, is, falls, and}
 use Rattle.rules_links.proofs.Growing.{nothing-learnt, learnt-as, learnt-both}
 use Rattle.theory_trees.proofs.ByKind.{operator-is, operands-below}
 use Rattle.rules_scopes.proofs.Nodes.{node-reads}
 use Rattle.rules_scopes.proofs.Named.{no-links-learnt}
 use Rattle.rules_learning.proofs.Learning.{equality-learnt, conjunction-learnt, no-name-learnt, ready-as, ready-names}
-use borrow.Fn.Kinds.{In}
-use borrow.Fn.PlainCycle.{Measures, is, falls, and}
 use Rattle.rules_learning.proofs.learn.Reads as learn
 use Rattle.rules_learning.proofs.learn.Kinds as learn-kinds
 use Rattle.rules_learning.proofs.+learn.Lts-learn as learn-lts
@@ -45,8 +40,7 @@ learn-claims t = (
 
 pub +learn-spec : {M : Type 1} → statement M
 +learn-spec = close μ-learn λ t. learn-lts.spec (learn-claims t)
-    (learn-at t) learn.Post
-    (λ c κs. let s = c .before .before .before .before in (s .pre .1 .0, s .pre .1 .1 .bodies .few))
+    (learn-at t) learn.Post (λ c κs. let s = c .before .before .before .before in (s .pre .1 .0, s .pre .1 .1 .bodies .few))
     (λ c. let s = c .before .before .before .before .before .before in let ready = s .pre .1 .1 in let inside = s .pre .1 .0 in nothing-learnt _ _ (s .pre .1 .2)
     (sym (no-links-learnt _ _ (ready .bodies) _ inside _ (c .before .read-node .ensures) _ _ (c .if1 .taken))))
     (λ c κs. let s = c .before .before .before .before .before .before .before in let ready = s .pre .1 .1 in let inside = s .pre .1 .0 in let less = operands-below (node-reads _ _ (ready .bodies) _ inside _ (c .before .before .read-node .ensures)) (c .before .if1 .left) .0 in (omega (arith, inside, less), ready-names _ _ _ _ ready))
@@ -57,8 +51,7 @@ pub +learn-spec : {M : Type 1} → statement M
     (omega (arith, s .pre .0, less), (omega (arith, inside, less), ready, s .pre .1 .2)))
     (λ c κs. let s = c .before .before .before .before .before .before .before .before .before .before .before .before in let ready = s .pre .1 .1 in let inside = s .pre .1 .0 in let less = operands-below (node-reads _ _ (ready .bodies) _ inside _ (c .before .before .before .before .before .before .before .read-node .ensures)) (c .before .before .before .before .before .before .if1 .left) .1 in let first = c .before .before .before .learn .ensures in
     (omega (arith, s .pre .0, less), (omega (arith, inside, less), ready-as _ _ _ _ _ (first .long) ready, first .classed)))
-    (λ c κs. search needs)
-    (λ c. search needs)
+    (λ c κs. search needs) (λ c. search needs)
     (λ c. let s = c .before .before .before .before .before .before .before .before .before .before .before .before .before in let ready = s .pre .1 .1 in let inside = s .pre .1 .0 in let read = c .before .before .before .before .before .before .before in
     let tree = operator-is (node-reads _ _ (ready .bodies) _ inside _ (read .before .read-node .ensures)) (read .if1 .left) in
     learnt-as (c .before .before .link .ensures) (equality-learnt _ _ _ _ _ _ tree (c .before .before .before .before .before .name-of .result) (c .before .before .before .before .name-of2 .result) (c .before .before .before .before .before .before .match .keys1) (c .before .before .before .before .before .name-of .ensures .0) (c .before .before .before .before .name-of2 .ensures .0)))

@@ -1,14 +1,11 @@
-use native.Mathlib.Omega.{arith}
+use Rattle.kit.specs.Names.{arith, needs}
 use Rattle.rules_scopes.proofs.Named.{field-there}
 use Rattle.rules_learning.proofs.Names as kinds
-use borrow.Author.Needs.{needs}
-use Rattle.rules_learning.proofs.name_of.Statement.{statement}
-use Rattle.rules_learning.proofs.name_of.Tie as tie
+use Rattle.rules_learning.proofs.name_of as own
 
-pub name-of-spec : {M : Type 1} → statement M
+pub name-of-spec : {M : Type 1} → own.Statement.statement M
 name-of-spec =
-    tie.close (tie.spec
-    (λ c κs. let s = c .before .before .before in (s .pre .0, s .pre .1 .bodies .few))
+    own.Tie.close (own.Tie.spec (λ c κs. let s = c .before .before .before in (s .pre .0, s .pre .1 .bodies .few))
     (λ c κs. let s = c .before .before .before .before .before in (s .pre .1 .declared, field-there _ _ (s .pre .1 .bodies) _ (s .pre .0) _ (c .before .read-node .ensures) (c .match .keys2)))
     (λ c κs. let s = c .before .before .before .before .before .before in
     omega (arith, s .pre .1 .declared .few, field-there _ _ (s .pre .1 .bodies) _ (s .pre .0) _ (c .before .before .read-node .ensures) (c .before .match .keys2)))
@@ -20,7 +17,6 @@ name-of-spec =
     (λ c. let s = c .before .before .before .before .before in kinds.operator-named _ _ _ (s .pre .1) _ (s .pre .0) _ (c .before .read-node .ensures) (c .match .keys5))
     (λ c. let s = c .before .before .before .before .before in kinds.negation-named _ _ _ (s .pre .1) _ (s .pre .0) _ (c .before .read-node .ensures) (c .match .keys6))
     (λ c. let s = c .before .before .before .before .before in kinds.reveal-named _ _ _ (s .pre .1) _ (s .pre .0) _ (c .before .read-node .ensures) (c .match .keys7))
-    (λ c. let s = c .before .before .before .before .before in
-    let other = c .match .rest in
+    (λ c. let s = c .before .before .before .before .before in let other = c .match .rest in
     kinds.me-named _ _ _ (s .pre .1) _ (s .pre .0) _ (c .before .read-node .ensures) (other .0 .0 .0 .0 .0 .0 .1) (other .0 .0 .0 .0 .0 .1) (other .0 .0 .0 .0 .1) (other .0 .0 .0 .1)
     (other .0 .0 .1) (other .0 .1) (other .1)))

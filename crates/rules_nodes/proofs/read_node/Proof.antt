@@ -1,11 +1,10 @@
-use native.Mathlib.Omega.{arith}
+use Rattle.kit.specs.Names.{arith}
 use Rattle.rules_scopes.proofs.Nodes.{read-five}
-use Rattle.rules_nodes.proofs.read_node.Statement.{statement}
-use Rattle.rules_nodes.proofs.read_node.Tie as tie
+use Rattle.rules_nodes.proofs.read_node as own
 
-pub read-node-spec : {M : Type 1} → statement M
+pub read-node-spec : {M : Type 1} → own.Statement.statement M
 read-node-spec =
-    tie.close (tie.spec (λ c. omega arith) (λ c κs. omega arith) (λ c. omega arith) (λ c κs. omega arith) (λ c. omega arith)
+    own.Tie.close (own.Tie.spec (λ c. omega arith) (λ c κs. omega arith) (λ c. omega arith) (λ c κs. omega arith) (λ c. omega arith)
     (λ c κs. omega arith) (λ c. omega arith) (λ c κs. omega arith) (λ c. omega arith) (λ c κs. omega arith)
     (λ c. let s = c .before .before .before .before .before .before in
     read-five (s .args .nodes .now) (s .args .n) _ _ _ _ _ (c .before .before .before .before .short-from .ensures)

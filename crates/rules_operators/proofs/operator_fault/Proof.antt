@@ -1,11 +1,9 @@
-use borrow.Author.Needs.{needs}
-use Rattle.rules_operators.proofs.operator_fault.Statement.{statement}
-use Rattle.rules_operators.proofs.operator_fault.Tie as tie
+use Rattle.kit.specs.Names.{needs}
+use Rattle.rules_operators.proofs.operator_fault as own
 
-pub operator-fault-spec : {M : Type 1} → statement M
+pub operator-fault-spec : {M : Type 1} → own.Statement.statement M
 operator-fault-spec =
-    tie.close (tie.spec
+    own.Tie.close (own.Tie.spec
     (λ c κs. search needs) (λ c κs. search needs) (λ c κs. search needs) (λ c κs. search needs) (λ c κs. search needs)
     (λ c κs. search needs) (λ c κs. search needs) (λ c κs. search needs) (λ c κs. search needs) (λ c κs. search needs)
-    (λ c κs. search needs) (λ c κs. search needs) (λ c κs. search needs)
-    (λ c. cc))
+    (λ c κs. search needs) (λ c κs. search needs) (λ c κs. search needs) (λ c. cc))

@@ -1,7 +1,6 @@
-use borrow.Author.Needs.{needs}
-use Rattle.rules_operators.proofs.operator_judged.Statement.{statement}
-use Rattle.rules_operators.proofs.operator_judged.Tie as tie
+use Rattle.kit.specs.Names.{needs}
+use Rattle.rules_operators.proofs.operator_judged as own
 
-pub operator-judged-spec : {M : Type 1} → statement M
+pub operator-judged-spec : {M : Type 1} → own.Statement.statement M
 operator-judged-spec =
-    tie.close (tie.spec (λ c κs. search needs) (λ c κs. search needs) (λ c κs. search needs) (λ c. cc))
+    own.Tie.close (own.Tie.spec (λ c κs. search needs) (λ c κs. search needs) (λ c κs. search needs) (λ c. cc))

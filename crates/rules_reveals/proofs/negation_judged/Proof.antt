@@ -1,9 +1,7 @@
-use borrow.Author.Needs.{needs}
-use Rattle.rules_reveals.proofs.negation_judged.Statement.{statement}
-use Rattle.rules_reveals.proofs.negation_judged.Tie as tie
+use Rattle.kit.specs.Names.{needs}
+use Rattle.rules_reveals.proofs.negation_judged as own
 
-pub negation-judged-spec : {M : Type 1} → statement M
+pub negation-judged-spec : {M : Type 1} → own.Statement.statement M
 negation-judged-spec =
-    tie.close (tie.spec
-    (λ c κs. search needs) (λ c κs. search needs) (λ c κs. search needs) (λ c κs. search needs) (λ c κs. search needs)
-    (λ c. cc))
+    own.Tie.close (own.Tie.spec
+    (λ c κs. search needs) (λ c κs. search needs) (λ c κs. search needs) (λ c κs. search needs) (λ c κs. search needs) (λ c. cc))

@@ -1,10 +1,8 @@
-use borrow.Author.Needs.{needs}
-use Rattle.rules_reveals.proofs.reveal_judged.Statement.{statement}
-use Rattle.rules_reveals.proofs.reveal_judged.Tie as tie
+use Rattle.kit.specs.Names.{needs}
+use Rattle.rules_reveals.proofs.reveal_judged as own
 
-pub reveal-judged-spec : {M : Type 1} → statement M
+pub reveal-judged-spec : {M : Type 1} → own.Statement.statement M
 reveal-judged-spec =
-    tie.close (tie.spec
+    own.Tie.close (own.Tie.spec
     (λ c κs. search needs) (λ c κs. search needs) (λ c κs. search needs) (λ c κs. search needs) (λ c κs. search needs)
-    (λ c κs. search needs)
-    (λ c. cc))
+    (λ c κs. search needs) (λ c. cc))

@@ -1,34 +1,28 @@
 -- The parts are written one behind another.
-use mathlib.Core.Path.{_≡_, refl}
-use Prim.Native.Nat.{_+_, _*_, _≤_, min}
-use lib.ListN.{length}
-use native.Mathlib.Omega.{arith}
+use Rattle.kit.specs.Names.{_≡_, refl, _+_, _*_, _≤_, min, arith, length, needs}
 use Rattle.ledger_struct.proofs.Flat.{unmapped}
 use Rattle.view_bytes.proofs.Views.{view-length, view-stored}
-use borrow.Author.Needs.{needs}
-use Rattle.view_bytes.proofs.view_bytes.Statement.{statement}
-use Rattle.view_bytes.proofs.view_bytes.Tie as tie
+use Rattle.view_bytes.proofs.view_bytes as own
 
-eight : (c : tie.Start) → length (c .args .l .parameters) ≡ 8
+eight : (c : own.Tie.Start) → length (c .args .l .parameters) ≡ 8
 eight c = search (unmapped, needs)
 
-variables : (c : tie.Start) → length (c .args .l .variables) ≡ 1024
+variables : (c : own.Tie.Start) → length (c .args .l .variables) ≡ 1024
 variables c = search (unmapped, needs)
 
-places : (c : tie.Start) → length (c .args .l .places) ≡ 1024
+places : (c : own.Tie.Start) → length (c .args .l .places) ≡ 1024
 places c = search (unmapped, needs)
 
 -- The whole length, by the three counts.
-room : (c : tie.Start)
+room : (c : own.Tie.Start)
     → 5 + 10 * min (c .args .l .«parameter_count») 8 + 10 * min (c .args .l .«variable_count») 1024 + 10 * min (c .args .l .«place_count») 1024 ≤ length (c .args .out .now)
 room c =
     let long = view-length (c .args .l) (eight c) (variables c) (places c) (c .args .party) _ _ _ refl refl refl in
     omega (arith, c .pre)
 
-pub view-bytes-spec : {M : Type 1} → statement M
+pub view-bytes-spec : {M : Type 1} → own.Statement.statement M
 view-bytes-spec =
-    tie.close (tie.spec
-    (λ c κs. search needs) (λ c κs. search needs)
+    own.Tie.close (own.Tie.spec (λ c κs. search needs) (λ c κs. search needs)
     (λ c κs. omega (arith, room (c .before .before .before .before .before .before .before)))
     (λ c κs. omega (arith, room (c .before .before .before .before .before .before .before .before .before .before .before), c .before .before .before .put-head .kept .0))
     (λ c. search needs) (λ c. search needs)
@@ -39,8 +33,7 @@ view-bytes-spec =
     (λ c κs. let at-most = c .before .before .before .before .before .before .before .before .before .before .before .before .before .before .at-most .ensures in
     let at-most2 = c .before .before .before .before .before .before .before .before .before .before .before .before .before .at-most2 .ensures in
     let put-head-kept = c .before .before .before .before .before .before .before .before .before .before .before .put-head .kept .0 in
-    let put-eight-kept = c .before .before .before .before .before .before .before .put-eight .kept .1 .1 .1 .0 in
-    omega
+    let put-eight-kept = c .before .before .before .before .before .before .before .put-eight .kept .1 .1 .1 .0 in omega
     (arith, room (c .before .before .before .before .before .before .before .before .before .before .before .before .before .before .before .before .before .before .before), c .before .before .before .put-items .kept .1 .1 .1 .0, put-eight-kept, put-head-kept, at-most, at-most2))
     (λ c. search needs)
     (λ c. let at-most = c .before .before .before .before .before .before .before .before .before .before .before .before .before .before .before .before .before .at-most .ensures in

@@ -1,6 +1,6 @@
 -- The party's own cell is open, another is not.
 use Rattle.view_item.proofs.Bytes.{shows-own, shows-opaque}
-use borrow.Author.Needs.{needs}
+use Rattle.kit.specs.Names.{needs}
 use Rattle.view_content.proofs.put_cell.Statement.{statement}
 use Rattle.view_content.proofs.put_cell.Tie as tie
 

@@ -1,31 +1,26 @@
 -- Each turn shows one place more.
-use mathlib.Core.Path.{_≡_, refl, _∙_}
-use Prim.Native.Nat.{_≤_, _-_, _+_, _*_}
-use native.Mathlib.Omega.{arith}
-use lib.ListN.{length, drop}
-use borrow.Author.Needs.{needs}
+use Rattle.kit.specs.Names.{_≡_, refl, _∙_, _≤_, _-_, _+_, _*_, arith, length, drop, needs}
 use Rattle.memory_buffer.specs.Buffer.{stored}
 use Rattle.ledger_struct.specs.Ledgers.{contentsIn}
 use Rattle.ledger_struct.proofs.Flat.{unmapped}
 use Rattle.view_item.specs.Items.{shown}
 use Rattle.view_items.proofs.Shown.{items-start, items-next, items-done}
-use Rattle.view_items.proofs.put_items.Statement.{statement}
-use Rattle.view_items.proofs.put_items.Tie as tie
+use Rattle.view_items.proofs.put_items as own
 
-abbrev Inv-loop : tie.InvT-loop
+abbrev Inv-loop : own.Tie.InvT-loop
 Inv-loop count party out₀ at places many i₀ out i =
     (i ≤ many) × ((length out ≡ length out₀)
     × (stored out (at + 10 * i) (shown party (drop i (contentsIn count places))) ≡ stored out₀ at (shown party (contentsIn count places))))
 
-abbrev μ-loop : tie.MeasureT-loop
+abbrev μ-loop : own.Tie.MeasureT-loop
 μ-loop count party out₀ at places many i₀ out i = many - i
 
-long : (c : tie.Start Inv-loop μ-loop) → length (c .args .t1) ≡ 1024
+long : (c : own.Tie.Start Inv-loop μ-loop) → length (c .args .t1) ≡ 1024
 long c = search (unmapped, needs)
 
-pub put-items-spec : {M : Type 1} → statement M
+pub put-items-spec : {M : Type 1} → own.Statement.statement M
 put-items-spec =
-    tie.close (tie.spec Inv-loop μ-loop
+    own.Tie.close (own.Tie.spec Inv-loop μ-loop
     (λ c κs. search needs) (λ c. (omega arith, (refl, items-start _ _ _ _))) (λ c. search needs) (λ c. search needs) (λ c. search needs)
     (λ c. search needs) (λ c κs. search needs) (λ c. search needs) (λ c. search needs)
     (λ c. let put-content = c .before .before .put-content in let k = c .before .before .before .before .before .before in

@@ -1,11 +1,10 @@
 use Rattle.walk_contents.proofs.ConstraintParts.{me-address, low-address, final-address, middle-address, high-address}
-use borrow.Author.Needs.{needs}
-use Rattle.walk_claims.proofs.address_of.Statement.{statement}
-use Rattle.walk_claims.proofs.address_of.Tie as tie
+use Rattle.kit.specs.Names.{needs}
+use Rattle.walk_claims.proofs.address_of as own
 
-pub address-of-spec : {M : Type 1} → statement M
+pub address-of-spec : {M : Type 1} → own.Statement.statement M
 address-of-spec =
-    tie.close (tie.spec
+    own.Tie.close (own.Tie.spec
     (λ c κs. search needs) (λ c κs. search needs) (λ c κs. search needs) (λ c κs. search needs) (λ c κs. search needs)
     (λ c. let args = c .before .before .before .args in
     λ z. me-address (args .addresses .now) (args .code) _ (c .before .if1 .taken) (c .number-at .ensures))

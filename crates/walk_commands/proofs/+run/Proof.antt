@@ -1,10 +1,5 @@
 -- `walk_commands::run` meets its contract. The invariant: what is left to walk completes, and ends, as the whole does.
-use mathlib.Core.Path.{_≡_, refl, sym, _∙_}
-use Prim.Native.Nat.{ℕ, _<_, _≤_}
-use native.Mathlib.Omega.{arith}
-use borrow.Author.Needs.{needs}
-use borrow.Author.Tests.{not-true, not-false}
-use lib.ListN.{length}
+use Rattle.kit.specs.Names.{_≡_, refl, sym, _∙_, ℕ, _<_, _≤_, arith, length, not-true, not-false, needs, In, Measures, is, falls, and}
 use Rattle.write_trees.specs.Trees.{commandIn}
 use Rattle.write_trees.specs.Table.{tableOf}
 use Rattle.write_trees.proofs.Read.{read-here}
@@ -16,9 +11,6 @@ use Rattle.ledger_contents.specs.Contents.{contentOfCode}
 use Rattle.walk_expressions.specs.Evaluation.{stateOf}
 use Rattle.walk_steps.specs.Walk.{afterFrom, completesFrom}
 use Rattle.walk_steps.proofs.Steps.{ran-same, ran-fails, if-kind, handed, still-there, branch-below, sequence-fails, sequence-next, sequence-goes-on, if-fails, if-next, if-goes-on}
-use Prim.Native.Nat.{ℕ, _<_}
-use borrow.Fn.Kinds.{In}
-use borrow.Fn.PlainCycle.{Measures, is, falls, and}
 use Rattle.walk_commands.proofs.run.Reads as run
 use Rattle.walk_commands.proofs.run.Kinds as run-kinds
 use Rattle.walk_commands.proofs.+run.Lts-run as run-lts
@@ -56,10 +48,7 @@ run-claims t = (hands-on-reads.Asked, hands-on-reads.Learnt, read-node-reads.Ask
 
 pub +run-spec : {M : Type 1} → statement M
 +run-spec = close μ-run λ t. run-lts.spec (run-claims t)
-    (run-at t) run.Post
-    run-Inv-loop
-    run-μ-loop
-    (λ c. (omega arith, (refl, (refl, (refl, refl)))))
+    (run-at t) run.Post run-Inv-loop run-μ-loop (λ c. (omega arith, (refl, (refl, (refl, refl)))))
     (λ c κs. let (_, (n-bound, (readable, _))) = c .before .before .before .before .before .before .before .before .pre in
     let (at-bound, _) = c .loop .inv in ((still-there _ _ _ at-bound n-bound), readable))
     (λ c. let (_, (n-bound, (readable, _))) = c .before .before .before .before .before .before .before .before .before .before .pre in

@@ -1,14 +1,10 @@
-use native.Mathlib.Omega.{arith}
-use Prim.Native.Nat.{_+_}
+use Rattle.kit.specs.Names.{_+_, arith, needs}
 use Rattle.walk_contents.proofs.ConstraintParts.{set-holds, unset-holds}
-use borrow.Author.Needs.{needs}
-use Rattle.walk_constraints.proofs.constraint_holds.Statement.{statement}
-use Rattle.walk_constraints.proofs.constraint_holds.Tie as tie
+use Rattle.walk_constraints.proofs.constraint_holds as own
 
-pub constraint-holds-spec : {M : Type 1} → statement M
+pub constraint-holds-spec : {M : Type 1} → own.Statement.statement M
 constraint-holds-spec =
-    tie.close (tie.spec
-    (λ c. search needs) (λ c. search needs)
+    own.Tie.close (own.Tie.spec (λ c. search needs) (λ c. search needs)
     (λ c. omega (arith, c .shared-slice-known5 .given (c .before .before .before .before .before .args .at)))
     (λ c. search needs) (λ c. search needs) (λ c. search needs)
     (λ c. omega (arith, c .shared-slice-known6 .given (c .before .before .before .before .before .before .args .at + 1)))

@@ -1,12 +1,8 @@
 -- `walk_expressions::evaluate` meets its contract, by recursion with the node number falling.
-use borrow.Author.Needs.{needs}
-use native.Mathlib.Omega.{arith}
+use Rattle.kit.specs.Names.{ℕ, _<_, arith, needs, In, Measures, is, falls, and}
 use Rattle.write_trees.proofs.Read.{read-here}
 use Rattle.write_trees.proofs.ByKind.{body-constant, body-field, body-entry, body-parameter, body-operator, body-negation, body-variable, body-rest, one-falls, two-fall, form-entry, form-operator, form-negation}
 use Rattle.walk_expressions.proofs.ExpressionsByKind.{constant-gives, me-gives, field-gives, entry-gives, parameter-gives, variable-gives, operator-gives, negation-gives}
-use Prim.Native.Nat.{ℕ, _<_}
-use borrow.Fn.Kinds.{In}
-use borrow.Fn.PlainCycle.{Measures, is, falls, and}
 use Rattle.walk_expressions.proofs.evaluate.Reads as evaluate
 use Rattle.walk_expressions.proofs.evaluate.Kinds as evaluate-kinds
 use Rattle.walk_expressions.proofs.+evaluate.Lts-evaluate as evaluate-lts
@@ -36,26 +32,21 @@ evaluate-claims t = (read-node-reads.Asked, read-node-reads.Learnt, constant-of-
 
 pub +evaluate-spec : {M : Type 1} → statement M
 +evaluate-spec = close μ-evaluate λ t. evaluate-lts.spec (evaluate-claims t)
-    (evaluate-at t) evaluate.Post
-    (λ c. search needs)
+    (evaluate-at t) evaluate.Post (λ c. search needs)
     (λ c κs. let (_, (_, (readable, _))) = c .before .before .before .before .before .before .pre in omega (arith, readable .few))
-    (λ c κs. let read-node = c .before .read-node .ensures in (read-node .smallFirst, read-node .smallSecond))
-    (λ c κs. search needs)
+    (λ c κs. let read-node = c .before .read-node .ensures in (read-node .smallFirst, read-node .smallSecond)) (λ c κs. search needs)
     (λ c κs. let (_, (_, (_, field-count-bound))) = c .before .before .before .before .before .before .before .before .pre in field-count-bound)
     (λ c κs. let (_, (n-bound, (readable, field-count-bound))) = c .before .before .before .before .before .before .before .before .pre in
     let less = one-falls _ (readable .falling) _ _ (read-here _ _ n-bound _ (c .before .read-node .ensures)) (form-entry _ (c .match .keys3)) in
-    (omega arith, (omega arith, (readable, field-count-bound))))
-    (λ c κs. search needs)
+    (omega arith, (omega arith, (readable, field-count-bound)))) (λ c κs. search needs)
     (λ c κs. let (_, (_, (_, field-count-bound))) = c .before .before .before .before .before .before .before .before .before .before .pre in
-    field-count-bound)
-    (λ c κs. search needs)
+    field-count-bound) (λ c κs. search needs)
     (λ c κs. let (_, (n-bound, (readable, field-count-bound))) = c .before .before .before .before .before .before .before .before .pre in
     let less = two-fall _ (readable .falling) _ _ (read-here _ _ n-bound _ (c .before .read-node .ensures)) (form-operator _ (c .match .keys5)) in
     (omega arith, (omega arith, (readable, field-count-bound))))
     (λ c κs. let (_, (n-bound, (readable, field-count-bound))) = c .before .before .before .before .before .before .before .before .before .pre in
     let less = two-fall _ (readable .falling) _ _ (read-here _ _ n-bound _ (c .before .before .read-node .ensures)) (form-operator _ (c .before .match .keys5)) in
-    (omega arith, (omega arith, (readable, field-count-bound))))
-    (λ c κs. search needs)
+    (omega arith, (omega arith, (readable, field-count-bound)))) (λ c κs. search needs)
     (λ c κs. let (_, (n-bound, (readable, field-count-bound))) = c .before .before .before .before .before .before .before .before .pre in
     let less = one-falls _ (readable .falling) _ _ (read-here _ _ n-bound _ (c .before .read-node .ensures)) (form-negation _ (c .match .keys6)) in
     (omega arith, (omega arith, (readable, field-count-bound))))

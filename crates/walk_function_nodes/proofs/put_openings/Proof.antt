@@ -1,25 +1,19 @@
 -- The loop's invariant: so many constraints are stored.
-use mathlib.Core.Path.{_≡_, refl}
-use Prim.Native.Nat.{_-_, _≤_}
-use native.Mathlib.Omega.{arith}
-use lib.ListN.{length}
-use borrow.Author.Needs.{needs}
+use Rattle.kit.specs.Names.{_≡_, refl, _-_, _≤_, arith, length, needs}
 use Rattle.memory_buffer.specs.Buffer.{stored}
 use Rattle.walk_function_nodes.specs.Functions.{openingNumbers}
 use Rattle.walk_function_nodes.proofs.Openings.{openings-none, openings-next, openings-done}
-use Rattle.walk_function_nodes.proofs.put_openings.Statement.{statement}
-use Rattle.walk_function_nodes.proofs.put_openings.Tie as tie
+use Rattle.walk_function_nodes.proofs.put_openings as own
 
-abbrev Inv-loop : tie.InvT-loop
+abbrev Inv-loop : own.Tie.InvT-loop
 Inv-loop numbers₀ private i₀ numbers i = (i ≤ private) × ((length numbers ≡ length numbers₀) × (numbers ≡ stored numbers₀ 0 (openingNumbers 0 i)))
 
-abbrev μ-loop : tie.MeasureT-loop
+abbrev μ-loop : own.Tie.MeasureT-loop
 μ-loop numbers₀ private i₀ numbers i = private - i
 
-pub put-openings-spec : {M : Type 1} → statement M
+pub put-openings-spec : {M : Type 1} → own.Statement.statement M
 put-openings-spec =
-    tie.close (tie.spec Inv-loop μ-loop
-    (λ c. (omega arith, (refl, openings-none (c .before .args .numbers .now))))
+    own.Tie.close (own.Tie.spec Inv-loop μ-loop (λ c. (omega arith, (refl, openings-none (c .before .args .numbers .now))))
     (λ c. search needs) (λ c. search needs) (λ c κs. search needs) (λ c. search needs) (λ c. search needs)
     (λ c. let (_, (_, numbers-is)) = c .before .before .before .before .before .loop .inv in
     (omega arith, (search needs, openings-next _ _ _ _ (omega arith) numbers-is (c .before .before .put-four .ensures))))

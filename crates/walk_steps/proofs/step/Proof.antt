@@ -1,19 +1,15 @@
-use mathlib.Core.Path.{refl}
-use native.Mathlib.Omega.{arith}
+use Rattle.kit.specs.Names.{refl, arith, needs}
 use Rattle.write_trees.specs.Trees.{commandIn}
 use Rattle.write_trees.specs.Table.{tableOf}
 use Rattle.write_trees.proofs.Read.{read-here}
 use Rattle.write_trees.proofs.ByKind.{command-assignField, command-assignEntry, command-require, command-setVariable, command-verify, command-rest, one-falls, two-fall, set-falls, form-assignField, form-assignEntry, form-require, form-setVariable}
 use Rattle.ledger_circuits.specs.Circuits.{constraintsFrom}
 use Rattle.walk_steps.proofs.Steps.{handed, no-sequence, no-conditional, field-ran, entry-ran, require-ran, variable-ran, verify-ran, skip-ran}
-use borrow.Author.Needs.{needs}
-use Rattle.walk_steps.proofs.step.Statement.{statement}
-use Rattle.walk_steps.proofs.step.Tie as tie
+use Rattle.walk_steps.proofs.step as own
 
-pub step-spec : {M : Type 1} → statement M
+pub step-spec : {M : Type 1} → own.Statement.statement M
 step-spec =
-    tie.close (tie.spec
-    (λ c. search needs)
+    own.Tie.close (own.Tie.spec (λ c. search needs)
     (λ c κs. let (n-bound, (readable, _)) = c .before .before .before .before .before .before .before .pre in omega (arith, readable .few, n-bound))
     (λ c κs. let (n-bound, (readable, (field-count-bound, _))) = c .before .before .before .before .before .before .before .before .before .before .before .pre in
     let less = one-falls _ (readable .falling) _ _ (read-here _ _ n-bound _ (c .before .before .before .read-node .ensures)) (form-assignField _ (c .before .before .match .keys1)) in
@@ -27,19 +23,15 @@ step-spec =
     let read-node = c .before .before .before .before .before .before .read-node .ensures in
     let match-keys2 = c .before .before .before .before .before .match .keys2 in
     let less = two-fall _ (readable .falling) _ _ (read-here _ _ n-bound _ read-node) (form-assignEntry _ match-keys2) in
-    (omega (arith, n-bound), (readable, field-count-bound)))
-    (λ c κs. search needs)
+    (omega (arith, n-bound), (readable, field-count-bound))) (λ c κs. search needs)
     (λ c κs. let (_, (_, (field-count-bound, _))) = c .before .before .before .before .before .before .before .before .before .before .before .before .before .before .before .before .before .pre in
-    field-count-bound)
-    (λ c κs. search needs)
+    field-count-bound) (λ c κs. search needs)
     (λ c κs. let (n-bound, (readable, (field-count-bound, _))) = c .before .before .before .before .before .before .before .before .before .before .before .pre in
     let less = one-falls _ (readable .falling) _ _ (read-here _ _ n-bound _ (c .before .before .before .read-node .ensures)) (form-require _ (c .before .before .match .keys3)) in
-    (omega (arith, n-bound), (readable, field-count-bound)))
-    (λ c κs. search needs)
+    (omega (arith, n-bound), (readable, field-count-bound))) (λ c κs. search needs)
     (λ c κs. let (n-bound, (readable, (field-count-bound, _))) = c .before .before .before .before .before .before .before .before .before .before .before .pre in
     let less = set-falls _ (readable .falling) _ _ (read-here _ _ n-bound _ (c .before .before .before .read-node .ensures)) (form-setVariable _ (c .before .before .match .keys4)) in
-    (omega (arith, n-bound), (readable, field-count-bound)))
-    (λ c κs. search needs)
+    (omega (arith, n-bound), (readable, field-count-bound))) (λ c κs. search needs)
     (λ c κs. let (_, (readable, _)) = c .before .before .before .before .before .before .before .before .before .before .pre in readable)
     (λ c. search needs) (λ c. search needs)
     (λ c. let start = c .before .before .before .before .before .before .before .before .before .before .before .before .before .before .before .before in
@@ -74,7 +66,6 @@ step-spec =
     let (n-bound, (readable, _)) = start .pre in
     verify-ran (args .file .now) (args .addresses .now) (args .parameters .now) (constraintsFrom (tableOf (args .nodes .now)) (args .constraints .now)) (args .places .now) (args .variables .now) (commandIn (tableOf (args .nodes .now)) (args .n)) _ (command-verify _ (readable .falling) _ _ (read-here _ _ n-bound _ (c .before .before .before .read-node .ensures)) (c .before .before .match .keys5)) (c .verify .ensures))
     (λ c. let start = c .before .before .before .before .before .before .before .before .before in let args = start .args in
-    let (n-bound, (readable, (_, hands-on-is))) = start .pre in let read-node = c .before .read-node .ensures in
-    let u = c .match .rest in
+    let (n-bound, (readable, (_, hands-on-is))) = start .pre in let read-node = c .before .read-node .ensures in let u = c .match .rest in
     let h = handed _ _ _ _ (read-here _ _ n-bound _ read-node) refl hands-on-is in
     skip-ran (args .file .now) (args .addresses .now) (args .parameters .now) (constraintsFrom (tableOf (args .nodes .now)) (args .constraints .now)) (args .places .now) (args .variables .now) (commandIn (tableOf (args .nodes .now)) (args .n)) _ (command-rest _ (readable .falling) _ _ (read-here _ _ n-bound _ read-node) (record { sequence = no-sequence _ h; assignField = u .0 .0 .0 .0 .1; assignEntry = u .0 .0 .0 .1; require = u .0 .0 .1; conditional = no-conditional _ h; setVariable = u .0 .1; verify = u .1 })) refl))

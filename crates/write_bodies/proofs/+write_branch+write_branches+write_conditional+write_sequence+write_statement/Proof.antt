@@ -1,18 +1,11 @@
 -- Statements by the kind of their node, sequences, conditionals and branches: the node number falls.
-use mathlib.Core.Path.{sym, _∙_}
-use Prim.Native.Nat.{_+_, _*_, _-_}
-use lib.ListN.{length}
-use native.Mathlib.Omega.{arith}
-use borrow.Author.Needs.{needs}
+use Rattle.kit.specs.Names.{sym, _∙_, _+_, _*_, _-_, ℕ, _<_, arith, length, needs, In, Measures, is, falls, and}
 use borrow.Rule.Slice.PartMut.{putMid, take-put}
 use Rattle.theory_laws.proofs.Records.{kind-as}
 use Rattle.rewrite_simple_statements.proofs.ByKind.{others-simple}
 use Rattle.write_bodies.proofs.Sequences.{parts-less, first-ready, second-room, second-ready, parent-ready, sequence-written}
 use Rattle.write_bodies.proofs.Branches.{guard-room, inside-place, inside-ready, branch-parent, branch-written, branches-less, then-ready, else-room, else-ready, branches-parent, branches-written}
 use Rattle.write_bodies.proofs.Conditionals.{condition-ready, condition-fits, branches-ready, close-room, conditional-written}
-use Prim.Native.Nat.{ℕ, _<_}
-use borrow.Fn.Kinds.{In}
-use borrow.Fn.PlainCycle.{Measures, is, falls, and}
 use Rattle.write_bodies.proofs.write_branch.Reads as write-branch
 use Rattle.write_bodies.proofs.write_branch.Kinds as write-branch-kinds
 use Rattle.write_bodies.proofs.+write_branch+write_branches+write_conditional+write_sequence+write_statement.Lts-write_branch as write-branch-lts
@@ -119,13 +112,11 @@ pub +write-branch+write-branches+write-conditional+write-sequence+write-statemen
     (λ c. let (_, ready) = c .before .before .before .before .before .before .before .before .before .before .pre in let inside = inside-ready _ _ _ _ _ _ _ _ _ _ ready _ _ (c .before .before .before .put-guard .ensures) in omega (arith, inside .few))
     (λ c. let good = c .before .before .before .before .before .before .before .before .before .before .before .before .good .1 .1 .1 .1 .1 .1 .1 .0 in let (_, ready) = c .before .before .before .before .before .before .before .before .before .before .before .before .pre in
     let put-guard = c .before .before .before .before .before .put-guard in
-    let inside = inside-ready _ _ _ _ _ _ _ _ _ _ ready _ _ (put-guard .ensures) in
-    let room = inside .room in
+    let inside = inside-ready _ _ _ _ _ _ _ _ _ _ ready _ _ (put-guard .ensures) in let room = inside .room in
     omega (arith, room .bytes, put-guard .kept .1 .0, good))
     (λ c. let (_, ready) = c .before .before .before .before .before .before .before .before .before .before .before .before .pre in
     let inside = inside-ready _ _ _ _ _ _ _ _ _ _ ready _ _ (c .before .before .before .before .before .put-guard .ensures) in
-    let room = inside .room in
-    omega (arith, room .numbers))
+    let room = inside .room in omega (arith, room .numbers))
     (λ c κs. let (measure, ready) = c .before .before .before .before .before .before .before .before .before .before .before .before .pre in
     (omega arith, inside-ready _ _ _ _ _ _ _ _ _ _ ready _ _ (c .before .before .before .before .before .put-guard .ensures)))
     (λ c κs. let (_, ready) = c .before .before .before .before .before .before .before .before .before .before .before .before .before .before .before .before .before .before .pre in
@@ -138,17 +129,13 @@ pub +write-branch+write-branches+write-conditional+write-sequence+write-statemen
     (λ t. write-branches-lts.spec (write-branches-claims t) (write-branches-at t) write-branches.Post
     (λ c κs. let (_, ready) = c .before .before .before .before .before .pre in (ready .context .narrow, omega (arith, ready .inside, ready .context .long)))
     (λ c. let (_, ready) = c .before .before .before .before .before .before .pre in
-    let room = then-ready _ _ _ _ _ _ _ _ _ _ _ _ (c .node-at .ensures .same) ready .room in
-    omega (arith, room .numbers))
+    let room = then-ready _ _ _ _ _ _ _ _ _ _ _ _ (c .node-at .ensures .same) ready .room in omega (arith, room .numbers))
     (λ c. let good = c .before .before .before .before .before .before .good .1 .1 .1 .1 .1 .1 .1 .1 .0 in let (_, ready) = c .before .before .before .before .before .before .pre in
-    let room = then-ready _ _ _ _ _ _ _ _ _ _ _ _ (c .node-at .ensures .same) ready .room in
-    omega (arith, room .bytes, good))
+    let room = then-ready _ _ _ _ _ _ _ _ _ _ _ _ (c .node-at .ensures .same) ready .room in omega (arith, room .bytes, good))
     (λ c. let (_, ready) = c .before .before .before .before .before .before .pre in
-    let room = then-ready _ _ _ _ _ _ _ _ _ _ _ _ (c .node-at .ensures .same) ready .room in
-    omega (arith, room .numbers))
+    let room = then-ready _ _ _ _ _ _ _ _ _ _ _ _ (c .node-at .ensures .same) ready .room in omega (arith, room .numbers))
     (λ c κs. let (measure, ready) = c .before .before .before .before .before .before .before .before .pre in
-    let same = c .before .before .node-at .ensures .same in
-    let less = branches-less _ _ _ _ _ _ _ _ _ _ _ _ same ready in
+    let same = c .before .before .node-at .ensures .same in let less = branches-less _ _ _ _ _ _ _ _ _ _ _ _ same ready in
     (omega arith, then-ready _ _ _ _ _ _ _ _ _ _ _ _ same ready))
     (λ c. let (_, ready) = c .before .before .before .before .before .before .before .before .before .before .before .before .before .before .pre in
     let room = else-room _ _ _ _ _ _ _ _ _ _ _ _ (c .before .before .before .before .before .before .before .before .node-at .ensures .same) ready _ _ (c .before .before .before .before .before .write-branch .ensures) in
@@ -186,10 +173,7 @@ pub +write-branch+write-branches+write-conditional+write-sequence+write-statemen
     omega (arith, fits .1 .1))
     (λ c. let (_, (kind, ready)) = c .before .before .before .before .before .before .before .before .before .before .before .before .before .before .before .before .pre in
     let fits = condition-fits _ _ _ _ _ _ _ _ _ _ ready _ (c .before .before .before .before .before .before .before .before .before .before .node-at .ensures .same) kind _ _ _ (c .before .before .before .before .before .before .before .write-condition .ensures) in
-    omega (arith, fits .1 .1))
-    (write-conditional-sub-write-branches t)
-    (λ c. write-conditional-sub-write-branches t c)
-    (λ c. search needs)
+    omega (arith, fits .1 .1)) (write-conditional-sub-write-branches t) (λ c. write-conditional-sub-write-branches t c) (λ c. search needs)
     (λ c κs. let (measure, (kind, ready)) = c .before .before .before .before .before .before .before .before .before .before .before .before .before .before .before .before .before .before .pre in
     let condition = c .before .before .before .before .before .before .before .before .before .write-condition in
     (omega arith, branches-ready _ _ _ _ _ _ _ _ _ _ ready _ (c .before .before .before .before .before .before .before .before .before .before .before .before .node-at .ensures .same) kind _ _ _ (condition .ensures) _ (sym (c .before .write-branches-arg .given .1)) (condition .kept .1 .1 .1 .1 .1 .1 .0)))
@@ -222,8 +206,7 @@ pub +write-branch+write-branches+write-conditional+write-sequence+write-statemen
     let same = c .before .before .before .before .before .before .before .before .before .before .before .before .before .before .before .before .before .before .before .before .before .before .before .before .before .before .before .node-at .ensures .same in
     let condition = c .before .before .before .before .before .before .before .before .before .before .before .before .before .before .before .before .before .before .before .before .before .before .before .before .write-condition in
     let branches = c .before .before .before .before .before .before .before .before .before .before .before .before .before .before .write-branches in
-    let kept = condition .last .1 .1 .1 .1 .1 .1 .0 in
-    let changed = branches .last .1 .1 .1 .1 .1 .1 .1 .0 in
+    let kept = condition .last .1 .1 .1 .1 .1 .1 .0 in let changed = branches .last .1 .1 .1 .1 .1 .1 .1 .0 in
     let count = condition .result .count in
     let close = close-room _ _ _ _ _ _ _ _ _ _ ready _ same kind _ _ _ (condition .ensures) _ _ (branches .ensures) in
     conditional-written _ _ _ _ _ _ _ _ _ _ ready _ same kind _ _ _ (condition .ensures) _ _ (branches .ensures)
@@ -231,8 +214,7 @@ pub +write-branch+write-branches+write-conditional+write-sequence+write-statemen
     (λ t. write-sequence-lts.spec (write-sequence-claims t) (write-sequence-at t) write-sequence.Post
     (λ c κs. let (_, (_, ready)) = c .before .before .before .before .before .pre in (ready .context .narrow, omega (arith, ready .inside, ready .context .long)))
     (λ c κs. let (measure, (kind, ready)) = c .before .before .before .before .before .before .before .before .pre in
-    let same = c .before .before .node-at .ensures .same in
-    let less = parts-less _ _ _ _ _ _ _ _ _ _ ready _ same kind in
+    let same = c .before .before .node-at .ensures .same in let less = parts-less _ _ _ _ _ _ _ _ _ _ ready _ same kind in
     (omega arith, first-ready _ _ _ _ _ _ _ _ _ _ ready _ same kind))
     (λ c. let (_, (kind, ready)) = c .before .before .before .before .before .before .before .before .before .before .before .before .before .before .before .pre in
     let room = second-room _ _ _ _ _ _ _ _ _ _ ready _ (c .before .before .before .before .before .before .before .before .before .node-at .ensures .same) kind _ _ (c .before .before .before .before .before .before .write-statement .ensures) in

@@ -1,14 +1,11 @@
 -- The end of the condition's events, its steps and its form.
-use native.Mathlib.Omega.{arith}
+use Rattle.kit.specs.Names.{arith, needs}
 use Rattle.write_bodies.proofs.Logged.{condition-inside, condition-behind, steps-ready, form-ready, condition-written}
-use borrow.Author.Needs.{needs}
-use Rattle.write_bodies.proofs.write_condition.Statement.{statement}
-use Rattle.write_bodies.proofs.write_condition.Tie as tie
+use Rattle.write_bodies.proofs.write_condition as own
 
-pub write-condition-spec : {M : Type 1} → statement M
+pub write-condition-spec : {M : Type 1} → own.Statement.statement M
 write-condition-spec =
-    tie.close (tie.spec
-    (λ c κs. condition-inside _ _ _ _ _ _ _ _ _ _ (c .before .before .before .before .before .pre))
+    own.Tie.close (own.Tie.spec (λ c κs. condition-inside _ _ _ _ _ _ _ _ _ _ (c .before .before .before .before .before .pre))
     (λ c. let behind = condition-behind _ _ _ _ _ _ _ _ _ _ (c .before .before .before .before .before .before .before .pre) _ (c .before .find-end .ensures) in omega arith)
     (λ c κs. steps-ready _ _ _ _ _ _ _ _ _ _ (c .before .before .before .before .before .before .before .before .before .pre) _ (c .before .before .before .find-end .ensures))
     (λ c. let room = form-ready _ _ _ _ _ _ _ _ _ _ (c .before .before .before .before .before .before .before .before .before .before .before .before .before .before .before .pre) _ (c .before .before .before .before .before .before .before .before .before .find-end .ensures) _ _ _ (c .before .before .before .before .before .put-steps .ensures) .1 .1 .1 in

@@ -1,13 +1,11 @@
 -- The end of the statement's events, and what is written from them.
-use native.Mathlib.Omega.{arith}
+use Rattle.kit.specs.Names.{arith, needs}
 use Rattle.write_bodies.proofs.Logged.{simple-inside, simple-behind, single-ready, single-written}
-use borrow.Author.Needs.{needs}
-use Rattle.write_bodies.proofs.write_simple.Statement.{statement}
-use Rattle.write_bodies.proofs.write_simple.Tie as tie
+use Rattle.write_bodies.proofs.write_simple as own
 
-pub write-simple-spec : {M : Type 1} → statement M
+pub write-simple-spec : {M : Type 1} → own.Statement.statement M
 write-simple-spec =
-    tie.close (tie.spec
+    own.Tie.close (own.Tie.spec
     (λ c κs. let (simple, ready) = c .before .before .before .before .before .pre in simple-inside _ _ _ _ _ _ _ _ _ _ ready simple)
     (λ c. let (simple, ready) = c .before .before .before .before .before .before .before .pre in
     let behind = simple-behind _ _ _ _ _ _ _ _ _ _ ready simple _ (c .before .find-end .ensures) in omega arith)

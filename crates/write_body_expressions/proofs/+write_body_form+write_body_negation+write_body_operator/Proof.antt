@@ -1,15 +1,10 @@
 -- A body's form by the kind of its node, operators and negations: the node number falls.
-use mathlib.Core.Path.{sym, _∙_}
-use Prim.Native.Nat.{_+_, _*_}
-use native.Mathlib.Omega.{arith}
+use Rattle.kit.specs.Names.{sym, _∙_, _+_, _*_, ℕ, _<_, arith, In, Measures, is, falls, and}
 use Rattle.theory_laws.proofs.Records.{kind-as}
 use Rattle.theory_trees.proofs.ByKind.{key-below, part-below, operands-below}
 use Rattle.file_accepted.proofs.Nodes.{node-reads}
 use Rattle.write_nodes.proofs.TreeNodes.{room-as, room-any, room-one, room-left, room-right, room-above-one, room-above-two, numbered-as, numbered-leaf, numbered-one, numbered-two}
 use Rattle.write_body_expressions.proofs.BodyNodes.{constant-body, field-body, entry-body, parameter-body, reveal-body, other-body, entry-count, operator-body, operator-count, supplied-operator-body, negation-body, negation-count, supplied-negation-body}
-use Prim.Native.Nat.{ℕ, _<_}
-use borrow.Fn.Kinds.{In}
-use borrow.Fn.PlainCycle.{Measures, is, falls, and}
 use Rattle.write_body_expressions.proofs.write_body_form.Reads as write-body-form
 use Rattle.write_body_expressions.proofs.write_body_form.Kinds as write-body-form-kinds
 use Rattle.write_body_expressions.proofs.+write_body_form+write_body_negation+write_body_operator.Lts-write_body_form as write-body-form-lts
@@ -129,10 +124,8 @@ pub +write-body-form+write-body-negation+write-body-operator-spec : {M : Type 1}
     let node-at-same = c .before .before .before .before .before .before .node-at .ensures .same in
     let put-leaf3 = c .before .before .put-leaf3 .ensures in
     numbered-as _ _ _ _ _ _ _ _ (parameter-body _ _ _ context _ n-bound _ node-at-same _ (c .before .before .before .before .match .keys4)) (put-leaf3 .1) (numbered-leaf _ _ _ _ _ _ _ _ (put-leaf3 .0)))
-    (λ c. c .before .before .write-body-operator .kept .1 .1 .1 .1 .1 .0)
-    (λ c. c .before .before .write-body-operator .ensures)
-    (λ c. c .before .before .write-body-negation .kept .1 .1 .1 .1 .1 .0)
-    (λ c. c .before .before .write-body-negation .ensures)
+    (λ c. c .before .before .write-body-operator .kept .1 .1 .1 .1 .1 .0) (λ c. c .before .before .write-body-operator .ensures)
+    (λ c. c .before .before .write-body-negation .kept .1 .1 .1 .1 .1 .0) (λ c. c .before .before .write-body-negation .ensures)
     (λ c. c .before .before .put-leaf4 .kept .1 .1 .1 .1 .0)
     (λ c. let (_, (n-bound, (context, _))) = c .before .before .before .before .before .before .before .before .before .before .pre in
     let node-at-same = c .before .before .before .before .before .before .node-at .ensures .same in
@@ -141,8 +134,7 @@ pub +write-body-form+write-body-negation+write-body-operator-spec : {M : Type 1}
     (λ c. c .before .before .put-leaf5 .kept .1 .1 .1 .1 .0)
     (λ c. let (_, (n-bound, (context, _))) = c .before .before .before .before .before .before .before .before .before .before .pre in
     let node-at-same = c .before .before .before .before .before .before .node-at .ensures .same in
-    let put-leaf5 = c .before .before .put-leaf5 .ensures in
-    let u = c .before .before .before .before .match .rest in
+    let put-leaf5 = c .before .before .put-leaf5 .ensures in let u = c .before .before .before .before .match .rest in
     numbered-as _ _ _ _ _ _ _ _ (other-body _ _ _ context _ n-bound _ node-at-same _ (record { constant = u .0 .0 .0 .0 .0 .0 .1; field = u .0 .0 .0 .0 .0 .1; entry = u .0 .0 .0 .0 .1; parameter = u .0 .0 .0 .1; operator = u .0 .0 .1; negation = u .0 .1; reveal = u .1 })) (put-leaf5 .1) (numbered-leaf _ _ _ _ _ _ _ _ (put-leaf5 .0))))
     (λ t. write-body-negation-lts.spec (write-body-negation-claims t) (write-body-negation-at t) write-body-negation.Post
     (λ c κs. let (_, (_, (_, (context, _)))) = c .before .before .before .pre in (context .narrow, omega (arith, context .long)))

@@ -1,15 +1,10 @@
 -- A circuit's form by the kind of its node, and operators: the node number falls.
-use mathlib.Core.Path.{refl, sym, _∙_}
-use Prim.Native.Nat.{_+_, _*_}
-use native.Mathlib.Omega.{arith}
+use Rattle.kit.specs.Names.{refl, sym, _∙_, _+_, _*_, ℕ, _<_, arith, In, Measures, is, falls, and}
 use Rattle.theory_laws.proofs.Records.{kind-as}
 use Rattle.theory_trees.proofs.ByKind.{key-below, part-below, revealed-below, operands-below, Unlisted}
 use Rattle.file_accepted.proofs.Nodes.{node-reads}
 use Rattle.write_nodes.proofs.TreeNodes.{room-as, room-any, room-one, room-left, room-right, room-above-one, room-above-two, numbered-as, numbered-one, numbered-two}
 use Rattle.write_circuit_expressions.proofs.CircuitNodes.{constant-circuit, field-circuit, entry-circuit, parameter-circuit, division-circuit, operator-circuit, negation-circuit, reveal-circuit, other-circuit, constant-variables, field-variables, parameter-variables, other-variables, entry-variables, division-variables, operator-variables, negation-variables, reveal-variables}
-use Prim.Native.Nat.{ℕ, _<_}
-use borrow.Fn.Kinds.{In}
-use borrow.Fn.PlainCycle.{Measures, is, falls, and}
 use Rattle.write_circuit_expressions.proofs.write_circuit_form.Reads as write-circuit-form
 use Rattle.write_circuit_expressions.proofs.write_circuit_form.Kinds as write-circuit-form-kinds
 use Rattle.write_circuit_expressions.proofs.+write_circuit_form+write_circuit_operator.Lts-write_circuit_form as write-circuit-form-lts
@@ -151,31 +146,26 @@ pub +write-circuit-form+write-circuit-operator-spec : {M : Type 1} → statement
     let match-keys4 = c .before .before .before .before .before .match .keys4 in let put-variable = c .before .before .put-variable3 .ensures in
     let count = parameter-variables _ _ _ context _ n-bound _ node-at-same match-keys4 in
     record { form = numbered-as _ _ _ _ _ _ _ _ (parameter-circuit _ _ _ context _ n-bound _ node-at-same _ (c .before .before .before .before .is-public3 .ensures) _ match-keys4) refl (put-variable .0 _); next = omega (arith, put-variable .1) })
-    (λ c. c .before .before .write-circuit-operator .kept .1 .1 .1 .1 .1 .0)
-    (λ c. c .before .before .write-circuit-operator .ensures)
+    (λ c. c .before .before .write-circuit-operator .kept .1 .1 .1 .1 .1 .0) (λ c. c .before .before .write-circuit-operator .ensures)
     (λ c. c .before .before .put-above-one .kept .1 .1 .1 .0 ∙ c .before .before .before .before .before .before .write-circuit-form .kept .1 .1 .1 .1 .1 .0)
     (λ c. let (_, (n-bound, (context, (_, room)))) = c .before .before .before .before .before .before .before .before .before .before .before .before .before .before .pre in
     let node-at-same = c .before .before .before .before .before .before .before .before .before .before .node-at .ensures .same in
     let match-keys6 = c .before .before .before .before .before .before .before .before .match .keys6 in
     let part = c .before .before .before .before .before .before .write-circuit-form .ensures in
     let put-above-one = c .before .before .put-above-one .ensures in
-    let count = negation-variables _ _ _ context _ n-bound _ node-at-same match-keys6 in
-    record {
+    let count = negation-variables _ _ _ context _ n-bound _ node-at-same match-keys6 in record {
       form = numbered-as _ _ _ _ _ _ _ _ (negation-circuit _ _ _ context _ n-bound _ node-at-same _ match-keys6) (put-above-one .1) (numbered-one _ _ _ _ _ _ (room-as _ _ _ _ _ (negation-circuit _ _ _ context _ n-bound _ node-at-same _ match-keys6) room) _ _ _ (part .form) (put-above-one .0));
       next = omega (arith, part .next);
-    })
-    (λ c. c .before .before .write-circuit-form2 .kept .1 .1 .1 .1 .1 .0)
+    }) (λ c. c .before .before .write-circuit-form2 .kept .1 .1 .1 .1 .1 .0)
     (λ c. let (_, (n-bound, (context, _))) = c .before .before .before .before .before .before .before .before .before .before .pre in
     let node-at-same = c .before .before .before .before .before .before .node-at .ensures .same in
-    let match-keys7 = c .before .before .before .before .match .keys7 in
-    let part = c .before .before .write-circuit-form2 .ensures in
+    let match-keys7 = c .before .before .before .before .match .keys7 in let part = c .before .before .write-circuit-form2 .ensures in
     let count = reveal-variables _ _ _ context _ n-bound _ node-at-same match-keys7 in
     record { form = numbered-as _ _ _ _ _ _ _ _ (reveal-circuit _ _ _ context _ n-bound _ node-at-same _ match-keys7) refl (part .form); next = omega (arith, part .next) })
     (λ c. c .before .before .put-plain2 .kept .1 .1 .1 .1 .1 .0)
     (λ c. let (_, (n-bound, (context, _))) = c .before .before .before .before .before .before .before .before .before .before .pre in
     let node-at-same = c .before .before .before .before .before .before .node-at .ensures .same in
-    let put-plain = c .before .before .put-plain2 .ensures in
-    let u = c .before .before .before .before .match .rest in
+    let put-plain = c .before .before .put-plain2 .ensures in let u = c .before .before .before .before .match .rest in
     let unlisted : Unlisted _ = record { constant = u .0 .0 .0 .0 .0 .0 .1; field = u .0 .0 .0 .0 .0 .1; entry = u .0 .0 .0 .0 .1; parameter = u .0 .0 .0 .1; operator = u .0 .0 .1; negation = u .0 .1; reveal = u .1 } in
     let count = other-variables _ _ _ context _ n-bound _ node-at-same unlisted in
     record { form = numbered-as _ _ _ _ _ _ _ _ (other-circuit _ _ _ context _ n-bound _ node-at-same _ unlisted) refl (put-plain .0 _); next = omega (arith, put-plain .1) }))
@@ -257,5 +247,4 @@ pub +write-circuit-form+write-circuit-operator-spec : {M : Type 1} → statement
     })
     (λ c. let write-circuit-form-kept = c .before .before .before .before .before .before .before .before .before .before .before .before .write-circuit-form .kept .1 .1 .1 .1 .1 .0 in
     let write-circuit-form2-kept = c .before .before .before .before .before .before .write-circuit-form2 .kept .1 .1 .1 .1 .1 .0 in
-    c .before .before .put-above-two .kept .1 .1 .1 .1 .0 ∙ write-circuit-form2-kept ∙ write-circuit-form-kept)
-    (operator-returns t)
+    c .before .before .put-above-two .kept .1 .1 .1 .1 .0 ∙ write-circuit-form2-kept ∙ write-circuit-form-kept) (operator-returns t)

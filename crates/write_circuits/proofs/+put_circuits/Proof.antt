@@ -1,11 +1,7 @@
 -- `write_circuits::put_circuits` meets its contract, by recursion with the entries left falling.
-use mathlib.Core.Path.{_∙_}
-use native.Mathlib.Omega.{arith}
+use Rattle.kit.specs.Names.{_∙_, ℕ, _<_, arith, In, Measures, is, falls, and}
 use Rattle.write_circuits.proofs.Entries.{claims-none, claims-claim, claims-other, claimable-next, claimable-first}
 use Rattle.write_circuits.proofs.Turns.{room-same, put-same, put-none, room-circuit, room-four, root-fits, room-circuits, put-first}
-use Prim.Native.Nat.{ℕ, _<_}
-use borrow.Fn.Kinds.{In}
-use borrow.Fn.PlainCycle.{Measures, is, falls, and}
 use Rattle.write_circuits.proofs.put_circuits.Reads as put-circuits
 use Rattle.write_circuits.proofs.put_circuits.Kinds as put-circuits-kinds
 use Rattle.write_circuits.proofs.+put_circuits.Lts-put_circuits as put-circuits-lts
@@ -39,14 +35,11 @@ claim-returns t c =
 
 pub +put-circuits-spec : {M : Type 1} → statement M
 +put-circuits-spec =
-    close μ-put-circuits
-    (λ t. put-circuits-lts.spec (put-circuits-claims t) (put-circuits-at t) put-circuits.Post
-    (λ c. let (_, (_, (claimable, _))) = c .before .before .before .before .before .before .pre in
-    let some = c .if1 .left in
+    close μ-put-circuits (λ t. put-circuits-lts.spec (put-circuits-claims t) (put-circuits-at t) put-circuits.Post
+    (λ c. let (_, (_, (claimable, _))) = c .before .before .before .before .before .before .pre in let some = c .if1 .left in
     omega (arith, c .before .before .before .before .before .before .good .1 .1 .1 .0, claimable .space))
     (λ c. let (_, (_, (claimable, _))) = c .before .before .before .before .before .before .before .pre in
-    let some = c .before .if1 .left in
-    omega (arith, claimable .space))
+    let some = c .before .if1 .left in omega (arith, claimable .space))
     (λ c κs. let (_, (context, (claimable, circuits-room))) = c .before .before .before .before .before .before .before .before .before .pre in
     let if1-left = c .before .before .before .if1 .left in let if2-taken = c .before .if2 .taken in
     (context, (claimable-first _ _ _ _ _ if1-left claimable if2-taken, room-circuit _ _ _ _ _ _ _ (room-same _ _ _ _ _ _ _ (claims-claim _ _ _ _ _ if1-left if2-taken) circuits-room))))
@@ -68,11 +61,9 @@ pub +put-circuits-spec : {M : Type 1} → statement M
     ((claimable-first _ _ _ _ _ if1-left claimable if2-taken) .space, room-four _ _ _ _ _ _ _ (room-same _ _ _ _ _ _ _ (claims-claim _ _ _ _ _ if1-left if2-taken) circuits-room)))
     (λ c. let good = c .before .before .before .before .before .before .before .before .before .before .before .before .before .before .before .before .good .1 .1 .1 .0 in
     let (_, (_, (claimable, _))) = c .before .before .before .before .before .before .before .before .before .before .before .before .before .before .before .before .pre in
-    let if1-left = c .before .before .before .before .before .before .before .before .before .before .if1 .left in
-    let some = if1-left in
+    let if1-left = c .before .before .before .before .before .before .before .before .before .before .if1 .left in let some = if1-left in
     omega (arith, good, claimable .space))
-    (λ c. let some = c .before .before .before .before .before .before .before .before .before .before .if1 .left in
-    omega arith)
+    (λ c. let some = c .before .before .before .before .before .before .before .before .before .before .if1 .left in omega arith)
     (λ c. let good = c .before .before .before .before .before .before .before .before .before .before .before .before .before .before .before .before .before .good .1 .1 .1 .1 .1 .1 .0 in
     let (_, (_, (_, circuits-room))) = c .before .before .before .before .before .before .before .before .before .before .before .before .before .before .before .before .before .pre in
     let if1-left = c .before .before .before .before .before .before .before .before .before .before .before .if1 .left in
@@ -102,8 +93,7 @@ pub +put-circuits-spec : {M : Type 1} → statement M
     (λ c κs. let (_, (context, (claimable, circuits-room))) = c .before .before .before .before .before .before .before .before .before .before .before .before .before .before .before .before .before .before .pre in
     let if1-left = c .before .before .before .before .before .before .before .before .before .before .before .before .if1 .left in
     let if2-taken = c .before .before .before .before .before .before .before .before .before .before .if2 .taken in
-    let put-circuit = c .before .before .before .before .before .before .before .before .put-circuit .ensures in
-    let some = if1-left in
+    let put-circuit = c .before .before .before .before .before .before .before .before .put-circuit .ensures in let some = if1-left in
     (omega arith, (context, (claimable-next _ _ _ _ _ if1-left claimable, room-circuits _ _ _ _ _ _ _ (room-same _ _ _ _ _ _ _ (claims-claim _ _ _ _ _ if1-left if2-taken) circuits-room) _ _ _ (record { circuit = put-circuit; claim = c .before .before .before .before .put-claim .ensures })))))
     (λ c. let good = c .before .before .before .before .before .before .before .before .before .before .before .before .before .before .before .before .before .before .before .before .before .before .before .before .good .1 .1 .1 .1 .1 .1 .0 in
     let (_, (_, (_, circuits-room))) = c .before .before .before .before .before .before .before .before .before .before .before .before .before .before .before .before .before .before .before .before .before .before .before .before .pre in
@@ -125,18 +115,15 @@ pub +put-circuits-spec : {M : Type 1} → statement M
     (λ c. let (_, (_, (claimable, _))) = c .before .before .before .before .before .before .before .before .pre in
     let some = c .before .before .if1 .left in
     omega (arith, c .before .before .before .before .before .before .before .before .good .1 .1 .1 .0, claimable .space))
-    (λ c. let some = c .before .before .if1 .left in
-    omega arith)
+    (λ c. let some = c .before .before .if1 .left in omega arith)
     (λ c κs. let (_, (context, (claimable, circuits-room))) = c .before .before .before .before .before .before .before .before .before .before .pre in
-    let if1-left = c .before .before .before .before .if1 .left in
-    let some = if1-left in
+    let if1-left = c .before .before .before .before .if1 .left in let some = if1-left in
     (omega arith, (context, (claimable-next _ _ _ _ _ if1-left claimable, room-same _ _ _ _ _ _ _ (claims-other _ _ _ _ _ if1-left (c .before .before .if2 .left)) circuits-room))))
     (λ c. put-same _ _ _ _ _ _ _ _ _ _ (claims-none _ _ _ _ _ (c .if1 .taken)) (put-none _ _ _ _ _))
     (λ c. c .before .before .before .before .before .before .put-circuits .kept .1 .1 .1 .1 .1 .1 .0 ∙ c .before .before .before .before .before .before .before .before .before .before .before .put-claim .kept .1 .1 .1 .0)
     (λ c. let put-circuit-kept = c .before .before .before .before .before .before .before .before .before .before .before .before .before .before .before .put-circuit .kept .1 .1 .1 .1 .1 .0 in
     let put-circuits-kept = c .before .before .before .before .before .before .put-circuits .kept .1 .1 .1 .1 .1 .1 .1 .1 .0 in
-    put-circuits-kept ∙ put-circuit-kept)
-    (claim-returns t)
+    put-circuits-kept ∙ put-circuit-kept) (claim-returns t)
     (λ c. c .before .before .before .before .put-circuits2 .kept .1 .1 .1 .1 .1 .1 .0)
     (λ c. c .before .before .before .before .put-circuits2 .kept .1 .1 .1 .1 .1 .1 .1 .1 .0)
     (λ c. let if1-left = c .before .before .before .before .before .before .before .before .before .if1 .left in

@@ -1,12 +1,11 @@
 -- Four numbers, one behind another.
 use Rattle.write_circuits.proofs.Fours.{four-stored}
-use borrow.Author.Needs.{needs}
-use Rattle.write_circuits.proofs.put_four.Statement.{statement}
-use Rattle.write_circuits.proofs.put_four.Tie as tie
+use Rattle.kit.specs.Names.{needs}
+use Rattle.write_circuits.proofs.put_four as own
 
-pub put-four-spec : {M : Type 1} → statement M
+pub put-four-spec : {M : Type 1} → own.Statement.statement M
 put-four-spec =
-    tie.close (tie.spec
+    own.Tie.close (own.Tie.spec
     (λ c κs. search needs) (λ c. search needs) (λ c κs. search needs) (λ c. search needs) (λ c κs. search needs) (λ c. search needs)
     (λ c κs. search needs) (λ c. search needs)
     (λ c. let pre = c .before .before .before .before .before .before .before .before .before .before .before .before .before .before .before .before .before .pre in

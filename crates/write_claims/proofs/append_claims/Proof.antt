@@ -1,23 +1,18 @@
 -- The loop's invariant: the bytes of the claims passed are appended, and those of the claims left are left.
-use mathlib.Core.Path.{_≡_, refl, _∙_}
-use Prim.Native.Nat.{_+_, _*_}
-use native.Mathlib.Omega.{arith}
-use lib.ListN.{length}
+use Rattle.kit.specs.Names.{_≡_, refl, _∙_, _+_, _*_, arith, length}
 use Rattle.memory_append.proofs.Appending.{appending-start}
 use Rattle.write_claims.proofs.Sixes.{SixesLeft, six-room, six-appended, sixes-done}
-use Rattle.write_claims.proofs.append_claims.Statement.{statement}
-use Rattle.write_claims.proofs.append_claims.Tie as tie
+use Rattle.write_claims.proofs.append_claims as own
 
-abbrev Inv-loop : tie.InvT-loop
+abbrev Inv-loop : own.Tie.InvT-loop
 Inv-loop numbers count out₀ from at₀ i₀ left₀ out at i left = (SixesLeft numbers count out₀ from out at i left) × (i + 4 * left ≡ 4 * count) × (length out ≡ length out₀)
 
-abbrev μ-loop : tie.MeasureT-loop
+abbrev μ-loop : own.Tie.MeasureT-loop
 μ-loop numbers count out₀ from at₀ i₀ left₀ out at i left = left
 
-pub append-claims-spec : {M : Type 1} → statement M
+pub append-claims-spec : {M : Type 1} → own.Statement.statement M
 append-claims-spec =
-    tie.close (tie.spec Inv-loop μ-loop
-    (λ c. (appending-start _ _ _, omega arith, refl))
+    own.Tie.close (own.Tie.spec Inv-loop μ-loop (λ c. (appending-start _ _ _, omega arith, refl))
     (λ c. let (count-bound, _) = c .before .before .before .before .pre in let (_, i-is, _) = c .before .loop .inv in
     omega (arith, count-bound, i-is, c .before .before .before .before .good .0))
     (λ c. let (count-bound, _) = c .before .before .before .before .before .pre in let (_, i-is, _) = c .before .before .loop .inv in

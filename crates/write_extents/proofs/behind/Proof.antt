@@ -1,7 +1,5 @@
-use mathlib.Core.Path.{refl}
-use native.Mathlib.Omega.{arith}
-use Rattle.write_extents.proofs.behind.Statement.{statement}
-use Rattle.write_extents.proofs.behind.Tie as tie
+use Rattle.kit.specs.Names.{refl, arith}
+use Rattle.write_extents.proofs.behind as own
 
-pub behind-spec : {M : Type 1} → statement M
-behind-spec = tie.close (tie.spec (λ c. omega arith) (λ c. (refl, refl)))
+pub behind-spec : {M : Type 1} → own.Statement.statement M
+behind-spec = own.Tie.close (own.Tie.spec (λ c. omega arith) (λ c. (refl, refl)))

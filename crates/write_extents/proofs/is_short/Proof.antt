@@ -1,6 +1,5 @@
-use mathlib.Core.Path.{refl}
-use Rattle.write_extents.proofs.is_short.Statement.{statement}
-use Rattle.write_extents.proofs.is_short.Tie as tie
+use Rattle.kit.specs.Names.{refl}
+use Rattle.write_extents.proofs.is_short as own
 
-pub is-short-spec : {M : Type 1} → statement M
-is-short-spec = tie.close (tie.spec (λ c. refl))
+pub is-short-spec : {M : Type 1} → own.Statement.statement M
+is-short-spec = own.Tie.close (own.Tie.spec (λ c. refl))

@@ -1,6 +1,5 @@
-use mathlib.Core.Path.{refl}
-use Rattle.write_extents.proofs.is_tiny.Statement.{statement}
-use Rattle.write_extents.proofs.is_tiny.Tie as tie
+use Rattle.kit.specs.Names.{refl}
+use Rattle.write_extents.proofs.is_tiny as own
 
-pub is-tiny-spec : {M : Type 1} → statement M
-is-tiny-spec = tie.close (tie.spec (λ c. refl))
+pub is-tiny-spec : {M : Type 1} → own.Statement.statement M
+is-tiny-spec = own.Tie.close (own.Tie.spec (λ c. refl))

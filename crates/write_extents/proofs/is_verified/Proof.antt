@@ -1,6 +1,5 @@
-use mathlib.Core.Path.{refl}
-use Rattle.write_extents.proofs.is_verified.Statement.{statement}
-use Rattle.write_extents.proofs.is_verified.Tie as tie
+use Rattle.kit.specs.Names.{refl}
+use Rattle.write_extents.proofs.is_verified as own
 
-pub is-verified-spec : {M : Type 1} → statement M
-is-verified-spec = tie.close (tie.spec (λ c. refl))
+pub is-verified-spec : {M : Type 1} → own.Statement.statement M
+is-verified-spec = own.Tie.close (own.Tie.spec (λ c. refl))

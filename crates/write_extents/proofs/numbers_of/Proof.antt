@@ -1,7 +1,5 @@
-use mathlib.Core.Path.{refl}
-use native.Mathlib.Omega.{arith}
-use Rattle.write_extents.proofs.numbers_of.Statement.{statement}
-use Rattle.write_extents.proofs.numbers_of.Tie as tie
+use Rattle.kit.specs.Names.{refl, arith}
+use Rattle.write_extents.proofs.numbers_of as own
 
-pub numbers-of-spec : {M : Type 1} → statement M
-numbers-of-spec = tie.close (tie.spec (λ c. omega arith) (λ c. refl))
+pub numbers-of-spec : {M : Type 1} → own.Statement.statement M
+numbers-of-spec = own.Tie.close (own.Tie.spec (λ c. omega arith) (λ c. refl))

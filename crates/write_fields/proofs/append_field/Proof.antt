@@ -1,12 +1,11 @@
 -- Three bytes, one behind another.
 use Rattle.write_fields.proofs.Fields.{field-appended}
-use borrow.Author.Needs.{needs}
-use Rattle.write_fields.proofs.append_field.Statement.{statement}
-use Rattle.write_fields.proofs.append_field.Tie as tie
+use Rattle.kit.specs.Names.{needs}
+use Rattle.write_fields.proofs.append_field as own
 
-pub append-field-spec : {M : Type 1} → statement M
+pub append-field-spec : {M : Type 1} → own.Statement.statement M
 append-field-spec =
-    tie.close (tie.spec
+    own.Tie.close (own.Tie.spec
     (λ c. search needs) (λ c κs. search needs) (λ c κs. search needs) (λ c. search needs) (λ c κs. search needs) (λ c. search needs)
     (λ c κs. search needs) (λ c. search needs)
     (λ c. let start = c .before .before .before .before .before .before .before .before .before .before .before .before .before .before in

@@ -1,17 +1,13 @@
 -- The count, and the fields behind it.
-use mathlib.Core.Path.{sym, subst}
-use native.Mathlib.Omega.{arith}
+use Rattle.kit.specs.Names.{sym, subst, arith, needs}
 use Rattle.memory_append.proofs.Appending.{appended-length}
 use Rattle.write_fields.specs.Fields.{FieldsListed}
 use Rattle.write_fields.proofs.Fields.{section-appended}
-use borrow.Author.Needs.{needs}
-use Rattle.write_fields.proofs.append_field_section.Statement.{statement}
-use Rattle.write_fields.proofs.append_field_section.Tie as tie
+use Rattle.write_fields.proofs.append_field_section as own
 
-pub append-field-section-spec : {M : Type 1} → statement M
+pub append-field-section-spec : {M : Type 1} → own.Statement.statement M
 append-field-section-spec =
-    tie.close (tie.spec
-    (λ c κs. search needs) (λ c. search needs) (λ c κs. search needs)
+    own.Tie.close (own.Tie.spec (λ c κs. search needs) (λ c. search needs) (λ c κs. search needs)
     (λ c κs. let start = c .before .before .before .before .before .before .before .before in let args-file = start .args .file .now in
     let (fields-listed, _) = start .pre in let byte-at = c .before .before .before .before .before .byte-at .ensures .0 in
     (subst (FieldsListed args-file) (sym byte-at) fields-listed, let e = byte-at in let l = appended-length _ _ _ _ _ (c .before .before .before .append-byte .ensures) (omega arith) in omega arith))

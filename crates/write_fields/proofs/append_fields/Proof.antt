@@ -1,26 +1,20 @@
 -- The loop's invariant: the fields left are left to append.
-use mathlib.Core.Path.{_≡_, refl}
-use Prim.Native.Nat.{_+_, _*_, _-_, _≤_}
-use native.Mathlib.Omega.{arith}
-use lib.ListN.{length}
-use borrow.Author.Needs.{needs}
+use Rattle.kit.specs.Names.{_≡_, refl, _+_, _*_, _-_, _≤_, arith, length, needs}
 use Rattle.memory_append.specs.Append.{Appending}
 use Rattle.memory_append.proofs.Appending.{appending-start}
 use Rattle.write_fields.specs.Fields.{fieldsFrom}
 use Rattle.write_fields.proofs.Fields.{field-listed, fields-room, fields-appended, fields-done}
-use Rattle.write_fields.proofs.append_fields.Statement.{statement}
-use Rattle.write_fields.proofs.append_fields.Tie as tie
+use Rattle.write_fields.proofs.append_fields as own
 
-abbrev Inv-loop : tie.InvT-loop
+abbrev Inv-loop : own.Tie.InvT-loop
 Inv-loop file count out₀ from place₀ left₀ at₀ out place left at = (Appending out₀ out from at (fieldsFrom count file 1) (fieldsFrom left file place)) × (left ≤ count) × (place ≡ 1 + 3 * (count - left)) × (length out ≡ length out₀)
 
-abbrev μ-loop : tie.MeasureT-loop
+abbrev μ-loop : own.Tie.MeasureT-loop
 μ-loop file count out₀ from place₀ left₀ at₀ out place left at = left
 
-pub append-fields-spec : {M : Type 1} → statement M
+pub append-fields-spec : {M : Type 1} → own.Statement.statement M
 append-fields-spec =
-    tie.close (tie.spec Inv-loop μ-loop
-    (λ c. (appending-start _ _ _, omega arith, omega arith, refl))
+    own.Tie.close (own.Tie.spec Inv-loop μ-loop (λ c. (appending-start _ _ _, omega arith, omega arith, refl))
     (λ c κs. search needs) (λ c. search needs) (λ c κs. search needs) (λ c. search needs) (λ c κs. search needs)
     (λ c κs. let start = c .before .before .before .before .before .before .before .before in let args = start .args in
     let (fields-listed, out-room) = start .pre in let loop = c .before .before .before .before .before .loop in

@@ -1,10 +1,6 @@
 -- The parameters one after another: as many as are left fall.
-use mathlib.Core.Path.{_∙_}
-use native.Mathlib.Omega.{arith}
+use Rattle.kit.specs.Names.{_∙_, ℕ, _<_, arith, In, Measures, is, falls, and}
 use Rattle.write_function_bodies.proofs.Openings.{nothing-put, public-room, public-put, parameter-room, root-room, opening-room, openings-room, openings-put}
-use Prim.Native.Nat.{ℕ, _<_}
-use borrow.Fn.Kinds.{In}
-use borrow.Fn.PlainCycle.{Measures, is, falls, and}
 use Rattle.write_function_bodies.proofs.put_openings.Reads as put-openings
 use Rattle.write_function_bodies.proofs.put_openings.Kinds as put-openings-kinds
 use Rattle.write_function_bodies.proofs.+put_openings.Lts-put_openings as put-openings-lts
@@ -29,23 +25,14 @@ put-openings-claims t = (byte-at-reads.Asked, byte-at-reads.Learnt, put-openings
 
 pub +put-openings-spec : {M : Type 1} → statement M
 +put-openings-spec = close μ-put-openings λ t. put-openings-lts.spec (put-openings-claims t)
-    (put-openings-at t) put-openings.Post
-    (λ c. nothing-put _ _ _ _ _ _ _ _ _ (c .if1 .taken))
-    (λ c. let (_, (_, (_, (place-bound, _)))) = c .before .before .before .before .pre in
-    let some = c .if1 .left in
-    omega (arith, place-bound))
-    (λ c. let (_, (_, (_, (place-bound, _)))) = c .before .before .before .before .pre in
-    let some = c .if1 .left in
-    omega (arith, place-bound))
-    (λ c κs. tt)
-    (λ c. let some = c .before .before .if1 .left in
-    omega arith)
-    (λ c. let (_, (k-bound, _)) = c .before .before .before .before .before .before .pre in
-    let some = c .before .before .if1 .left in
+    (put-openings-at t) put-openings.Post (λ c. nothing-put _ _ _ _ _ _ _ _ _ (c .if1 .taken))
+    (λ c. let (_, (_, (_, (place-bound, _)))) = c .before .before .before .before .pre in let some = c .if1 .left in
+    omega (arith, place-bound)) (λ c. let (_, (_, (_, (place-bound, _)))) = c .before .before .before .before .pre in
+    let some = c .if1 .left in omega (arith, place-bound)) (λ c κs. tt) (λ c. let some = c .before .before .if1 .left in omega arith)
+    (λ c. let (_, (k-bound, _)) = c .before .before .before .before .before .before .pre in let some = c .before .before .if1 .left in
     omega (arith, k-bound))
     (λ c κs. let (_, (k-bound, (i-bound, (place-bound, steps-room)))) = c .before .before .before .before .before .before .before .before .pre in
-    let if1-left = c .before .before .before .before .if1 .left in
-    let some = if1-left in
+    let if1-left = c .before .before .before .before .if1 .left in let some = if1-left in
     (omega arith, (omega (arith, k-bound), (omega (arith, i-bound), (omega (arith, place-bound), public-room _ _ _ _ _ _ _ _ _ if1-left _ (c .before .before .before .byte-at .ensures .0) steps-room (c .before .before .if2 .taken))))))
     (λ c. c .before .before .before .before .put-openings .kept .1 .1 .1 .1 .1 .0)
     (λ c. c .before .before .before .before .put-openings .kept .1 .1 .1 .1 .1 .1 .0)
@@ -54,10 +41,8 @@ pub +put-openings-spec : {M : Type 1} → statement M
     let byte-at = c .before .before .before .before .before .before .before .before .byte-at .ensures .0 in
     let if2-taken = c .before .before .before .before .before .before .before .if2 .taken in
     public-put _ _ _ _ _ _ _ _ _ if1-left _ byte-at steps-room if2-taken _ _ _ (c .before .before .before .before .put-openings .ensures))
-    (λ c. let (_, (k-bound, _)) = c .before .before .before .before .before .before .pre in
-    let some = c .before .before .if1 .left in
-    omega (arith, k-bound))
-    (λ c κs. let (_, (_, (_, (_, steps-room)))) = c .before .before .before .before .before .before .before .pre in
+    (λ c. let (_, (k-bound, _)) = c .before .before .before .before .before .before .pre in let some = c .before .before .if1 .left in
+    omega (arith, k-bound)) (λ c κs. let (_, (_, (_, (_, steps-room)))) = c .before .before .before .before .before .before .before .pre in
     parameter-room _ _ _ _ _ _ _ _ _ (c .before .before .before .if1 .left) _ (c .before .before .byte-at .ensures .0) steps-room (c .before .if2 .left))
     (λ c κs. let (_, (_, (_, (_, steps-room)))) = c .before .before .before .before .before .before .before .before .before .before .before .pre in
     let if1-left = c .before .before .before .before .before .before .before .if1 .left in
@@ -69,15 +54,13 @@ pub +put-openings-spec : {M : Type 1} → statement M
     let byte-at = c .before .before .before .before .before .before .before .before .before .before .byte-at .ensures .0 in
     let if2-left = c .before .before .before .before .before .before .before .before .before .if2 .left in
     let put-leaf = c .before .before .before .before .before .before .before .put-leaf .ensures .0 in
-    let fits = opening-room _ _ _ _ _ _ _ _ _ if1-left _ byte-at steps-room if2-left _ put-leaf in
-    omega (arith, fits .1 .0))
+    let fits = opening-room _ _ _ _ _ _ _ _ _ if1-left _ byte-at steps-room if2-left _ put-leaf in omega (arith, fits .1 .0))
     (λ c. let (_, (_, (_, (_, steps-room)))) = c .before .before .before .before .before .before .before .before .before .before .before .before .before .before .before .pre in
     let if1-left = c .before .before .before .before .before .before .before .before .before .before .before .if1 .left in
     let byte-at = c .before .before .before .before .before .before .before .before .before .before .byte-at .ensures .0 in
     let if2-left = c .before .before .before .before .before .before .before .before .before .if2 .left in
     let put-leaf = c .before .before .before .before .before .before .before .put-leaf .ensures .0 in
-    let fits = opening-room _ _ _ _ _ _ _ _ _ if1-left _ byte-at steps-room if2-left _ put-leaf in
-    omega (arith, fits .1 .0))
+    let fits = opening-room _ _ _ _ _ _ _ _ _ if1-left _ byte-at steps-room if2-left _ put-leaf in omega (arith, fits .1 .0))
     (λ c κs. let (_, (_, (_, (_, steps-room)))) = c .before .before .before .before .before .before .before .before .before .before .before .before .before .before .before .pre in
     let if1-left = c .before .before .before .before .before .before .before .before .before .before .before .if1 .left in
     let byte-at = c .before .before .before .before .before .before .before .before .before .before .byte-at .ensures .0 in
@@ -87,12 +70,10 @@ pub +put-openings-spec : {M : Type 1} → statement M
     omega arith)
     (λ c. let (_, (k-bound, _)) = c .before .before .before .before .before .before .before .before .before .before .before .before .before .before .before .before .before .before .pre in
     let if1-left = c .before .before .before .before .before .before .before .before .before .before .before .before .before .before .if1 .left in
-    let some = if1-left in
-    omega (arith, k-bound))
+    let some = if1-left in omega (arith, k-bound))
     (λ c. let (_, (k-bound, (i-bound, _))) = c .before .before .before .before .before .before .before .before .before .before .before .before .before .before .before .before .before .before .pre in
     let if1-left = c .before .before .before .before .before .before .before .before .before .before .before .before .before .before .if1 .left in
-    let some = if1-left in
-    omega (arith, k-bound, i-bound))
+    let some = if1-left in omega (arith, k-bound, i-bound))
     (λ c. let good = c .before .before .before .before .before .before .before .before .before .before .before .before .before .before .before .before .before .before .before .before .good .1 .1 .1 .1 .1 .1 .0 in
     let (_, (_, (_, (_, steps-room)))) = c .before .before .before .before .before .before .before .before .before .before .before .before .before .before .before .before .before .before .before .before .pre in
     let if1-left = c .before .before .before .before .before .before .before .before .before .before .before .before .before .before .before .before .if1 .left in
@@ -115,8 +96,7 @@ pub +put-openings-spec : {M : Type 1} → statement M
     let byte-at = c .before .before .before .before .before .before .before .before .before .before .before .before .before .before .before .byte-at .ensures .0 in
     let if2-left = c .before .before .before .before .before .before .before .before .before .before .before .before .before .before .if2 .left in
     let put-leaf = c .before .before .before .before .before .before .before .before .before .before .before .before .put-leaf .ensures .0 in
-    let put-setting = c .before .before .before .before .before .before .before .before .put-setting .ensures .0 in
-    let some = if1-left in
+    let put-setting = c .before .before .before .before .before .before .before .before .put-setting .ensures .0 in let some = if1-left in
     (omega arith, (omega (arith, k-bound), (omega (arith, i-bound), (omega (arith, place-bound), openings-room _ _ _ _ _ _ _ _ _ if1-left _ byte-at steps-room if2-left _ put-leaf _ put-setting _ (c .before .before .before .before .put-number .ensures))))))
     (λ c. let good = c .before .before .before .before .before .before .before .before .before .before .before .before .before .before .before .before .before .before .before .before .before .before .before .before .before .before .good .1 .1 .1 .1 .1 .0 in
     let (_, (_, (_, (_, steps-room)))) = c .before .before .before .before .before .before .before .before .before .before .before .before .before .before .before .before .before .before .before .before .before .before .before .before .before .before .pre in

@@ -1,48 +1,36 @@
 -- The openings, the passage behind them and the sequences that nest them.
-use mathlib.Core.Path.{sym}
-use Prim.Native.Nat.{_-_}
-use lib.ListN.{length}
-use native.Mathlib.Omega.{arith}
+use Rattle.kit.specs.Names.{sym, _-_, arith, length, needs}
 use borrow.Rule.Slice.PartMut.{putMid, take-put}
 use Rattle.write_function_bodies.proofs.Passages.{openings-ready, openings-fit, passage-ready, body-close, body-written}
-use borrow.Author.Needs.{needs}
-use Rattle.write_function_bodies.proofs.write_function_body.Statement.{statement}
-use Rattle.write_function_bodies.proofs.write_function_body.Tie as tie
+use Rattle.write_function_bodies.proofs.write_function_body as own
 
-sub-write-passage : tie.Need-sub-write-passage
+sub-write-passage : own.Tie.Need-sub-write-passage
 sub-write-passage c =
     let fits = openings-fit _ _ _ _ _ _ _ _ _ _ (c .before .before .before .before .before .before .before .before .before .before .before .before .before .before .before .pre) _ (c .before .before .before .before .before .before .before .before .before .byte-at .ensures .0) _ _ _ (c .before .before .before .before .before .before .put-openings .ensures) in
     omega (arith, fits .0, c .before .before .before .before .before .before .put-openings .kept .1 .1 .1 .1 .1 .0)
 
-pub write-function-body-spec : {M : Type 1} → statement M
+pub write-function-body-spec : {M : Type 1} → own.Statement.statement M
 write-function-body-spec =
-    tie.close (tie.spec
-    (λ c κs. search needs) (λ c. search needs)
+    own.Tie.close (own.Tie.spec (λ c κs. search needs) (λ c. search needs)
     (λ c κs. openings-ready _ _ _ _ _ _ _ _ _ _ (c .before .before .before .before .before .before .before .before .pre) _ (c .before .before .byte-at .ensures .0))
     (λ c. let pre = c .before .before .before .before .before .before .before .before .before .before .before .before .before .before .pre in
     let byte-at = c .before .before .before .before .before .before .before .before .byte-at .ensures .0 in
     let put-openings = c .before .before .before .before .before .put-openings .ensures in
-    let fits = openings-fit _ _ _ _ _ _ _ _ _ _ pre _ byte-at _ _ _ put-openings in
-    omega (arith, fits .1 .1))
+    let fits = openings-fit _ _ _ _ _ _ _ _ _ _ pre _ byte-at _ _ _ put-openings in omega (arith, fits .1 .1))
     (λ c. let good = c .before .before .before .before .before .before .before .before .before .before .before .before .before .before .good .1 .1 .1 .1 .1 .1 .1 .0 in
     let pre = c .before .before .before .before .before .before .before .before .before .before .before .before .before .before .pre in
     let byte-at = c .before .before .before .before .before .before .before .before .byte-at .ensures .0 in
     let put-openings = c .before .before .before .before .before .put-openings .ensures in
-    let fits = openings-fit _ _ _ _ _ _ _ _ _ _ pre _ byte-at _ _ _ put-openings in
-    omega (arith, fits .1 .0, good))
+    let fits = openings-fit _ _ _ _ _ _ _ _ _ _ pre _ byte-at _ _ _ put-openings in omega (arith, fits .1 .0, good))
     (λ c. let pre = c .before .before .before .before .before .before .before .before .before .before .before .before .before .before .before .pre in
     let byte-at = c .before .before .before .before .before .before .before .before .before .byte-at .ensures .0 in
     let put-openings = c .before .before .before .before .before .before .put-openings .ensures in
-    let fits = openings-fit _ _ _ _ _ _ _ _ _ _ pre _ byte-at _ _ _ put-openings in
-    omega (arith, fits .1 .1))
+    let fits = openings-fit _ _ _ _ _ _ _ _ _ _ pre _ byte-at _ _ _ put-openings in omega (arith, fits .1 .1))
     (λ c. let pre = c .before .before .before .before .before .before .before .before .before .before .before .before .before .before .before .pre in
     let byte-at = c .before .before .before .before .before .before .before .before .before .byte-at .ensures .0 in
     let put-openings = c .before .before .before .before .before .before .put-openings .ensures in
-    let fits = openings-fit _ _ _ _ _ _ _ _ _ _ pre _ byte-at _ _ _ put-openings in
-    omega (arith, fits .1 .1))
-    sub-write-passage
-    (λ c. sub-write-passage c)
-    (λ c. search needs)
+    let fits = openings-fit _ _ _ _ _ _ _ _ _ _ pre _ byte-at _ _ _ put-openings in omega (arith, fits .1 .1)) sub-write-passage
+    (λ c. sub-write-passage c) (λ c. search needs)
     (λ c κs. let pre = c .before .before .before .before .before .before .before .before .before .before .before .before .before .before .before .before .before .pre in
     let byte-at = c .before .before .before .before .before .before .before .before .before .before .before .byte-at .ensures .0 in
     let put-openings = c .before .before .before .before .before .before .before .before .put-openings in
@@ -57,14 +45,12 @@ write-function-body-spec =
     let byte-at = c .before .before .before .before .before .before .before .before .before .before .before .before .before .before .before .before .before .byte-at .ensures .0 in
     let put-openings = c .before .before .before .before .before .before .before .before .before .before .before .before .before .before .put-openings .ensures in
     let write-passage = c .before .before .before .before .before .write-passage .ensures in
-    let close = body-close _ _ _ _ _ _ _ _ _ _ pre _ byte-at _ _ _ put-openings _ _ write-passage in
-    omega (arith, close .0))
+    let close = body-close _ _ _ _ _ _ _ _ _ _ pre _ byte-at _ _ _ put-openings _ _ write-passage in omega (arith, close .0))
     (λ c. let pre = c .before .before .before .before .before .before .before .before .before .before .before .before .before .before .before .before .before .before .before .before .before .before .before .before .pre in
     let byte-at = c .before .before .before .before .before .before .before .before .before .before .before .before .before .before .before .before .before .before .byte-at .ensures .0 in
     let put-openings = c .before .before .before .before .before .before .before .before .before .before .before .before .before .before .before .put-openings .ensures in
     let write-passage = c .before .before .before .before .before .before .write-passage .ensures in
-    let close = body-close _ _ _ _ _ _ _ _ _ _ pre _ byte-at _ _ _ put-openings _ _ write-passage in
-    omega (arith, close .1 .1 .0))
+    let close = body-close _ _ _ _ _ _ _ _ _ _ pre _ byte-at _ _ _ put-openings _ _ write-passage in omega (arith, close .1 .1 .0))
     (λ c. let good = c .before .before .before .before .before .before .before .before .before .before .before .before .before .before .before .before .before .before .before .before .before .before .before .before .good .1 .1 .1 .1 .1 .1 .1 .0 in
     let pre = c .before .before .before .before .before .before .before .before .before .before .before .before .before .before .before .before .before .before .before .before .before .before .before .before .pre in
     let byte-at = c .before .before .before .before .before .before .before .before .before .before .before .before .before .before .before .before .before .before .byte-at .ensures .0 in
@@ -90,13 +76,11 @@ write-function-body-spec =
     let put-openings = c .before .before .before .before .before .before .before .before .before .before .before .before .before .before .before .before .before .before .before .put-openings .ensures in
     let write-passage = c .before .before .before .before .before .before .before .before .before .before .write-passage .ensures in
     let close = body-close _ _ _ _ _ _ _ _ _ _ pre _ byte-at _ _ _ put-openings _ _ write-passage in
-    omega (arith, close .0, close .1 .1 .0))
-    (λ c. search needs) (λ c. search needs)
+    omega (arith, close .0, close .1 .1 .0)) (λ c. search needs) (λ c. search needs)
     (λ c. let pre = c .before .before .before .before .before .before .before .before .before .before .before .before .before .before .before .before .before .before .before .before .before .before .before .before .before .before .before .before .pre in
     let byte-at = c .before .before .before .before .before .before .before .before .before .before .before .before .before .before .before .before .before .before .before .before .before .before .byte-at .ensures .0 in
     let put-openings = c .before .before .before .before .before .before .before .before .before .before .before .before .before .before .before .before .before .before .before .put-openings in
     let write-passage = c .before .before .before .before .before .before .before .before .before .before .write-passage in
-    let kept = put-openings .last .1 .1 .1 .1 .1 .0 in
-    let changed = write-passage .last .1 .1 .1 .1 .1 .1 .0 in
+    let kept = put-openings .last .1 .1 .1 .1 .1 .0 in let changed = write-passage .last .1 .1 .1 .1 .1 .1 .0 in
     let count = put-openings .result .count in
     body-written _ _ _ _ _ _ _ _ _ _ pre _ byte-at _ _ _ (put-openings .ensures) _ _ (write-passage .ensures) (putMid count (length kept - count) kept changed) _ (take-put count (length kept - count) kept changed (body-close _ _ _ _ _ _ _ _ _ _ pre _ byte-at _ _ _ (put-openings .ensures) _ _ (write-passage .ensures) .1 .0)) (c .before .before .before .close-steps .ensures)))

@@ -1,15 +1,12 @@
 -- The log, the circuits of its claims, and what they tell.
-use native.Mathlib.Omega.{arith}
+use Rattle.kit.specs.Names.{arith, needs}
 use Rattle.write_headings.proofs.Parts.{private-is}
 use Rattle.write_functions.proofs.Logs.{ready-context, log-ready, circuits-asked, circuits-written}
-use borrow.Author.Needs.{needs}
-use Rattle.write_functions.proofs.write_circuits.Statement.{statement}
-use Rattle.write_functions.proofs.write_circuits.Tie as tie
+use Rattle.write_functions.proofs.write_circuits as own
 
-pub write-circuits-spec : {M : Type 1} → statement M
+pub write-circuits-spec : {M : Type 1} → own.Statement.statement M
 write-circuits-spec =
-    tie.close (tie.spec
-    (λ c κs. omega (arith, (c .before .before .before .before .before .pre) .room .context .nearFunction))
+    own.Tie.close (own.Tie.spec (λ c κs. omega (arith, (c .before .before .before .before .before .pre) .room .context .nearFunction))
     (λ c. omega (arith, (c .before .before .before .before .before .before .pre) .room .context .nearFunction))
     (λ c κs. let pre = c .before .before .before .before .before .before .pre in
     omega (arith, pre .room .context .nearFunction, pre .room .context .fewParameters, c .byte-at .ensures .0))

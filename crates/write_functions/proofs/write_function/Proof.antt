@@ -1,22 +1,16 @@
 -- The circuits, then the body, then the heading.
-use mathlib.Core.Path.{sym, _∙_}
-use native.Mathlib.Omega.{arith}
-use lib.Seq.{length-take-le}
-use borrow.Author.Needs.{needs}
+use Rattle.kit.specs.Names.{sym, _∙_, arith, length-take-le, needs}
 use Rattle.write_functions.proofs.Functions.{circuits-ready, nodes-few, constraints-fit, log-few, body-ready, total-few, heading-ready, function-written}
-use Rattle.write_functions.proofs.write_function.Statement.{statement}
-use Rattle.write_functions.proofs.write_function.Tie as tie
+use Rattle.write_functions.proofs.write_function as own
 
-pub write-function-spec : {M : Type 1} → statement M
+pub write-function-spec : {M : Type 1} → own.Statement.statement M
 write-function-spec =
-    tie.close (tie.spec
-    (λ c κs. let start = c .before .before .before .before .before .before .before .before .before .before in
+    own.Tie.close (own.Tie.spec (λ c κs. let start = c .before .before .before .before .before .before .before .before .before .before in
     let args-nodes-at = start .args .source .now in let pre = start .pre in circuits-ready _ _ args-nodes-at _ _ _ _ _ _ _ pre)
     (λ c. let start = c .before .before .before .before .before .before .before .before .before .before .before .before .before .before .before .before .before .before in
     let args-nodes-at = start .args .source .now in let pre = start .pre in
     let write-circuits = c .before .before .before .before .before .before .before .write-circuits .ensures in
-    let fit = constraints-fit _ _ args-nodes-at _ _ _ _ _ _ _ pre _ _ _ _ write-circuits in omega arith)
-    (λ c κs. search needs)
+    let fit = constraints-fit _ _ args-nodes-at _ _ _ _ _ _ _ pre _ _ _ _ write-circuits in omega arith) (λ c κs. search needs)
     (λ c. let start = c .before .before .before .before .before .before .before .before .before .before .before .before .before .before .before .before .before .before .before .before in
     let args-nodes-at = start .args .source .now in let pre = start .pre in
     let write-circuits = c .before .before .before .before .before .before .before .before .before .write-circuits .ensures in

@@ -3,14 +3,12 @@ use Rattle.definitions.specs.Basics.{twoBytes}
 use Rattle.memory_append.proofs.Appending.{one-of-five, two-of-five, three-of-five, four-of-five, five-of-five, five-appended}
 use Rattle.write_headings.specs.Parts.{parameterPart, variablePart, keyPart, claimsOf, claimPart}
 use Rattle.write_headings.proofs.Parts.{parts-fit, variables-fit, constraints-fit, heading-appended}
-use borrow.Author.Needs.{needs}
-use Rattle.write_headings.proofs.append_heading.Statement.{statement}
-use Rattle.write_headings.proofs.append_heading.Tie as tie
+use Rattle.kit.specs.Names.{needs}
+use Rattle.write_headings.proofs.append_heading as own
 
-pub append-heading-spec : {M : Type 1} → statement M
+pub append-heading-spec : {M : Type 1} → own.Statement.statement M
 append-heading-spec =
-    tie.close (tie.spec
-    (λ c κs. search needs)
+    own.Tie.close (own.Tie.spec (λ c κs. search needs)
     (λ c κs. let start = c .before .before .before .before .before .before in let args = start .args in let pre = start .pre in
     let private-of = c .before .private-of in
     (pre .near, one-of-five (args .out .now) (args .from) (parameterPart (args .file .now) (args .function-at)) (variablePart (private-of .result) (args .made) (args .log .now)) (keyPart (args .log .now)) (claimPart (private-of .result) (args .log .now) (claimsOf (args .numbers .now))) (twoBytes (args .root)) (parts-fit (private-of .result) (args .file .now) (args .function-at) (args .made) (args .log .now) (claimsOf (args .numbers .now)) (args .root) (args .from) _ (private-of .ensures) pre)))

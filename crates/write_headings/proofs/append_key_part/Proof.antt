@@ -1,13 +1,11 @@
 -- The keys, and their count before them.
-use mathlib.Core.Path.{refl}
+use Rattle.kit.specs.Names.{refl, needs}
 use Rattle.write_headings.proofs.Parts.{keys-counted}
-use borrow.Author.Needs.{needs}
-use Rattle.write_headings.proofs.append_key_part.Statement.{statement}
-use Rattle.write_headings.proofs.append_key_part.Tie as tie
+use Rattle.write_headings.proofs.append_key_part as own
 
-pub append-key-part-spec : {M : Type 1} → statement M
+pub append-key-part-spec : {M : Type 1} → own.Statement.statement M
 append-key-part-spec =
-    tie.close (tie.spec
+    own.Tie.close (own.Tie.spec
     (λ c. search needs) (λ c κs. search needs) (λ c. search needs) (λ c. search needs) (λ c κs. search needs) (λ c. search needs)
     (λ c. let start = c .before .before .before .before .before .before .before .before .before .before in let args = start .args in
     let pre = start .pre in let append-keys = c .before .before .before .before .before .before .append-keys .ensures in

@@ -1,14 +1,11 @@
 -- The count, then the parameters.
-use native.Mathlib.Omega.{arith}
+use Rattle.kit.specs.Names.{arith, needs}
 use Rattle.write_headings.proofs.Parts.{parameters-room, parameters-appended}
-use borrow.Author.Needs.{needs}
-use Rattle.write_headings.proofs.append_parameter_part.Statement.{statement}
-use Rattle.write_headings.proofs.append_parameter_part.Tie as tie
+use Rattle.write_headings.proofs.append_parameter_part as own
 
-pub append-parameter-part-spec : {M : Type 1} → statement M
+pub append-parameter-part-spec : {M : Type 1} → own.Statement.statement M
 append-parameter-part-spec =
-    tie.close (tie.spec
-    (λ c κs. search needs) (λ c. search needs) (λ c κs. search needs) (λ c. search needs)
+    own.Tie.close (own.Tie.spec (λ c κs. search needs) (λ c. search needs) (λ c κs. search needs) (λ c. search needs)
     (λ c κs. let start = c .before .before .before .before .before .before .before .before in let args = start .args in let (_, out-room) = start .pre in
     let byte-at = c .before .before .before .before .before .byte-at .ensures .0 in
     (omega arith, parameters-room (args .file .now) (args .function-at) (args .out .now) (args .at) _ byte-at out-room _ _ (c .before .before .before .append-byte .ensures)))

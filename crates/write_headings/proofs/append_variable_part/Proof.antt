@@ -1,18 +1,15 @@
 -- The count, the reads of private parameters, and the variables of the log.
-use Prim.Native.Nat.{_+_}
+use Rattle.kit.specs.Names.{_+_, needs}
 use Rattle.definitions.specs.Basics.{twoBytes}
 use Rattle.write_variables.specs.PerEntry.{perEntry}
 use Rattle.write_variables.specs.Variables.{variableOf}
 use Rattle.write_parameters.specs.Parameters.{openingVariables}
 use Rattle.memory_append.proofs.Appending.{second-room, third-room, three-appended}
-use borrow.Author.Needs.{needs}
-use Rattle.write_headings.proofs.append_variable_part.Statement.{statement}
-use Rattle.write_headings.proofs.append_variable_part.Tie as tie
+use Rattle.write_headings.proofs.append_variable_part as own
 
-pub append-variable-part-spec : {M : Type 1} → statement M
+pub append-variable-part-spec : {M : Type 1} → own.Statement.statement M
 append-variable-part-spec =
-    tie.close (tie.spec
-    (λ c. search needs) (λ c κs. search needs)
+    own.Tie.close (own.Tie.spec (λ c. search needs) (λ c κs. search needs)
     (λ c κs. let start = c .before .before .before .before .before .before .before in let args = start .args in let (_, out-room) = start .pre in
     second-room (args .out .now) (args .at) (twoBytes (args .private + args .made)) (openingVariables (args .private)) (perEntry variableOf (args .log .now)) out-room _ _ (c .before .before .before .append-two-bytes .ensures))
     (λ c κs. let start = c .before .before .before .before .before .before .before .before .before .before .before in let args = start .args in

@@ -1,16 +1,13 @@
 -- Three runs stand one behind another where they fit.
-use native.Mathlib.Omega.{arith}
+use Rattle.kit.specs.Names.{arith, needs}
 use Rattle.definitions.specs.Basics.{twoBytes}
 use Rattle.memory_append.proofs.Appending.{three-appended}
 use Rattle.write_output.proofs.Answers.{too-short, stands, no-counts-out, counts-out, three-long, room-left, total-long}
-use borrow.Author.Needs.{needs}
-use Rattle.write_output.proofs.hand_out.Statement.{statement}
-use Rattle.write_output.proofs.hand_out.Tie as tie
+use Rattle.write_output.proofs.hand_out as own
 
-pub hand-out-spec : {M : Type 1} → statement M
+pub hand-out-spec : {M : Type 1} → own.Statement.statement M
 hand-out-spec =
-    tie.close (tie.spec
-    (λ c. search needs) (λ c. search needs) (λ c κs. search needs)
+    own.Tie.close (own.Tie.spec (λ c. search needs) (λ c. search needs) (λ c κs. search needs)
     (λ c. let args = c .before .before .before .before .before .args in
     let short = three-long (args .headings .now) (args .nodes .now) (args .count) _ (omega (arith, c .if1 .taken)) in
     (too-short _ _ short, no-counts-out _ _ _ _ short (c .before .no-counts .ensures)))

@@ -1,14 +1,12 @@
 -- Guard, variable and root.
 use Rattle.definitions.specs.Basics.{twoBytes}
 use Rattle.memory_append.proofs.Appending.{three-appended}
-use borrow.Author.Needs.{needs}
-use Rattle.write_parameters.proofs.append_opening_claim.Statement.{statement}
-use Rattle.write_parameters.proofs.append_opening_claim.Tie as tie
+use Rattle.kit.specs.Names.{needs}
+use Rattle.write_parameters.proofs.append_opening_claim as own
 
-pub append-opening-claim-spec : {M : Type 1} → statement M
+pub append-opening-claim-spec : {M : Type 1} → own.Statement.statement M
 append-opening-claim-spec =
-    tie.close (tie.spec
-    (λ c κs. search needs) (λ c κs. search needs) (λ c κs. search needs) (λ c. search needs)
+    own.Tie.close (own.Tie.spec (λ c κs. search needs) (λ c κs. search needs) (λ c κs. search needs) (λ c. search needs)
     (λ c. let start = c .before .before .before .before .before .before .before .before .before .before .before .before .before in
     let args = start .args in let pre = start .pre in
     let append-two-bytes = c .before .before .before .before .before .before .before .before .before .before .append-two-bytes .ensures in

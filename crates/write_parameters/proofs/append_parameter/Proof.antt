@@ -1,15 +1,11 @@
 -- Two bytes either way.
-use native.Mathlib.Omega.{arith}
+use Rattle.kit.specs.Names.{arith, needs}
 use Rattle.write_parameters.proofs.Parameters.{public-room, private-room, public-appended, private-appended}
-use borrow.Author.Needs.{needs}
-use Rattle.write_parameters.proofs.append_parameter.Statement.{statement}
-use Rattle.write_parameters.proofs.append_parameter.Tie as tie
+use Rattle.write_parameters.proofs.append_parameter as own
 
-pub append-parameter-spec : {M : Type 1} → statement M
+pub append-parameter-spec : {M : Type 1} → own.Statement.statement M
 append-parameter-spec =
-    tie.close (tie.spec
-    (λ c κs. search needs)
-    (λ c κs. let args = c .before .before .before .before .args in
+    own.Tie.close (own.Tie.spec (λ c κs. search needs) (λ c κs. let args = c .before .before .before .before .args in
     let room = public-room (args .kind) (args .owner) _ _ (c .before .before .if1 .taken) (c .before .before .before .before .pre) in omega arith)
     (λ c κs. let start = c .before .before .before .before .before .before .before .before in let args = start .args in let pre = start .pre in
     let if1-taken = c .before .before .before .before .before .before .if1 .taken in
@@ -18,8 +14,7 @@ append-parameter-spec =
     let room = private-room (args .kind) (args .owner) _ _ (c .before .if1 .left) (c .before .before .before .pre) in omega arith)
     (λ c κs. let start = c .before .before .before .before .before .before .before in let args = start .args in let pre = start .pre in
     let if1-left = c .before .before .before .before .before .if1 .left in
-    let room = private-room (args .kind) (args .owner) _ _ if1-left pre in omega arith)
-    (λ c. search needs)
+    let room = private-room (args .kind) (args .owner) _ _ if1-left pre in omega arith) (λ c. search needs)
     (λ c. let start = c .before .before .before .before .before .before .before .before .before .before .before in let args = start .args in
     let pre = start .pre in let if1-taken = c .before .before .before .before .before .before .before .before .before .if1 .taken in
     let type-code = c .before .before .before .before .before .before .before .before .type-code .ensures in

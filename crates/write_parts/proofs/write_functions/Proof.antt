@@ -1,30 +1,24 @@
 -- The loop's invariant: the functions before this one stand in the buffers.
-use mathlib.Core.Path.{_≡_, refl, _∙_}
-use Prim.Native.Nat.{_-_, _<_, _≤_}
-use native.Mathlib.Omega.{arith}
-use lib.ListN.{length}
-use borrow.Author.Needs.{needs}
+use Rattle.kit.specs.Names.{_≡_, refl, _∙_, _-_, _<_, _≤_, arith, length, needs}
 use Rattle.definitions.specs.ContractFile.{functionCount}
 use Rattle.file_accepted.specs.Functions.{functionStart}
 use Rattle.write_function_room.proofs.Room.{function-room, functions-few}
 use Rattle.write_parts.specs.Parts.{FunctionsPut}
 use Rattle.write_parts.proofs.Parts.{none-put, places-fit, one-put, next-start, all-put}
-use Rattle.write_parts.proofs.write_functions.Statement.{statement}
-use Rattle.write_parts.proofs.write_functions.Tie as tie
+use Rattle.write_parts.proofs.write_functions as own
 
-abbrev Inv-loop : tie.InvT-loop
+abbrev Inv-loop : own.Tie.InvT-loop
 Inv-loop file first count source log₀ roots₀ numbers₀ headings₀ from nodes₀ function-at₀ f₀ all₀ counts₀ log roots numbers headings nodes function-at f all counts =
     (FunctionsPut file f from headings₀ headings nodes₀ nodes (all .end) (all .nodes) (counts .crossings)) × (function-at ≡ functionStart file f) × (f ≤ count)
     × (length log ≡ length log₀) × (length roots ≡ length roots₀) × (length numbers ≡ length numbers₀)
     × (length headings ≡ length headings₀) × (length nodes ≡ length nodes₀)
 
-abbrev μ-loop : tie.MeasureT-loop
+abbrev μ-loop : own.Tie.MeasureT-loop
 μ-loop file first count source log₀ roots₀ numbers₀ headings₀ from nodes₀ function-at₀ f₀ all₀ counts₀ log roots numbers headings nodes function-at f all counts = count - f
 
-pub write-functions-spec : {M : Type 1} → statement M
+pub write-functions-spec : {M : Type 1} → own.Statement.statement M
 write-functions-spec =
-    tie.close (tie.spec Inv-loop μ-loop
-    (λ c κs. search needs)
+    own.Tie.close (own.Tie.spec Inv-loop μ-loop (λ c κs. search needs)
     (λ c. let start = c .before .before .before .before .before .before .before .before in let args-file = start .args .file .now in
     let (functions-ready, _) = start .pre in
     (none-put args-file _ _ _ (functions-ready .behindFields) _ (c .no-counts .ensures), functions-ready .begins, omega arith, refl, refl, refl, refl, refl))
@@ -32,8 +26,7 @@ write-functions-spec =
     let args = start .args in let (functions-ready, space) = start .pre in
     let loop-f = c .before .before .before .before .before .before .loop .f in
     let (functions-put, function-at-is, _, _, _, _, _, _) = c .before .before .before .before .before .before .loop .inv in
-    let ready = functions-ready in
-    record {
+    let ready = functions-ready in record {
       room = places-fit (args .file .now) (args .headings .now) (args .nodes .now) (args .from) loop-f _ _ _ _ _ functions-put _ function-at-is (function-room (args .file .now) (ready .ready .accepted) loop-f (omega (arith, ready .counted)));
       held = ready .held;
       logSpace = omega (arith, space .logSpace);
@@ -58,8 +51,7 @@ write-functions-spec =
     (λ c. omega (arith, c .before .before .before .before .before .before .before .before .before .before .before .before .before .before .before .before .before .before .before .loop-test .taken, c .before .before .before .before .before .before .before .before .before .before .before .before .before .before .before .before .before .before .before .before .before .before .before .before .before .before .before .before .before .fits .count))
     (λ c. omega (arith, c .before .before .before .before .before .before .before .before .before .before .before .before .before .before .before .before .before .before .before .loop-test .taken))
     (λ c. let start = c .before .before .before .before .before .before .before .before .before .before .before .before .before .before .before .before .before .before .before .before .before .before .before .before .before .before .before .before .before in
-    let file = start .args .file .now in
-    let ready = start .pre .0 in
+    let file = start .args .file .now in let ready = start .pre .0 in
     let loop = c .before .before .before .before .before .before .before .before .before .before .before .before .before .before .before .before .before .before .before .before .loop in
     let taken = c .before .before .before .before .before .before .before .before .before .before .before .before .before .before .before .before .before .before .before .loop-test .taken in
     let inside : loop .f < functionCount file = omega (arith, ready .counted) in
@@ -78,9 +70,7 @@ write-functions-spec =
       kept .1 .1 .1 .1 .1 .0 ∙ numbers-long,
       kept .1 .1 .1 .1 .1 .1 .0 ∙ headings-long,
       kept .1 .1 .1 .1 .1 .1 .1 .1 .0 ∙ nodes-long,
-    ))
-    (λ c. search needs) (λ c. search needs) (λ c. search needs) (λ c. search needs)
-    (λ c. search needs)
+    )) (λ c. search needs) (λ c. search needs) (λ c. search needs) (λ c. search needs) (λ c. search needs)
     (λ c. let start = c .before .before .before .before .before .before .before .before .before .before in let args-file = start .args .file .now in
     let (functions-ready, _) = start .pre in let (functions-put, _, _, _, _, _, _, _) = c .before .loop .inv in
     all-put args-file _ _ _ _ _ _ (c .before .loop .f) _ _ (omega (arith, functions-ready .counted)) functions-put))

@@ -1,20 +1,16 @@
 -- The fields, the count of functions, and the functions stand one behind another.
-use native.Mathlib.Omega.{arith}
+use Rattle.kit.specs.Names.{arith, needs}
 use Rattle.memory_append.proofs.Appending.{appended-length}
 use Rattle.write_fields.proofs.Fields.{section-length}
 use Rattle.write_fields.proofs.Accepted.{accepted-fields}
 use Rattle.write_parts.proofs.Parts.{first-start, parts-put}
-use borrow.Author.Needs.{needs}
-use Rattle.write_parts.proofs.write_parts.Statement.{statement}
-use Rattle.write_parts.proofs.write_parts.Tie as tie
+use Rattle.write_parts.proofs.write_parts as own
 
-pub write-parts-spec : {M : Type 1} → statement M
+pub write-parts-spec : {M : Type 1} → own.Statement.statement M
 write-parts-spec =
-    tie.close (tie.spec
-    (λ c κs. search needs)
+    own.Tie.close (own.Tie.spec (λ c κs. search needs)
     (λ c κs. let start = c .before .before .before .before .before .before .before .before .before in let args-file = start .args .file .now in let pre = start .pre .1 in
-    let l = accepted-fields args-file (pre .accepted) in (l, omega (arith, l .few, pre .headingSpace)))
-    (λ c. search needs)
+    let l = accepted-fields args-file (pre .accepted) in (l, omega (arith, l .few, pre .headingSpace))) (λ c. search needs)
     (λ c κs. let start = c .before .before .before .before .before .before .before .before .before .before .before .before .before .before in let args-file = start .args .file .now in
     let pre = start .pre .1 in let append-field-section = c .before .before .before .before .append-field-section .ensures in
     let l = accepted-fields args-file (pre .accepted) in let p = append-field-section .place in let n = section-length args-file in let long = appended-length _ _ _ _ _ append-field-section (omega (arith, l .few, pre .headingSpace)) in omega (arith, l .few, pre .headingSpace))
@@ -24,13 +20,8 @@ write-parts-spec =
     let read-layout = c .before .before .before .before .before .before .before .before .before .before .before .before .before .before .before .read-layout .ensures in
     let append-field-section = c .before .before .before .before .before .before .before .before .before .before .before .before .before .append-field-section .ensures in
     let append-byte = c .before .before .before .before .before .before .before .before .append-byte .ensures in
-    let l = accepted-fields args-file (pre .accepted) in
-    let layout = read-layout in
-    let a = append-field-section in
-    let b = append-byte in
-    let n = section-length args-file in
-    let p = a .place in
-    let q = b .place in
+    let l = accepted-fields args-file (pre .accepted) in let layout = read-layout in let a = append-field-section in let b = append-byte in
+    let n = section-length args-file in let p = a .place in let q = b .place in
     let long = appended-length _ _ _ _ _ a (omega (arith, l .few, pre .headingSpace)) in
     let later = appended-length _ _ _ _ _ b (omega (arith, l .few, pre .headingSpace)) in (
       record {

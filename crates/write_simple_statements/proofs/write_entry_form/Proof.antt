@@ -1,16 +1,14 @@
-use mathlib.Core.Path.{sym, _∙_}
-use native.Mathlib.Omega.{arith}
+use Rattle.kit.specs.Names.{sym, _∙_, arith}
 use Rattle.theory_laws.proofs.Records.{kind-as}
 use Rattle.theory_trees.proofs.ByKind.{key-and-value-below}
 use Rattle.file_accepted.proofs.Nodes.{node-reads}
 use Rattle.write_nodes.proofs.TreeNodes.{room-as, room-left, room-right, room-above-two, numbered-as, numbered-two}
 use Rattle.write_simple_statements.proofs.Nodes.{entry-form, entry-count}
-use Rattle.write_simple_statements.proofs.write_entry_form.Statement.{statement}
-use Rattle.write_simple_statements.proofs.write_entry_form.Tie as tie
+use Rattle.write_simple_statements.proofs.write_entry_form as own
 
-pub write-entry-form-spec : {M : Type 1} → statement M
+pub write-entry-form-spec : {M : Type 1} → own.Statement.statement M
 write-entry-form-spec =
-    tie.close (tie.spec
+    own.Tie.close (own.Tie.spec
     (λ c κs. let (_, (_, (context, _))) = c .before .before .before .pre in (context .narrow, omega (arith, context .long)))
     (λ c. omega (arith, c .before .node-at .ensures .smallArg))
     (λ c κs. let (_, (_, (context, _))) = c .before .before .before .before .before .pre in

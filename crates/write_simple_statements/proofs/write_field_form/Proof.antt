@@ -1,16 +1,14 @@
-use mathlib.Core.Path.{sym, _∙_}
-use native.Mathlib.Omega.{arith}
+use Rattle.kit.specs.Names.{sym, _∙_, arith}
 use Rattle.theory_laws.proofs.Records.{kind-as}
 use Rattle.theory_trees.proofs.ByKind.{value-below}
 use Rattle.file_accepted.proofs.Nodes.{node-reads}
 use Rattle.write_nodes.proofs.TreeNodes.{room-as, room-one, room-above-one, numbered-as, numbered-one}
 use Rattle.write_simple_statements.proofs.Nodes.{field-form, field-count}
-use Rattle.write_simple_statements.proofs.write_field_form.Statement.{statement}
-use Rattle.write_simple_statements.proofs.write_field_form.Tie as tie
+use Rattle.write_simple_statements.proofs.write_field_form as own
 
-pub write-field-form-spec : {M : Type 1} → statement M
+pub write-field-form-spec : {M : Type 1} → own.Statement.statement M
 write-field-form-spec =
-    tie.close (tie.spec
+    own.Tie.close (own.Tie.spec
     (λ c κs. let (_, (_, (context, _))) = c .before .before .before .pre in (context .narrow, omega (arith, context .long)))
     (λ c. omega (arith, c .before .node-at .ensures .smallArg))
     (λ c κs. let (_, (_, (context, _))) = c .before .before .before .before .before .pre in

@@ -1,23 +1,18 @@
-use mathlib.Core.Path.{refl}
-use native.Mathlib.Omega.{arith}
+use Rattle.kit.specs.Names.{refl, arith}
 use Rattle.write_nodes.proofs.TreeNodes.{room-as, room-any, numbered-as, numbered-leaf}
 use Rattle.write_simple_statements.proofs.Places.{placed-supplied, placed-private, counted-private}
-use Rattle.write_simple_statements.proofs.write_placed_form.Statement.{statement}
-use Rattle.write_simple_statements.proofs.write_placed_form.Tie as tie
+use Rattle.write_simple_statements.proofs.write_placed_form as own
 
-pub write-placed-form-spec : {M : Type 1} → statement M
+pub write-placed-form-spec : {M : Type 1} → own.Statement.statement M
 write-placed-form-spec =
-    tie.close (tie.spec
-    (λ c κs. let (n-bound, (context, _)) = c .before .before .before .before .pre in (n-bound, context))
+    own.Tie.close (own.Tie.spec (λ c κs. let (n-bound, (context, _)) = c .before .before .before .before .pre in (n-bound, context))
     (λ c κs. let (_, (_, (_, room))) = c .before .before .before .before .before .before .before .pre in room-any _ _ _ _ room)
     (λ c κs. let start = c .before .before .before .before .before .before .before in let args = start .args in
     let (n-bound, (context, (i-bound, room))) = start .pre in let is-public = c .before .before .is-public .ensures in
-    let if2-left = c .before .if2 .left in
-    let h = counted-private _ _ 0 (args .private) _ is-public if2-left in
+    let if2-left = c .before .if2 .left in let h = counted-private _ _ 0 (args .private) _ is-public if2-left in
     (n-bound, (context, (omega (arith, i-bound), room-as _ _ _ _ _ (placed-private _ _ (args .i) (args .private) _ is-public if2-left) room))))
     (λ c κs. let (n-bound, (context, room)) = c .before .before .before .before .before .pre in
-    (n-bound, (context, rw (c .before .if1 .left) at room)))
-    (λ c. c .before .before .put-leaf .kept .1 .1 .1 .1 .0)
+    (n-bound, (context, rw (c .before .if1 .left) at room))) (λ c. c .before .before .put-leaf .kept .1 .1 .1 .1 .0)
     (λ c. let args = c .before .before .before .before .before .before .before .before .before .before .args in
     let if1-taken = c .before .before .before .before .before .before .if1 .taken in
     let is-public = c .before .before .before .before .before .is-public .ensures in let put-leaf = c .before .before .put-leaf .ensures in

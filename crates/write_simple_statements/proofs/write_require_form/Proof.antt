@@ -1,17 +1,15 @@
-use mathlib.Core.Path.{sym, _∙_}
-use native.Mathlib.Omega.{arith}
+use Rattle.kit.specs.Names.{sym, _∙_, arith}
 use Rattle.theory_laws.proofs.Records.{kind-as}
 use Rattle.theory_trees.proofs.ByKind.{required-below}
 use Rattle.file_accepted.proofs.Nodes.{node-reads}
 use Rattle.write_nodes.proofs.TreeNodes.{room-as, room-one, room-above-one, numbered-as, numbered-one}
 use Rattle.write_simple_statements.proofs.Nodes.{require-form, require-count}
-use Rattle.write_simple_statements.proofs.write_require_form.Statement.{statement}
-use Rattle.write_simple_statements.proofs.write_require_form.Tie as tie
+use Rattle.write_simple_statements.proofs.write_require_form as own
 
-pub write-require-form-spec : {M : Type 1} → statement M
+pub write-require-form-spec : {M : Type 1} → own.Statement.statement M
 write-require-form-spec =
-    tie.close
-    (tie.spec (λ c κs. let (_, (_, (context, _))) = c .before .before .before .pre in (context .narrow, omega (arith, context .long))) (λ c κs. let (kind-at-is, (n-bound, (context, (i-bound, room)))) = c .before .before .before .before .before .pre in
+    own.Tie.close
+    (own.Tie.spec (λ c κs. let (_, (_, (context, _))) = c .before .before .before .pre in (context .narrow, omega (arith, context .long))) (λ c κs. let (kind-at-is, (n-bound, (context, (i-bound, room)))) = c .before .before .before .before .before .pre in
     let node-at-same = c .before .node-at .ensures .same in
     let less = required-below (node-reads _ _ _ context _ n-bound _ node-at-same) (kind-as _ _ 20 (sym node-at-same) kind-at-is) in
     let h = require-count _ _ _ context _ n-bound _ node-at-same (kind-as _ _ 20 (sym node-at-same) kind-at-is) in

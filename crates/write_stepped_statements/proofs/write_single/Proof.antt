@@ -1,19 +1,16 @@
 -- The steps, the form and the sequences, one run behind another.
-use mathlib.Core.Path.{_∙_}
-use native.Mathlib.Omega.{arith}
+use Rattle.kit.specs.Names.{_∙_, arith}
 use Rattle.write_steps.proofs.Nested.{nested-steps-room, nested-rest-room, nested-close-room, numbered-nested}
-use Rattle.write_stepped_statements.proofs.write_single.Statement.{statement}
-use Rattle.write_stepped_statements.proofs.write_single.Tie as tie
+use Rattle.write_stepped_statements.proofs.write_single as own
 
-pub write-single-spec : {M : Type 1} → statement M
+pub write-single-spec : {M : Type 1} → own.Statement.statement M
 write-single-spec =
-    tie.close (tie.spec
+    own.Tie.close (own.Tie.spec
     (λ c κs. let (_, (context, (_, (readable, (roots-room, room))))) = c .before .before .before .before .before .before .before .pre in
     (context, (readable, nested-steps-room _ _ _ _ _ _ room roots-room)))
     (λ c. let (_, (_, (_, (_, (roots-room, room))))) = c .before .before .before .before .before .before .before .before .before .before .before .before .before .before .pre in
     let put-steps = c .before .before .before .before .before .before .put-steps .ensures in
-    let rest = nested-rest-room _ _ _ _ _ _ room roots-room _ _ _ put-steps in
-    omega (arith, rest .numbers))
+    let rest = nested-rest-room _ _ _ _ _ _ room roots-room _ _ _ put-steps in omega (arith, rest .numbers))
     (λ c. let good = c .before .before .before .before .before .before .before .before .before .before .before .before .before .before .good .1 .1 .1 .1 .1 .1 .1 .1 .1 .0 in
     let (_, (_, (_, (_, (roots-room, room))))) = c .before .before .before .before .before .before .before .before .before .before .before .before .before .before .pre in
     let put-steps = c .before .before .before .before .before .before .put-steps in
@@ -21,8 +18,7 @@ write-single-spec =
     omega (arith, rest .bytes, put-steps .kept .1 .1 .1 .1 .1 .1 .1 .1 .0, good))
     (λ c. let (_, (_, (_, (_, (roots-room, room))))) = c .before .before .before .before .before .before .before .before .before .before .before .before .before .before .before .pre in
     let put-steps = c .before .before .before .before .before .before .before .put-steps .ensures in
-    let rest = nested-rest-room _ _ _ _ _ _ room roots-room _ _ _ put-steps in
-    omega (arith, rest .numbers))
+    let rest = nested-rest-room _ _ _ _ _ _ room roots-room _ _ _ put-steps in omega (arith, rest .numbers))
     (λ c κs. let (n-bound, (context, (i-bound, (_, (roots-room, room))))) = c .before .before .before .before .before .before .before .before .before .before .before .before .before .before .before .pre in
     let put-steps = c .before .before .before .before .before .before .before .put-steps .ensures in
     (n-bound, (context, (i-bound, nested-rest-room _ _ _ _ _ _ room roots-room _ _ _ put-steps))))
@@ -41,8 +37,7 @@ write-single-spec =
     (λ c. let (_, (_, (_, (_, (roots-room, room))))) = c .before .before .before .before .before .before .before .before .before .before .before .before .before .before .before .before .before .before .before .before .before .before .pre in
     let put-steps = c .before .before .before .before .before .before .before .before .before .before .before .before .before .before .put-steps .ensures in
     let write-statement-form = c .before .before .before .before .before .before .write-statement-form .ensures in
-    let close = nested-close-room _ _ _ _ _ _ room roots-room _ _ _ put-steps _ _ write-statement-form in
-    omega (arith, close .1 .1 .0))
+    let close = nested-close-room _ _ _ _ _ _ room roots-room _ _ _ put-steps _ _ write-statement-form in omega (arith, close .1 .1 .0))
     (λ c. let good = c .before .before .before .before .before .before .before .before .before .before .before .before .before .before .before .before .before .before .before .before .before .before .good .1 .1 .1 .1 .1 .1 .1 .1 .1 .0 in
     let (_, (_, (_, (_, (roots-room, room))))) = c .before .before .before .before .before .before .before .before .before .before .before .before .before .before .before .before .before .before .before .before .before .before .pre in
     let put-steps = c .before .before .before .before .before .before .before .before .before .before .before .before .before .before .put-steps in
@@ -51,8 +46,7 @@ write-single-spec =
     (λ c. let (_, (_, (_, (_, (roots-room, room))))) = c .before .before .before .before .before .before .before .before .before .before .before .before .before .before .before .before .before .before .before .before .before .before .pre in
     let put-steps = c .before .before .before .before .before .before .before .before .before .before .before .before .before .before .put-steps .ensures in
     let write-statement-form = c .before .before .before .before .before .before .write-statement-form .ensures in
-    let close = nested-close-room _ _ _ _ _ _ room roots-room _ _ _ put-steps _ _ write-statement-form in
-    omega (arith, close .1 .1 .0))
+    let close = nested-close-room _ _ _ _ _ _ room roots-room _ _ _ put-steps _ _ write-statement-form in omega (arith, close .1 .1 .0))
     (λ c. let good = c .before .before .before .before .before .before .before .before .before .before .before .before .before .before .before .before .before .before .before .before .before .before .good .1 .1 .1 .1 .1 .1 .1 .1 .1 .0 in
     let (_, (_, (_, (_, (roots-room, room))))) = c .before .before .before .before .before .before .before .before .before .before .before .before .before .before .before .before .before .before .before .before .before .before .pre in
     let put-steps = c .before .before .before .before .before .before .before .before .before .before .before .before .before .before .put-steps in
@@ -66,8 +60,7 @@ write-single-spec =
     (λ c. let (_, (_, (_, (_, (roots-room, room))))) = c .before .before .before .before .before .before .before .before .before .before .before .before .before .before .before .before .before .before .before .before .before .before .before .before .before .before .pre in
     let put-steps = c .before .before .before .before .before .before .before .before .before .before .before .before .before .before .before .before .before .before .put-steps .ensures in
     let write-statement-form = c .before .before .before .before .before .before .before .before .before .before .write-statement-form .ensures in
-    let close = nested-close-room _ _ _ _ _ _ room roots-room _ _ _ put-steps _ _ write-statement-form in
-    omega (arith, close .1 .1 .0))
+    let close = nested-close-room _ _ _ _ _ _ room roots-room _ _ _ put-steps _ _ write-statement-form in omega (arith, close .1 .1 .0))
     (λ c. let (_, (_, (_, (_, (roots-room, room))))) = c .before .before .before .before .before .before .before .before .before .before .before .before .before .before .before .before .before .before .before .before .before .before .before .before .before .before .before .pre in
     let put-steps = c .before .before .before .before .before .before .before .before .before .before .before .before .before .before .before .before .before .before .before .put-steps .ensures in
     let write-statement-form = c .before .before .before .before .before .before .before .before .before .before .before .write-statement-form .ensures in

@@ -1,12 +1,6 @@
 -- `write_steps::close_steps` meets its contract, by recursion with the count falling.
-use borrow.Author.Needs.{needs}
-use mathlib.Core.Path.{_∙_}
-use native.Mathlib.Omega.{arith}
-use Prim.Native.Nat.{_-_}
+use Rattle.kit.specs.Names.{_∙_, _-_, ℕ, _<_, arith, needs, In, Measures, is, falls, and}
 use Rattle.write_steps.proofs.Closing.{closed-none, closed-next}
-use Prim.Native.Nat.{ℕ, _<_}
-use borrow.Fn.Kinds.{In}
-use borrow.Fn.PlainCycle.{Measures, is, falls, and}
 use Rattle.write_steps.proofs.close_steps.Reads as close-steps
 use Rattle.write_steps.proofs.close_steps.Kinds as close-steps-kinds
 use Rattle.write_steps.proofs.+close_steps.Lts-close_steps as close-steps-lts
@@ -28,14 +22,11 @@ close-steps-claims t = (put-node-reads.Asked, put-node-reads.Learnt, close-steps
 
 pub +close-steps-spec : {M : Type 1} → statement M
 +close-steps-spec =
-    close μ-close-steps
-    (λ t. close-steps-lts.spec (close-steps-claims t) (close-steps-at t) close-steps.Post
-    (λ c. search needs)
+    close μ-close-steps (λ t. close-steps-lts.spec (close-steps-claims t) (close-steps-at t) close-steps.Post (λ c. search needs)
     (λ c. let (_, (count-bound, _)) = c .before .before .before .pre in omega (arith, c .before .before .before .good .0, count-bound))
     (λ c. let (_, (count-bound, _)) = c .before .before .before .before .pre in omega (arith, count-bound))
     (λ c. omega (arith, c .shared-slice-known2 .given (c .before .before .before .before .args .count - 1)))
-    (λ c κs. let (_, (_, (_, out-room))) = c .before .before .before .before .before .pre in omega (arith, out-room))
-    (λ c. search needs)
+    (λ c κs. let (_, (_, (_, out-room))) = c .before .before .before .before .before .pre in omega (arith, out-room)) (λ c. search needs)
     (λ c. let (_, (_, (top-bound, _))) = c .before .before .before .before .before .before .before .before .pre in omega (arith, top-bound))
     (λ c. let (_, (_, (_, out-room))) = c .before .before .before .before .before .before .before .before .before .pre in
     omega (arith, out-room, c .before .before .before .before .before .before .before .before .before .good))

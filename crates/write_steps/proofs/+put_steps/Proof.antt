@@ -1,12 +1,7 @@
 -- `write_steps::put_steps` meets its contract, by recursion with the entries left falling.
-use mathlib.Core.Path.{refl, _∙_}
-use native.Mathlib.Omega.{arith}
-use Prim.Native.Nat.{_+_}
+use Rattle.kit.specs.Names.{refl, _∙_, _+_, ℕ, _<_, arith, In, Measures, is, falls, and}
 use Rattle.write_steps.proofs.Entries.{steps-none, steps-read, steps-other, readable-next, readable-inside, readable-few}
 use Rattle.write_steps.proofs.Turns.{room-same, put-same, put-none, room-step, room-root, root-fits, room-steps, put-first}
-use Prim.Native.Nat.{ℕ, _<_}
-use borrow.Fn.Kinds.{In}
-use borrow.Fn.PlainCycle.{Measures, is, falls, and}
 use Rattle.write_steps.proofs.put_steps.Reads as put-steps
 use Rattle.write_steps.proofs.put_steps.Kinds as put-steps-kinds
 use Rattle.write_steps.proofs.+put_steps.Lts-put_steps as put-steps-lts
@@ -29,13 +24,10 @@ put-steps-claims t = (put-step-reads.Asked, put-step-reads.Learnt, put-number-re
 
 pub +put-steps-spec : {M : Type 1} → statement M
 +put-steps-spec =
-    close μ-put-steps
-    (λ t. put-steps-lts.spec (put-steps-claims t) (put-steps-at t) put-steps.Post
-    (λ c. let (_, (_, (readable, _))) = c .before .before .before .before .before .before .pre in
-    let some = c .if1 .left in
+    close μ-put-steps (λ t. put-steps-lts.spec (put-steps-claims t) (put-steps-at t) put-steps.Post
+    (λ c. let (_, (_, (readable, _))) = c .before .before .before .before .before .before .pre in let some = c .if1 .left in
     omega (arith, c .before .before .before .before .before .before .good .1 .1 .1 .0, readable .space))
-    (λ c. let (_, (_, (readable, _))) = c .before .before .before .before .before .before .before .pre in
-    let some = c .before .if1 .left in
+    (λ c. let (_, (_, (readable, _))) = c .before .before .before .before .before .before .before .pre in let some = c .before .if1 .left in
     omega (arith, readable .space))
     (λ c. let (_, (_, (readable, _))) = c .before .before .before .before .before .before .before .before .pre in
     let some = c .before .before .if1 .left in
@@ -44,32 +36,25 @@ pub +put-steps-spec : {M : Type 1} → statement M
     let some = c .before .before .if1 .left in
     omega (arith, c .before .before .before .before .before .before .before .before .good .1 .1 .1 .0, readable .space))
     (λ c. let (_, (_, (readable, _))) = c .before .before .before .before .before .before .before .before .before .pre in
-    let some = c .before .before .before .if1 .left in
-    omega (arith, readable .space))
+    let some = c .before .before .before .if1 .left in omega (arith, readable .space))
     (λ c. omega (arith, c .shared-slice-known5 .given (c .before .before .before .before .before .before .before .before .before .args .from + 1)))
     (λ c. let good = c .before .before .before .before .before .before .before .before .before .good .1 .1 .1 .0 in
     let (_, (_, (readable, _))) = c .before .before .before .before .before .before .before .before .before .pre in
-    let some = c .before .before .before .if1 .left in
-    omega (arith, good, readable .space))
+    let some = c .before .before .before .if1 .left in omega (arith, good, readable .space))
     (λ c. let good = c .before .before .before .before .before .before .before .before .before .good .1 .1 .1 .0 in
     let (_, (_, (readable, _))) = c .before .before .before .before .before .before .before .before .before .pre in
-    let some = c .before .before .before .if1 .left in
-    omega (arith, good, readable .space))
+    let some = c .before .before .before .if1 .left in omega (arith, good, readable .space))
     (λ c. let (_, (_, (readable, _))) = c .before .before .before .before .before .before .before .before .before .before .pre in
-    let some = c .before .before .before .before .if1 .left in
-    omega (arith, readable .space))
+    let some = c .before .before .before .before .if1 .left in omega (arith, readable .space))
     (λ c. omega (arith, c .shared-slice-known6 .given (c .before .before .before .before .before .before .before .before .before .before .args .from + 3)))
     (λ c. let good = c .before .before .before .before .before .before .before .before .before .before .good .1 .1 .1 .0 in
     let (_, (_, (readable, _))) = c .before .before .before .before .before .before .before .before .before .before .pre in
-    let some = c .before .before .before .before .if1 .left in
-    omega (arith, good, readable .space))
+    let some = c .before .before .before .before .if1 .left in omega (arith, good, readable .space))
     (λ c. let good = c .before .before .before .before .before .before .before .before .before .before .good .1 .1 .1 .0 in
     let (_, (_, (readable, _))) = c .before .before .before .before .before .before .before .before .before .before .pre in
-    let some = c .before .before .before .before .if1 .left in
-    omega (arith, good, readable .space))
+    let some = c .before .before .before .before .if1 .left in omega (arith, good, readable .space))
     (λ c. let (_, (_, (readable, _))) = c .before .before .before .before .before .before .before .before .before .before .before .pre in
-    let some = c .before .before .before .before .before .if1 .left in
-    omega (arith, readable .space))
+    let some = c .before .before .before .before .before .if1 .left in omega (arith, readable .space))
     (λ c. omega (arith, c .shared-slice-known7 .given (c .before .before .before .before .before .before .before .before .before .before .before .args .from + 4)))
     (λ c κs. let (_, (context, (readable, steps-room))) = c .before .before .before .before .before .before .before .before .before .before .before .before .pre in
     let if1-left = c .before .before .before .before .before .before .if1 .left in
@@ -97,8 +82,7 @@ pub +put-steps-spec : {M : Type 1} → statement M
     (λ c. let good = c .before .before .before .before .before .before .before .before .before .before .before .before .before .before .before .before .before .before .before .good .1 .1 .1 .0 in
     let (_, (_, (readable, _))) = c .before .before .before .before .before .before .before .before .before .before .before .before .before .before .before .before .before .before .before .pre in
     let if1-left = c .before .before .before .before .before .before .before .before .before .before .before .before .before .if1 .left in
-    let some = if1-left in
-    omega (arith, good, readable .space))
+    let some = if1-left in omega (arith, good, readable .space))
     (λ c. let some = c .before .before .before .before .before .before .before .before .before .before .before .before .before .if1 .left in
     omega arith)
     (λ c. let good = c .before .before .before .before .before .before .before .before .before .before .before .before .before .before .before .before .before .before .before .before .good .1 .1 .1 .1 .1 .1 .0 in
@@ -130,8 +114,7 @@ pub +put-steps-spec : {M : Type 1} → statement M
     (λ c κs. let (_, (context, (readable, steps-room))) = c .before .before .before .before .before .before .before .before .before .before .before .before .before .before .before .before .before .before .before .before .before .pre in
     let if1-left = c .before .before .before .before .before .before .before .before .before .before .before .before .before .before .before .if1 .left in
     let if2-taken = c .before .before .before .before .before .before .before .before .before .before .before .before .before .if2 .taken in
-    let put-step = c .before .before .before .before .before .before .before .before .put-step .ensures in
-    let some = if1-left in
+    let put-step = c .before .before .before .before .before .before .before .before .put-step .ensures in let some = if1-left in
     (omega arith, (context, ((readable-next _ _ _ _ _ if1-left readable), room-steps _ _ _ _ _ _ _ (room-same _ _ _ _ _ _ _ (steps-read _ _ _ _ _ if1-left if2-taken) steps-room) _ _ put-step _ (c .before .before .before .before .put-number .ensures)))))
     (λ c. let good = c .before .before .before .before .before .before .before .before .before .before .before .before .before .before .before .before .before .before .before .before .before .before .before .before .before .before .before .good .1 .1 .1 .1 .1 .1 .0 in
     let (_, (_, (_, steps-room))) = c .before .before .before .before .before .before .before .before .before .before .before .before .before .before .before .before .before .before .before .before .before .before .before .before .before .before .before .pre in
@@ -153,11 +136,9 @@ pub +put-steps-spec : {M : Type 1} → statement M
     (λ c. let (_, (_, (readable, _))) = c .before .before .before .before .before .before .before .before .pre in
     let some = c .before .before .if1 .left in
     omega (arith, c .before .before .before .before .before .before .before .before .good .1 .1 .1 .0, readable .space))
-    (λ c. let some = c .before .before .if1 .left in
-    omega arith)
+    (λ c. let some = c .before .before .if1 .left in omega arith)
     (λ c κs. let (_, (context, (readable, steps-room))) = c .before .before .before .before .before .before .before .before .before .before .pre in
-    let if1-left = c .before .before .before .before .if1 .left in
-    let some = if1-left in
+    let if1-left = c .before .before .before .before .if1 .left in let some = if1-left in
     (omega arith, (context, ((readable-next _ _ _ _ _ if1-left readable), room-same _ _ _ _ _ _ _ (steps-other _ _ _ _ _ if1-left (c .before .before .if2 .left)) steps-room))))
     (λ c. put-same _ _ _ _ _ _ _ _ _ _ (steps-none _ _ _ _ _ (c .if1 .taken)) (put-none _ _ _ _ _))
     (λ c. c .before .before .before .before .before .before .put-steps .kept .1 .1 .1 .1 .1 .1 .0 ∙ c .before .before .before .before .before .before .before .before .before .before .before .put-number .kept .0)

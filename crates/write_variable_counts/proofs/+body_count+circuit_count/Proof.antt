@@ -1,14 +1,9 @@
 -- The two counts meet their contracts, as a cycle: around it the node number falls, or a body's count asks for the same node's circuit.
-use mathlib.Core.Path.{sym, _∙_}
-use Prim.Native.Nat.{_+_, _*_}
-use native.Mathlib.Omega.{arith}
+use Rattle.kit.specs.Names.{sym, _∙_, _+_, _*_, ℕ, _<_, arith, In, Measures, is, falls, and}
 use Rattle.file_accepted.specs.Context.{scopeIn}
 use Rattle.theory_trees.proofs.ByKind.{constant-is, field-is, entry-is, parameter-is, operator-is, negation-is, reveal-is, other-is, key-below, part-below, revealed-below, operands-below}
 use Rattle.file_accepted.proofs.Nodes.{node-reads}
 use Rattle.write_variable_counts.proofs.Steps.{body-constant, body-me, body-field, body-parameter, body-entry, body-operator, body-supplied-operator, body-negation, body-supplied-negation, body-reveal, circuit-constant, circuit-me, circuit-field, circuit-parameter, circuit-entry, circuit-division, circuit-operator, circuit-negation, circuit-reveal}
-use Prim.Native.Nat.{ℕ, _<_}
-use borrow.Fn.Kinds.{In}
-use borrow.Fn.PlainCycle.{Measures, is, falls, and}
 use Rattle.write_variable_counts.proofs.body_count.Reads as body-count
 use Rattle.write_variable_counts.proofs.body_count.Kinds as body-count-kinds
 use Rattle.write_variable_counts.proofs.+body_count+circuit_count.Lts-body_count as body-count-lts
@@ -47,8 +42,7 @@ circuit-count-claims t = (node-at-reads.Asked, node-at-reads.Learnt, body-count-
 
 pub +body-count+circuit-count-spec : {M : Type 1} → statement M
 +body-count+circuit-count-spec =
-    close μ-body-count μ-circuit-count
-    (λ t. body-count-lts.spec (body-count-claims t) (body-count-at t) body-count.Post
+    close μ-body-count μ-circuit-count (λ t. body-count-lts.spec (body-count-claims t) (body-count-at t) body-count.Post
     (λ c κs. let (_, (_, (context, _))) = c .before .before .pre in (context .narrow, omega (arith, context .long)))
     (λ c κs. let start = c .before .before .before .before in let args = start .args in let (_, (n-bound, (context, _))) = start .pre in
     let node-at-same = c .before .node-at .ensures .same in
@@ -119,8 +113,7 @@ pub +body-count+circuit-count-spec : {M : Type 1} → statement M
     omega (arith, c .circuit-count2 .ensures))
     (λ c. let start = c .before .before .before .before .before in let args = start .args in let (_, (n-bound, (context, _))) = start .pre in
     let h = body-reveal (scopeIn (args .file .now) (args .function-at)) _ _ _ (reveal-is (node-reads _ _ _ context _ n-bound _ (c .before .before .node-at .ensures .same)) (c .before .match .keys7)) in
-    omega (arith, c .circuit-count3 .ensures))
-    (λ c. let (_, (n-bound, (context, _))) = c .before .before .before .before .pre in
+    omega (arith, c .circuit-count3 .ensures)) (λ c. let (_, (n-bound, (context, _))) = c .before .before .before .before .pre in
     let u = c .match .rest in
     body-me _ _ (other-is (node-reads _ _ _ context _ n-bound _ (c .before .node-at .ensures .same)) (record { constant = u .0 .0 .0 .0 .0 .0 .1; field = u .0 .0 .0 .0 .0 .1; entry = u .0 .0 .0 .0 .1; parameter = u .0 .0 .0 .1; operator = u .0 .0 .1; negation = u .0 .1; reveal = u .1 }))))
     (λ t. circuit-count-lts.spec (circuit-count-claims t) (circuit-count-at t) circuit-count.Post
@@ -179,15 +172,13 @@ pub +body-count+circuit-count-spec : {M : Type 1} → statement M
     let node-at-same = c .before .node-at .ensures .same in
     let less = revealed-below (node-reads _ _ _ context _ n-bound _ node-at-same) (c .match .keys7) in
     let h = circuit-reveal (scopeIn (args .file .now) (args .function-at)) _ _ _ (reveal-is (node-reads _ _ _ context _ n-bound _ node-at-same) (c .match .keys7)) in
-    (omega arith, (omega arith, (context, omega arith))))
-    (λ c. let (_, (n-bound, (context, _))) = c .before .before .before .before .pre in
+    (omega arith, (omega arith, (context, omega arith)))) (λ c. let (_, (n-bound, (context, _))) = c .before .before .before .before .pre in
     circuit-constant _ _ _ _ (constant-is (node-reads _ _ _ context _ n-bound _ (c .before .node-at .ensures .same)) (c .match .keys1)))
     (λ c. let (_, (n-bound, (context, _))) = c .before .before .before .before .pre in
     circuit-field _ _ _ (field-is (node-reads _ _ _ context _ n-bound _ (c .before .node-at .ensures .same)) (c .match .keys2)))
     (λ c. let start = c .before .before .before .before .before in let args = start .args in let (_, (n-bound, (context, _))) = start .pre in
     let h = circuit-entry (scopeIn (args .file .now) (args .function-at)) _ _ _ (entry-is (node-reads _ _ _ context _ n-bound _ (c .before .before .node-at .ensures .same)) (c .before .match .keys3)) in
-    omega (arith, c .body-count .ensures))
-    (λ c. let (_, (n-bound, (context, _))) = c .before .before .before .before .pre in
+    omega (arith, c .body-count .ensures)) (λ c. let (_, (n-bound, (context, _))) = c .before .before .before .before .pre in
     circuit-parameter _ _ _ (parameter-is (node-reads _ _ _ context _ n-bound _ (c .before .node-at .ensures .same)) (c .match .keys4)))
     (λ c. let start = c .before .before .before .before .before .before .before .before in let args = start .args in
     let (_, (n-bound, (context, _))) = start .pre in let node-at-same = c .before .before .before .before .before .node-at .ensures .same in
@@ -201,6 +192,5 @@ pub +body-count+circuit-count-spec : {M : Type 1} → statement M
     c .circuit-count3 .ensures ∙ circuit-negation _ _ _ (negation-is (node-reads _ _ _ context _ n-bound _ (c .before .before .node-at .ensures .same)) (c .before .match .keys6)))
     (λ c. let (_, (n-bound, (context, _))) = c .before .before .before .before .before .pre in
     c .circuit-count4 .ensures ∙ circuit-reveal _ _ _ _ (reveal-is (node-reads _ _ _ context _ n-bound _ (c .before .before .node-at .ensures .same)) (c .before .match .keys7)))
-    (λ c. let (_, (n-bound, (context, _))) = c .before .before .before .before .pre in
-    let u = c .match .rest in
+    (λ c. let (_, (n-bound, (context, _))) = c .before .before .before .before .pre in let u = c .match .rest in
     circuit-me _ _ (other-is (node-reads _ _ _ context _ n-bound _ (c .before .node-at .ensures .same)) (record { constant = u .0 .0 .0 .0 .0 .0 .1; field = u .0 .0 .0 .0 .0 .1; entry = u .0 .0 .0 .0 .1; parameter = u .0 .0 .0 .1; operator = u .0 .0 .1; negation = u .0 .1; reveal = u .1 }))))

@@ -1,13 +1,11 @@
 -- A supplied cell has a key.
 use Rattle.write_variables.proofs.Keys.{other-taken, plain-taken, cell-room, cell-taken}
-use borrow.Author.Needs.{needs}
-use Rattle.write_variables.proofs.append_key.Statement.{statement}
-use Rattle.write_variables.proofs.append_key.Tie as tie
+use Rattle.kit.specs.Names.{needs}
+use Rattle.write_variables.proofs.append_key as own
 
-pub append-key-spec : {M : Type 1} → statement M
+pub append-key-spec : {M : Type 1} → own.Statement.statement M
 append-key-spec =
-    tie.close (tie.spec
-    (λ c. search needs)
+    own.Tie.close (own.Tie.spec (λ c. search needs)
     (λ c κs. let start = c .before .before .before .before .before .before in let args = start .args in let (_, out-room) = start .pre in
     (search needs, cell-room (args .table .now) (args .tag) (args .owner) (c .before .before .before .if1 .taken) (c .before .before .if2 .left) _ _ out-room))
     (λ c. let args = c .before .before .before .before .args in

@@ -1,30 +1,23 @@
 -- The loop's invariant: the keys of the entries passed are appended and marked, and those of the entries left are left.
-use mathlib.Core.Path.{_≡_, refl}
-use mathlib.Core.List.{[]}
-use Prim.Native.Nat.{_-_, _≤_}
-use native.Mathlib.Omega.{arith}
-use lib.ListN.{length, drop}
-use borrow.Author.Needs.{needs}
+use Rattle.kit.specs.Names.{_≡_, refl, [], _-_, _≤_, arith, length, drop, needs}
 use Rattle.definitions.specs.Rewriting.{eachOnce}
 use Rattle.memory_append.specs.Append.{Appending}
 use Rattle.write_variables.specs.PerEntry.{perEntry}
 use Rattle.write_variables.specs.Variables.{keyCode, onceUnseen, seenIn}
 use Rattle.write_variables.proofs.Keys.{keys-start, key-room, key-appended, keys-done}
-use Rattle.write_variables.proofs.append_keys.Statement.{statement}
-use Rattle.write_variables.proofs.append_keys.Tie as tie
+use Rattle.write_variables.proofs.append_keys as own
 
-abbrev Inv-loop : tie.InvT-loop
+abbrev Inv-loop : own.Tie.InvT-loop
 Inv-loop log out₀ from table₀ at₀ i₀ out table at i =
     (Appending out₀ out from at (eachOnce [] (perEntry keyCode log)) (onceUnseen (seenIn table) (perEntry keyCode (drop i log)))) × (i ≤ length log)
     × (length out ≡ length out₀) × (length table ≡ 256)
 
-abbrev μ-loop : tie.MeasureT-loop
+abbrev μ-loop : own.Tie.MeasureT-loop
 μ-loop log out₀ from table₀ at₀ i₀ out table at i = length log - i
 
-pub append-keys-spec : {M : Type 1} → statement M
+pub append-keys-spec : {M : Type 1} → own.Statement.statement M
 append-keys-spec =
-    tie.close (tie.spec Inv-loop μ-loop
-    (λ c. let args = c .before .before .args in
+    own.Tie.close (own.Tie.spec Inv-loop μ-loop (λ c. let args = c .before .before .args in
     (keys-start (args .log .now) (args .out .now) (args .from) (c .before .before .pre), omega arith, refl, refl))
     (λ c. search needs) (λ c. search needs) (λ c. search needs) (λ c. search needs) (λ c. search needs) (λ c. search needs)
     (λ c. search needs)

@@ -1,24 +1,18 @@
 -- The loop's invariant: those counted and those left are all.
-use mathlib.Core.Path.{_≡_}
-use Prim.Native.Nat.{_+_, _-_, _≤_}
-use native.Mathlib.Omega.{arith}
-use lib.ListN.{length, drop}
-use borrow.Author.Needs.{needs}
+use Rattle.kit.specs.Names.{_≡_, _+_, _-_, _≤_, arith, length, drop, needs}
 use Rattle.write_variables.specs.PerEntry.{perEntry, ofTag, countTag}
 use Rattle.write_variables.proofs.PerEntry.{count-next, count-done}
-use Rattle.write_variables.proofs.count_tag.Statement.{statement}
-use Rattle.write_variables.proofs.count_tag.Tie as tie
+use Rattle.write_variables.proofs.count_tag as own
 
-abbrev Inv-loop : tie.InvT-loop
+abbrev Inv-loop : own.Tie.InvT-loop
 Inv-loop log tag count₀ i₀ count i = (count + length (perEntry (ofTag tag) (drop i log)) ≡ countTag tag log) × (i ≤ length log) × (count ≤ i)
 
-abbrev μ-loop : tie.MeasureT-loop
+abbrev μ-loop : own.Tie.MeasureT-loop
 μ-loop log tag count₀ i₀ count i = length log - i
 
-pub count-tag-spec : {M : Type 1} → statement M
+pub count-tag-spec : {M : Type 1} → own.Statement.statement M
 count-tag-spec =
-    tie.close (tie.spec Inv-loop μ-loop
-    (λ c. (omega arith, omega arith, omega arith))
+    own.Tie.close (own.Tie.spec Inv-loop μ-loop (λ c. (omega arith, omega arith, omega arith))
     (λ c. search needs) (λ c. search needs) (λ c. search needs) (λ c κs. search needs) (λ c. search needs) (λ c. search needs)
     (λ c. search needs)
     (λ c. let args = c .before .before .before .before .before .args in let (count-is, _, _) = c .before .before .before .loop .inv in

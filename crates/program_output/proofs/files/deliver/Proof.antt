@@ -1,16 +1,12 @@
 -- What is kept is all of the bytes or none.
-use native.Mathlib.Omega.{arith}
-use lib.ListN.{length}
+use Rattle.kit.specs.Names.{arith, length, needs}
 use Rattle.program_output.proofs.Within.{kept-within}
-use borrow.Author.Needs.{needs}
-use Rattle.program_output.proofs.files.deliver.Statement.{statement}
-use Rattle.program_output.proofs.files.deliver.Tie as tie
+use Rattle.program_output.proofs.files.deliver as own
 
-pub deliver-spec : {M : Type 1} → statement M
+pub deliver-spec : {M : Type 1} → own.Statement.statement M
 deliver-spec =
-    tie.close (tie.spec
+    own.Tie.close (own.Tie.spec
     (λ c κs. search needs) (λ c κs. search needs) (λ c. search needs) (λ c κs. search needs) (λ c. search needs) (λ c κs. search needs)
     (λ c κs. search needs) (λ c. search needs) (λ c. search needs) (λ c κs. search needs) (λ c. search needs) (λ c. search needs)
-    (λ c. search needs) (λ c κs. search needs)
-    (λ c. let kept = c .write-file in
+    (λ c. search needs) (λ c κs. search needs) (λ c. let kept = c .write-file in
     omega (arith, kept .ensures, kept-within (kept .result .whole) (length (c .before .before .before .before .before .before .before .before .before .before .before .before .args .bytes .now)))))

@@ -1,14 +1,10 @@
 -- The new name is as long as counted.
-use native.Mathlib.Omega.{arith}
-use lib.ListN.{length-take}
-use borrow.Author.Needs.{needs}
-use Rattle.program_output.proofs.files.write_file.Statement.{statement}
-use Rattle.program_output.proofs.files.write_file.Tie as tie
+use Rattle.kit.specs.Names.{arith, length-take, needs}
+use Rattle.program_output.proofs.files.write_file as own
 
-pub write-file-spec : {M : Type 1} → statement M
+pub write-file-spec : {M : Type 1} → own.Statement.statement M
 write-file-spec =
-    tie.close (tie.spec
+    own.Tie.close (own.Tie.spec
     (λ c κs. search needs) (λ c. search needs) (λ c κs. search needs) (λ c. search needs) (λ c. search needs) (λ c κs. search needs)
-    (λ c. search needs) (λ c. search needs) (λ c κs. search needs) (λ c. search needs)
-    (λ c. simp length-take (omega arith))
+    (λ c. search needs) (λ c. search needs) (λ c κs. search needs) (λ c. search needs) (λ c. simp length-take (omega arith))
     (λ c κs. search needs) (λ c. search needs) (λ c. search needs))

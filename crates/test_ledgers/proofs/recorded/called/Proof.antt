@@ -1,19 +1,14 @@
 -- The call is read, made, and its number compared.
-use native.Mathlib.Omega.{arith}
-use lib.ListN.{length-take}
+use Rattle.kit.specs.Names.{arith, length-take, needs}
 use Rattle.test_ledgers.proofs.Reading.{called-is}
-use borrow.Author.Needs.{needs}
-use Rattle.test_ledgers.proofs.recorded.called.Statement.{statement}
-use Rattle.test_ledgers.proofs.recorded.called.Tie as tie
+use Rattle.test_ledgers.proofs.recorded.called as own
 
-pub called-spec : {M : Type 1} → statement M
+pub called-spec : {M : Type 1} → own.Statement.statement M
 called-spec =
-    tie.close (tie.spec
-    (λ c κs. search needs) (λ c κs. search needs) (λ c. search needs)
+    own.Tie.close (own.Tie.spec (λ c κs. search needs) (λ c κs. search needs) (λ c. search needs)
     (λ c. let recorded = c .before .before .before .read-call .ensures in simp length-take (omega (arith, recorded .room, recorded .few)))
     (λ c κs. search needs) (λ c κs. search needs) (λ c. search needs) (λ c. search needs) (λ c. search needs) (λ c. search needs)
-    (λ c κs. search needs)
-    (λ c. let call = c .before .before .before .before .before .before .before in
+    (λ c κs. search needs) (λ c. let call = c .before .before .before .before .before .before .before in
     let read = call .before .before .before .before in
     called-is _ _ (read .before .before .before .args .run) (read .read-call .result) (call .call .result) _ _
     (read .before .part .ensures) (read .read-call .ensures)

@@ -1,18 +1,13 @@
 -- The parts of a call are read one after another.
-use mathlib.Core.Path.{refl, ap, _∙_}
-use Prim.Native.Nat.{ℕ}
+use Rattle.kit.specs.Names.{refl, ap, _∙_, ℕ, needs}
 use Rattle.rehearse_scripts.specs.Scripts.{numbersAt}
-use borrow.Author.Needs.{needs}
-use Rattle.test_ledgers.proofs.recorded.read_call.Statement.{statement}
-use Rattle.test_ledgers.proofs.recorded.read_call.Tie as tie
+use Rattle.test_ledgers.proofs.recorded.read_call as own
 
-pub read-call-spec : {M : Type 1} → statement M
+pub read-call-spec : {M : Type 1} → own.Statement.statement M
 read-call-spec =
-    tie.close (tie.spec
+    own.Tie.close (own.Tie.spec
     (λ c κs. search needs) (λ c κs. search needs) (λ c κs. search needs) (λ c κs. search needs) (λ c. search needs) (λ c. search needs)
-    (λ c. search needs) (λ c. search needs)
-    (λ c. let count = c .before .byte-at3 .ensures in let made = c .arguments .ensures in
-    record {
+    (λ c. search needs) (λ c. search needs) (λ c. let count = c .before .byte-at3 .ensures in let made = c .arguments .ensures in record {
       function = c .before .before .before .byte-at .ensures .0;
       caller = c .before .before .byte-at2 .ensures .0;
       counted = count .0;

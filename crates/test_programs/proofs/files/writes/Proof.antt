@@ -1,15 +1,11 @@
 -- Each room agrees where all do.
-use mathlib.Core.Path.{sym, _∙_}
-use native.Mathlib.Omega.{arith}
-use borrow.Author.Needs.{needs}
-use borrow.Author.Tests.{not-true, not-false}
+use Rattle.kit.specs.Names.{sym, _∙_, arith, not-true, not-false, needs}
 use Rattle.test_programs.proofs.FileRecords.{too-long, enough, one-less}
-use Rattle.test_programs.proofs.files.writes.Statement.{statement}
-use Rattle.test_programs.proofs.files.writes.Tie as tie
+use Rattle.test_programs.proofs.files.writes as own
 
-pub writes-spec : {M : Type 1} → statement M
+pub writes-spec : {M : Type 1} → own.Statement.statement M
 writes-spec =
-    tie.close (tie.spec
+    own.Tie.close (own.Tie.spec
     (λ c. let all = c .before .before .before .before .args in too-long (all .file .now) (all .written .now) (all .number) (search needs))
     (λ c κs. search needs) (λ c. search needs)
     (λ c. let all = c .before .before .before .before .before .before .before .before .before .args in

@@ -1,12 +1,11 @@
 -- Each part begins behind its length, which stands where the part before it ends.
-use borrow.Author.Needs.{needs}
+use Rattle.kit.specs.Names.{needs}
 use Rattle.test_programs.proofs.ProgramRecords.{record-is}
-use Rattle.test_programs.proofs.programs.read_record.Statement.{statement}
-use Rattle.test_programs.proofs.programs.read_record.Tie as tie
+use Rattle.test_programs.proofs.programs.read_record as own
 
-pub read-record-spec : {M : Type 1} → statement M
+pub read-record-spec : {M : Type 1} → own.Statement.statement M
 read-record-spec =
-    tie.close (tie.spec
+    own.Tie.close (own.Tie.spec
     (λ c κs. search needs) (λ c. search needs) (λ c. search needs) (λ c κs. search needs) (λ c. search needs) (λ c. search needs)
     (λ c κs. search needs) (λ c. search needs) (λ c. search needs) (λ c. search needs) (λ c κs. search needs) (λ c. search needs) (λ c. search needs)
     (λ c. (
