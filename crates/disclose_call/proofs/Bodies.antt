@@ -47,14 +47,14 @@ module _ (file : List ℕ) (at caller : ℕ) (arguments numbers : List ℕ) (par
         ap (λ (address : Name → ℕ). disclosedBy (fieldsIn file) address arguments party numbers (statementIn (nodesIn file) (rootAt file at))) (put .addresses)
 
     pub body-ready : (source : List ℕ) (asked : Asked) (root : ℕ) → Source file source → asked .«function_at» ≡ at → asked .caller ≡ caller → asked .party ≡ party
-        → root ≡ rootAt file at → StatementReady file arguments addresses numbers source asked root values 0
-    body-ready source asked root held begins called told first =
+        → asked .at ≡ 0 → root ≡ rootAt file at → StatementReady file arguments addresses numbers source asked root values
+    body-ready source asked root held begins called told start first =
         rw first
         (record {
           inside = ready .root;
           context = rw begins (context-with file at source (ready .context) held);
           called = ap (λ (address : Name → ℕ). address meName) (put .addresses) ∙ sym called;
-          room = rw (told, body-is) (omega (arith, ready .room));
+          room = rw (told, start, body-is) (omega (arith, ready .room));
         })
 
     pub body-disclosed : (numbers′ after : List ℕ) (root : ℕ) (r : Told) → root ≡ rootAt file at

@@ -58,6 +58,7 @@ fn disclose_body(
         function_at: function_at,
         caller: question.caller,
         party: question.party,
+        at: 0,
     };
     let root = root_at(file, function_at);
     let told = disclose_statement(
@@ -69,7 +70,6 @@ fn disclose_body(
         &addresses[..],
         root,
         values,
-        0,
     );
     told.at
 }

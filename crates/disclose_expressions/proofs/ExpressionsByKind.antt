@@ -18,6 +18,10 @@ use Rattle.disclose_expressions.specs.declared.Told.{Told}
 use Rattle.disclose_expressions.specs.Expressions.{valueIn, isWorkedOutIn, disclosedIn, ExpressionReady, ExpressionDisclosed}
 use Rattle.disclose_expressions.proofs.InTurn.{same-appended, appended-stopped, appended-both, room-first, room-second}
 
+-- The same is asked, and the next value goes elsewhere.
+abbrev pub askedAt : Asked → ℕ → Asked
+askedAt asked place = record { «function_at» = asked .«function_at»; caller = asked .caller; party = asked .party; at = place }
+
 module _ (file arguments addresses numbers : List ℕ) where
   -- Of all addresses the value of an expression asks the caller's alone.
   pub value-here : (caller v : ℕ) (e : Expression) → addressFrom addresses meName ≡ caller → v ≡ valueOf file arguments caller numbers e
@@ -26,10 +30,10 @@ module _ (file arguments addresses numbers : List ℕ) where
   value-here caller v e same worked = worked ∙ sym (value-is file (addressFrom addresses) arguments caller same numbers e)
 
   -- A part of a node that can be worked out can be too.
-  pub ready-part : (source : List ℕ) (asked : Asked) (n m : ℕ) (out held : List ℕ) (at place : ℕ) → ExpressionReady file arguments addresses numbers source asked n out at → m < n
+  pub ready-part : (source : List ℕ) (asked : Asked) (n m : ℕ) (out held : List ℕ) (place : ℕ) → ExpressionReady file arguments addresses numbers source asked n out → m < n
       → place + length (disclosedIn file arguments addresses numbers (asked .party) (expressionIn (nodesIn file) m)) ≤ length held
-      → ExpressionReady file arguments addresses numbers source asked m held place
-  ready-part source asked n m out held at place ready less room =
+      → ExpressionReady file arguments addresses numbers source (askedAt asked place) m held
+  ready-part source asked n m out held place ready less room =
       record { inside = omega (arith, ready .inside); context = ready .context; called = ready .called; room = room }
 
   module _ (party : ℕ) where

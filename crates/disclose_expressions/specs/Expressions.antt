@@ -20,11 +20,11 @@ module _ (file arguments addresses numbers : List ℕ) where
   disclosedIn party e = disclosed (fieldsIn file) (addressFrom addresses) arguments party numbers e
 
   -- Node n can be worked out, and there is room for what it discloses.
-  pub record ExpressionReady (source : List ℕ) (asked : Asked) (n : ℕ) (out : List ℕ) (at : ℕ) : Type 0 where
+  pub record ExpressionReady (source : List ℕ) (asked : Asked) (n : ℕ) (out : List ℕ) : Type 0 where
     pub inside : n < nodeCount file
     pub context : Context file (asked .«function_at») source
     pub called : addressFrom addresses meName ≡ asked .caller
-    pub room : at + length (disclosedIn (asked .party) (expressionIn (nodesIn file) n)) ≤ length out
+    pub room : asked .at + length (disclosedIn (asked .party) (expressionIn (nodesIn file) n)) ≤ length out
 
   pub record ExpressionDisclosed (party : ℕ) (e : Expression) (before after : List ℕ) (at : ℕ) (r : Told) : Type 0 where
     pub values : Appended before after at (disclosedIn party e) (r .at)

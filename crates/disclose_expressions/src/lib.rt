@@ -16,11 +16,12 @@ ghost use Rattle.file_accepted.specs.Context.{Context, nodesIn};
 ghost use Rattle.honest_values.specs.Values.{kindAt, valueOf};
 ghost use Rattle.disclose_expressions.specs.Expressions.{ExpressionReady, ExpressionDisclosed};
 
-// Which function is worked out, for which caller, and the party that is told.
+// Which function is worked out, for which caller, the party that is told, and where the next value goes.
 pub struct Asked {
     pub function_at: usize,
     pub caller: u8,
     pub party: u8,
+    pub at: usize,
 }
 
 // The place behind the disclosed values, and whether all was worked out to its end.
@@ -72,11 +73,10 @@ pub fn disclose_expression(
     addresses: &[u32],
     n: usize,
     out: &mut [u32],
-    at: usize,
 ) -> Told
-    requires { ⌜ ExpressionReady (now file) (now arguments) (now addresses) (now numbers) (now source) who n (now out) at ⌝ }
+    requires { ⌜ ExpressionReady (now file) (now arguments) (now addresses) (now numbers) (now source) who n (now out) ⌝ }
     ensures { λ r. ⌜ ExpressionDisclosed (now (file .entry)) (now (arguments .entry)) (now (addresses .entry)) (now (numbers .entry))
-        (who .party) (expressionIn (nodesIn (now (file .entry))) n) (now (out .entry)) (now (out .exit)) at r ⌝ }
+        (who .party) (expressionIn (nodesIn (now (file .entry))) n) (now (out .entry)) (now (out .exit)) (who .at) r ⌝ }
 {
     let node = node_at(source, n);
     let kind = node.kind;
@@ -90,9 +90,8 @@ pub fn disclose_expression(
             addresses,
             node.first,
             out,
-            at,
         ),
-        OPERATOR => disclose_operator(file, source, who, numbers, arguments, addresses, n, out, at),
+        OPERATOR => disclose_operator(file, source, who, numbers, arguments, addresses, n, out),
         NOT => disclose_expression(
             file,
             source,
@@ -102,11 +101,10 @@ pub fn disclose_expression(
             addresses,
             node.first,
             out,
-            at,
         ),
-        REVEAL => disclose_reveal(file, source, who, numbers, arguments, addresses, n, out, at),
+        REVEAL => disclose_reveal(file, source, who, numbers, arguments, addresses, n, out),
         _ => Told {
-            at: at,
+            at: who.at,
             finished: true,
         },
     }
@@ -122,12 +120,11 @@ fn disclose_operator(
     addresses: &[u32],
     n: usize,
     out: &mut [u32],
-    at: usize,
 ) -> Told
     requires { ⌜ (kindAt (now source) n ≡ 6)
-        × (ExpressionReady (now file) (now arguments) (now addresses) (now numbers) (now source) who n (now out) at) ⌝ }
+        × (ExpressionReady (now file) (now arguments) (now addresses) (now numbers) (now source) who n (now out)) ⌝ }
     ensures { λ r. ⌜ ExpressionDisclosed (now (file .entry)) (now (arguments .entry)) (now (addresses .entry)) (now (numbers .entry))
-        (who .party) (expressionIn (nodesIn (now (file .entry))) n) (now (out .entry)) (now (out .exit)) at r ⌝ }
+        (who .party) (expressionIn (nodesIn (now (file .entry))) n) (now (out .entry)) (now (out .exit)) (who .at) r ⌝ }
 {
     let node = node_at(source, n);
     let left = disclose_expression(
@@ -139,7 +136,6 @@ fn disclose_operator(
         addresses,
         node.first,
         out,
-        at,
     );
     if !left.finished {
         return left;
@@ -147,13 +143,17 @@ fn disclose_operator(
     let right = disclose_expression(
         file,
         source,
-        who,
+        Asked {
+            function_at: who.function_at,
+            caller: who.caller,
+            party: who.party,
+            at: left.at,
+        },
         numbers,
         arguments,
         addresses,
         node.second,
         out,
-        left.at,
     );
     if !right.finished {
         return right;
@@ -175,12 +175,11 @@ fn disclose_reveal(
     addresses: &[u32],
     n: usize,
     out: &mut [u32],
-    at: usize,
 ) -> Told
     requires { ⌜ (kindAt (now source) n ≡ 8)
-        × (ExpressionReady (now file) (now arguments) (now addresses) (now numbers) (now source) who n (now out) at) ⌝ }
+        × (ExpressionReady (now file) (now arguments) (now addresses) (now numbers) (now source) who n (now out)) ⌝ }
     ensures { λ r. ⌜ ExpressionDisclosed (now (file .entry)) (now (arguments .entry)) (now (addresses .entry)) (now (numbers .entry))
-        (who .party) (expressionIn (nodesIn (now (file .entry))) n) (now (out .entry)) (now (out .exit)) at r ⌝ }
+        (who .party) (expressionIn (nodesIn (now (file .entry))) n) (now (out .entry)) (now (out .exit)) (who .at) r ⌝ }
 {
     let node = node_at(source, n);
     let part = disclose_expression(
@@ -192,7 +191,6 @@ fn disclose_reveal(
         addresses,
         node.first,
         out,
-        at,
     );
     if !part.finished {
         return part;

@@ -10,6 +10,7 @@ use Rattle.file_accepted.specs.Context.{nodesIn, fieldsIn}
 use Rattle.disclose_expressions.specs.declared.Asked.{Asked}
 use Rattle.disclose_expressions.specs.declared.Told.{Told}
 use Rattle.disclose_expressions.specs.Expressions.{valueIn, isWorkedOutIn, disclosedIn, ExpressionReady, ExpressionDisclosed}
+use Rattle.disclose_expressions.proofs.ExpressionsByKind.{askedAt}
 use Rattle.disclose_expressions.proofs.InTurn.{same-appended, appended-stopped, appended-both, room-first, room-second}
 use Rattle.disclose_statements.specs.Statements.{placesAfterIn, completesIn, disclosedByIn, StatementReady, StatementDisclosed}
 
@@ -29,16 +30,16 @@ branch-below n false branch then other e a b = rw e b
 
 -- The parts of a statement that can be worked out can be too, on whatever numbers.
 module _ (file arguments addresses numbers : List ℕ) where
-  pub expression-ready : (source : List ℕ) (asked : Asked) (n m : ℕ) (out held : List ℕ) (at place : ℕ) → StatementReady file arguments addresses numbers source asked n out at → m < n
+  pub expression-ready : (source : List ℕ) (asked : Asked) (n m : ℕ) (out held : List ℕ) (place : ℕ) → StatementReady file arguments addresses numbers source asked n out → m < n
       → place + length (disclosedIn file arguments addresses numbers (asked .party) (expressionIn (nodesIn file) m)) ≤ length held
-      → ExpressionReady file arguments addresses numbers source asked m held place
-  expression-ready source asked n m out held at place ready less room =
+      → ExpressionReady file arguments addresses numbers source (askedAt asked place) m held
+  expression-ready source asked n m out held place ready less room =
       record { inside = omega (arith, ready .inside); context = ready .context; called = ready .called; room = room }
 
-  pub statement-ready : (later source : List ℕ) (asked : Asked) (n m : ℕ) (out held : List ℕ) (at place : ℕ) → StatementReady file arguments addresses numbers source asked n out at
+  pub statement-ready : (later source : List ℕ) (asked : Asked) (n m : ℕ) (out held : List ℕ) (place : ℕ) → StatementReady file arguments addresses numbers source asked n out
       → m < n → place + length (disclosedByIn file arguments addresses later (asked .party) (statementIn (nodesIn file) m)) ≤ length held
-      → StatementReady file arguments addresses later source asked m held place
-  statement-ready later source asked n m out held at place ready less room =
+      → StatementReady file arguments addresses later source (askedAt asked place) m held
+  statement-ready later source asked n m out held place ready less room =
       record { inside = omega (arith, ready .inside); context = ready .context; called = ready .called; room = room }
 
 module _ (file arguments addresses numbers : List ℕ) (party : ℕ) (s : Statement) where

@@ -20,11 +20,11 @@ module _ (file arguments addresses numbers : List ℕ) where
   disclosedByIn party s = disclosedBy (fieldsIn file) (addressFrom addresses) arguments party numbers s
 
   -- Statement n can be worked out, and there is room for what it discloses.
-  pub record StatementReady (source : List ℕ) (asked : Asked) (n : ℕ) (out : List ℕ) (at : ℕ) : Type 0 where
+  pub record StatementReady (source : List ℕ) (asked : Asked) (n : ℕ) (out : List ℕ) : Type 0 where
     pub inside : n < nodeCount file
     pub context : Context file (asked .«function_at») source
     pub called : addressFrom addresses meName ≡ asked .caller
-    pub room : at + length (disclosedByIn (asked .party) (statementIn (nodesIn file) n)) ≤ length out
+    pub room : asked .at + length (disclosedByIn (asked .party) (statementIn (nodesIn file) n)) ≤ length out
 
   -- The numbers of the places are told where the statement completes: after a failure nothing more is worked out.
   pub record StatementDisclosed (party : ℕ) (s : Statement) (numbers′ before after : List ℕ) (at : ℕ) (r : Told) : Type 0 where

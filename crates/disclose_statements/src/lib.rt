@@ -30,12 +30,12 @@ fn disclose_field(
     addresses: &[u32],
     n: usize,
     out: &mut [u32],
-    at: usize,
 ) -> Told
     requires { ⌜ (kindAt (now source) n ≡ 18)
-        × (StatementReady (now file) (now arguments) (now addresses) (now numbers) (now source) who n (now out) at) ⌝ }
+        × (StatementReady (now file) (now arguments) (now addresses) (now numbers) (now source) who n (now out)) ⌝ }
     ensures { λ r. ⌜ StatementDisclosed (now (file .entry)) (now (arguments .entry)) (now (addresses .entry)) (now (numbers .entry))
-        (who .party) (statementIn (nodesIn (now (file .entry))) n) (now (numbers .exit)) (now (out .entry)) (now (out .exit)) at r ⌝ }
+        (who .party) (statementIn (nodesIn (now (file .entry))) n) (now (numbers .exit))
+        (now (out .entry)) (now (out .exit)) (who .at) r ⌝ }
 {
     let node = node_at(source, n);
     let told = disclose_expression(
@@ -47,7 +47,6 @@ fn disclose_field(
         addresses,
         node.first,
         out,
-        at,
     );
     let v = value_asked(file, source, who, numbers, arguments, node.first);
     let p = position(file, node.arg, 0);
@@ -65,12 +64,12 @@ fn disclose_entry(
     addresses: &[u32],
     n: usize,
     out: &mut [u32],
-    at: usize,
 ) -> Told
     requires { ⌜ (kindAt (now source) n ≡ 19)
-        × (StatementReady (now file) (now arguments) (now addresses) (now numbers) (now source) who n (now out) at) ⌝ }
+        × (StatementReady (now file) (now arguments) (now addresses) (now numbers) (now source) who n (now out)) ⌝ }
     ensures { λ r. ⌜ StatementDisclosed (now (file .entry)) (now (arguments .entry)) (now (addresses .entry)) (now (numbers .entry))
-        (who .party) (statementIn (nodesIn (now (file .entry))) n) (now (numbers .exit)) (now (out .entry)) (now (out .exit)) at r ⌝ }
+        (who .party) (statementIn (nodesIn (now (file .entry))) n) (now (numbers .exit))
+        (now (out .entry)) (now (out .exit)) (who .at) r ⌝ }
 {
     let node = node_at(source, n);
     let key = disclose_expression(
@@ -82,7 +81,6 @@ fn disclose_entry(
         addresses,
         node.first,
         out,
-        at,
     );
     if !key.finished {
         return key;
@@ -90,13 +88,17 @@ fn disclose_entry(
     let told = disclose_expression(
         file,
         source,
-        who,
+        Asked {
+            function_at: who.function_at,
+            caller: who.caller,
+            party: who.party,
+            at: key.at,
+        },
         numbers,
         arguments,
         addresses,
         node.second,
         out,
-        key.at,
     );
     let k = value_asked(file, source, who, numbers, arguments, node.first);
     let v = value_asked(file, source, who, numbers, arguments, node.second);
@@ -115,12 +117,12 @@ fn disclose_require(
     addresses: &[u32],
     n: usize,
     out: &mut [u32],
-    at: usize,
 ) -> Told
     requires { ⌜ (kindAt (now source) n ≡ 20)
-        × (StatementReady (now file) (now arguments) (now addresses) (now numbers) (now source) who n (now out) at) ⌝ }
+        × (StatementReady (now file) (now arguments) (now addresses) (now numbers) (now source) who n (now out)) ⌝ }
     ensures { λ r. ⌜ StatementDisclosed (now (file .entry)) (now (arguments .entry)) (now (addresses .entry)) (now (numbers .entry))
-        (who .party) (statementIn (nodesIn (now (file .entry))) n) (now (numbers .entry)) (now (out .entry)) (now (out .exit)) at r ⌝ }
+        (who .party) (statementIn (nodesIn (now (file .entry))) n) (now (numbers .entry))
+        (now (out .entry)) (now (out .exit)) (who .at) r ⌝ }
 {
     let node = node_at(source, n);
     let told = disclose_expression(
@@ -132,7 +134,6 @@ fn disclose_require(
         addresses,
         node.first,
         out,
-        at,
     );
     let condition = value_asked(file, source, who, numbers, arguments, node.first);
     Told {
@@ -151,22 +152,22 @@ pub fn disclose_statement(
     addresses: &[u32],
     n: usize,
     out: &mut [u32],
-    at: usize,
 ) -> Told
-    requires { ⌜ StatementReady (now file) (now arguments) (now addresses) (now numbers) (now source) who n (now out) at ⌝ }
+    requires { ⌜ StatementReady (now file) (now arguments) (now addresses) (now numbers) (now source) who n (now out) ⌝ }
     ensures { λ r. ⌜ StatementDisclosed (now (file .entry)) (now (arguments .entry)) (now (addresses .entry)) (now (numbers .entry))
-        (who .party) (statementIn (nodesIn (now (file .entry))) n) (now (numbers .exit)) (now (out .entry)) (now (out .exit)) at r ⌝ }
+        (who .party) (statementIn (nodesIn (now (file .entry))) n) (now (numbers .exit))
+        (now (out .entry)) (now (out .exit)) (who .at) r ⌝ }
 {
     let node = node_at(source, n);
     let kind = node.kind;
     match kind {
-        SEQUENCE => disclose_sequence(file, source, who, numbers, arguments, addresses, n, out, at),
-        FIELD_TAKES => disclose_field(file, source, who, numbers, arguments, addresses, n, out, at),
-        ENTRY_TAKES => disclose_entry(file, source, who, numbers, arguments, addresses, n, out, at),
-        REQUIRE => disclose_require(file, source, who, numbers, arguments, addresses, n, out, at),
-        IF => disclose_conditional(file, source, who, numbers, arguments, addresses, n, out, at),
+        SEQUENCE => disclose_sequence(file, source, who, numbers, arguments, addresses, n, out),
+        FIELD_TAKES => disclose_field(file, source, who, numbers, arguments, addresses, n, out),
+        ENTRY_TAKES => disclose_entry(file, source, who, numbers, arguments, addresses, n, out),
+        REQUIRE => disclose_require(file, source, who, numbers, arguments, addresses, n, out),
+        IF => disclose_conditional(file, source, who, numbers, arguments, addresses, n, out),
         _ => Told {
-            at: at,
+            at: who.at,
             finished: true,
         },
     }
@@ -182,12 +183,12 @@ fn disclose_sequence(
     addresses: &[u32],
     n: usize,
     out: &mut [u32],
-    at: usize,
 ) -> Told
     requires { ⌜ (kindAt (now source) n ≡ 17)
-        × (StatementReady (now file) (now arguments) (now addresses) (now numbers) (now source) who n (now out) at) ⌝ }
+        × (StatementReady (now file) (now arguments) (now addresses) (now numbers) (now source) who n (now out)) ⌝ }
     ensures { λ r. ⌜ StatementDisclosed (now (file .entry)) (now (arguments .entry)) (now (addresses .entry)) (now (numbers .entry))
-        (who .party) (statementIn (nodesIn (now (file .entry))) n) (now (numbers .exit)) (now (out .entry)) (now (out .exit)) at r ⌝ }
+        (who .party) (statementIn (nodesIn (now (file .entry))) n) (now (numbers .exit))
+        (now (out .entry)) (now (out .exit)) (who .at) r ⌝ }
 {
     let node = node_at(source, n);
     let first = disclose_statement(
@@ -199,7 +200,6 @@ fn disclose_sequence(
         addresses,
         node.first,
         out,
-        at,
     );
     if !first.finished {
         return first;
@@ -207,13 +207,17 @@ fn disclose_sequence(
     disclose_statement(
         file,
         source,
-        who,
+        Asked {
+            function_at: who.function_at,
+            caller: who.caller,
+            party: who.party,
+            at: first.at,
+        },
         numbers,
         arguments,
         addresses,
         node.second,
         out,
-        first.at,
     )
 }
 
@@ -227,12 +231,12 @@ fn disclose_conditional(
     addresses: &[u32],
     n: usize,
     out: &mut [u32],
-    at: usize,
 ) -> Told
     requires { ⌜ (kindAt (now source) n ≡ 21)
-        × (StatementReady (now file) (now arguments) (now addresses) (now numbers) (now source) who n (now out) at) ⌝ }
+        × (StatementReady (now file) (now arguments) (now addresses) (now numbers) (now source) who n (now out)) ⌝ }
     ensures { λ r. ⌜ StatementDisclosed (now (file .entry)) (now (arguments .entry)) (now (addresses .entry)) (now (numbers .entry))
-        (who .party) (statementIn (nodesIn (now (file .entry))) n) (now (numbers .exit)) (now (out .entry)) (now (out .exit)) at r ⌝ }
+        (who .party) (statementIn (nodesIn (now (file .entry))) n) (now (numbers .exit))
+        (now (out .entry)) (now (out .exit)) (who .at) r ⌝ }
 {
     let node = node_at(source, n);
     let condition = value_asked(file, source, who, numbers, arguments, node.first);
@@ -246,7 +250,6 @@ fn disclose_conditional(
         addresses,
         node.first,
         out,
-        at,
     );
     if !told.finished {
         return told;
@@ -254,12 +257,16 @@ fn disclose_conditional(
     disclose_statement(
         file,
         source,
-        who,
+        Asked {
+            function_at: who.function_at,
+            caller: who.caller,
+            party: who.party,
+            at: told.at,
+        },
         numbers,
         arguments,
         addresses,
         branch,
         out,
-        told.at,
     )
 }

@@ -1,4 +1,5 @@
 // 01, Runs and views: an assignment of the original on numbers, with the numbers of the variables that it makes.
+use file_bytes::Node;
 use honest_supplies::Turn;
 use honest_supplies::body_slots;
 use honest_supplies::place_slots;
@@ -43,29 +44,39 @@ fn is_private_entry(file: &[u8], function_at: usize, source: &[u16], f: usize, k
     place_code(owner, name_code(file, function_at, source, key)) != 0
 }
 
-// Field f takes node n.
+// The field of a node takes a value.
 pub fn field_slots(
     file: &[u8],
     source: &[u16],
     numbers: &mut [u32],
     arguments: &[u32],
     turn: Turn,
-    f: usize,
-    n: usize,
+    node: Node,
     out: &mut [u64],
     i: usize,
 ) -> usize
-    requires { ⌜ FieldReady (now file) (turn .«function_at») (now source) f n (now out) i ⌝ }
+    requires { ⌜ FieldReady (now file) (turn .«function_at») (now source) (node .arg) (node .first) (now out) i ⌝ }
     ensures { λ r. ⌜ (now (numbers .exit) ≡ cond (turn .live)
         (set (now (numbers .entry))
-        (position (fieldsIn (now (file .entry))) f 0)
-        (valueOf (now (file .entry)) (now (arguments .entry)) (turn .caller) (now (numbers .entry)) (nodeExpression (now (file .entry)) n)))
+        (position (fieldsIn (now (file .entry))) (node .arg) 0)
+        (valueOf (now (file .entry)) (now (arguments .entry)) (turn .caller) (now (numbers .entry))
+        (nodeExpression (now (file .entry)) (node .first))))
         (now (numbers .entry)))
         × (Wrote (suppliedNumber (now (file .entry)) (now (arguments .entry)) (turn .caller) (turn .live) (now (numbers .entry)))
-        (now (out .entry)) (now (out .exit)) i r (fieldEvents (now (file .entry)) (turn .«function_at») f n)) ⌝ }
+        (now (out .entry)) (now (out .exit)) i r (fieldEvents (now (file .entry)) (turn .«function_at») (node .arg) (node .first))) ⌝ }
 {
-    let private = is_private_field(file, turn.function_at, source, f);
-    let end = place_slots(file, source, numbers, arguments, turn, n, private, out, i);
+    let private = is_private_field(file, turn.function_at, source, node.arg);
+    let end = place_slots(
+        file,
+        source,
+        numbers,
+        arguments,
+        turn,
+        node.first,
+        private,
+        out,
+        i,
+    );
     let v = value(
         file,
         turn.function_at,
@@ -73,39 +84,50 @@ pub fn field_slots(
         numbers,
         arguments,
         turn.caller,
-        n,
+        node.first,
     );
-    let p = position(file, f, 0);
+    let p = position(file, node.arg, 0);
     put_taken(numbers, turn.live, p, v);
     end
 }
 
-// The entry of field f at a key takes node n.
+// The entry of a node's field, at its key, takes a value.
 pub fn entry_slots(
     file: &[u8],
     source: &[u16],
     numbers: &mut [u32],
     arguments: &[u32],
     turn: Turn,
-    f: usize,
-    key: usize,
-    n: usize,
+    node: Node,
     out: &mut [u64],
     i: usize,
 ) -> usize
-    requires { ⌜ EntryReady (now file) (turn .«function_at») (now source) f key n (now out) i ⌝ }
+    requires { ⌜ EntryReady (now file) (turn .«function_at») (now source) (node .arg) (node .first) (node .second) (now out) i ⌝ }
     ensures { λ r. ⌜ (now (numbers .exit) ≡ cond (turn .live)
         (set (now (numbers .entry))
-        (position (fieldsIn (now (file .entry))) f
-        (valueOf (now (file .entry)) (now (arguments .entry)) (turn .caller) (now (numbers .entry)) (nodeExpression (now (file .entry)) key)))
-        (valueOf (now (file .entry)) (now (arguments .entry)) (turn .caller) (now (numbers .entry)) (nodeExpression (now (file .entry)) n)))
+        (position (fieldsIn (now (file .entry))) (node .arg)
+        (valueOf (now (file .entry)) (now (arguments .entry)) (turn .caller) (now (numbers .entry))
+        (nodeExpression (now (file .entry)) (node .first))))
+        (valueOf (now (file .entry)) (now (arguments .entry)) (turn .caller) (now (numbers .entry))
+        (nodeExpression (now (file .entry)) (node .second))))
         (now (numbers .entry)))
         × (Wrote (suppliedNumber (now (file .entry)) (now (arguments .entry)) (turn .caller) (turn .live) (now (numbers .entry)))
-        (now (out .entry)) (now (out .exit)) i r (entryEvents (now (file .entry)) (turn .«function_at») f key n)) ⌝ }
+        (now (out .entry)) (now (out .exit)) i r
+        (entryEvents (now (file .entry)) (turn .«function_at») (node .arg) (node .first) (node .second))) ⌝ }
 {
-    let private = is_private_entry(file, turn.function_at, source, f, key);
-    let j = body_slots(file, source, numbers, arguments, turn, key, out, i);
-    let end = place_slots(file, source, numbers, arguments, turn, n, private, out, j);
+    let private = is_private_entry(file, turn.function_at, source, node.arg, node.first);
+    let j = body_slots(file, source, numbers, arguments, turn, node.first, out, i);
+    let end = place_slots(
+        file,
+        source,
+        numbers,
+        arguments,
+        turn,
+        node.second,
+        private,
+        out,
+        j,
+    );
     let k = value(
         file,
         turn.function_at,
@@ -113,7 +135,7 @@ pub fn entry_slots(
         numbers,
         arguments,
         turn.caller,
-        key,
+        node.first,
     );
     let v = value(
         file,
@@ -122,9 +144,9 @@ pub fn entry_slots(
         numbers,
         arguments,
         turn.caller,
-        n,
+        node.second,
     );
-    let p = position(file, f, k as usize);
+    let p = position(file, node.arg, k as usize);
     put_taken(numbers, turn.live, p, v);
     end
 }

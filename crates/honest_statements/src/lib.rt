@@ -62,36 +62,16 @@ fn simple_slots(
 ) -> usize
     requires { ⌜ (SimpleKind (kindAt (now source) n))
         × (Startable (now file) (turn .«function_at») (now source) n (now out) i
-        (honestNumbers (now file) (turn .«function_at») (now arguments) (turn .caller) (nodeStatement (now file) n) (turn .live) (now numbers))) ⌝ }
+        (honestNumbers (now file) (turn .«function_at») (now arguments) (turn .caller) (nodeStatement (now file) n)
+        (turn .live) (now numbers))) ⌝ }
     ensures { λ r. ⌜ Honest (now (file .entry)) (turn .«function_at») (now (arguments .entry)) (turn .caller) (turn .live)
         (nodeStatement (now (file .entry)) n) (now (numbers .entry)) (now (numbers .exit)) (now (out .entry)) (now (out .exit)) i r ⌝ }
 {
     let node = node_at(source, n);
     let kind = node.kind;
     match kind {
-        FIELD_TAKES => field_slots(
-            file,
-            source,
-            numbers,
-            arguments,
-            turn,
-            node.arg,
-            node.first,
-            out,
-            i,
-        ),
-        ENTRY_TAKES => entry_slots(
-            file,
-            source,
-            numbers,
-            arguments,
-            turn,
-            node.arg,
-            node.first,
-            node.second,
-            out,
-            i,
-        ),
+        FIELD_TAKES => field_slots(file, source, numbers, arguments, turn, node, out, i),
+        ENTRY_TAKES => entry_slots(file, source, numbers, arguments, turn, node, out, i),
         REQUIRE => body_slots(file, source, numbers, arguments, turn, node.first, out, i),
         _ => i,
     }
@@ -109,7 +89,8 @@ pub fn statement_slots(
     i: usize,
 ) -> usize
     requires { ⌜ Startable (now file) (turn .«function_at») (now source) n (now out) i
-        (honestNumbers (now file) (turn .«function_at») (now arguments) (turn .caller) (nodeStatement (now file) n) (turn .live) (now numbers)) ⌝ }
+        (honestNumbers (now file) (turn .«function_at») (now arguments) (turn .caller) (nodeStatement (now file) n)
+        (turn .live) (now numbers)) ⌝ }
     ensures { λ r. ⌜ Honest (now (file .entry)) (turn .«function_at») (now (arguments .entry)) (turn .caller) (turn .live)
         (nodeStatement (now (file .entry)) n) (now (numbers .entry)) (now (numbers .exit)) (now (out .entry)) (now (out .exit)) i r ⌝ }
 {
@@ -134,7 +115,8 @@ fn sequence_slots(
 ) -> usize
     requires { ⌜ (kindAt (now source) n ≡ 17)
         × (Startable (now file) (turn .«function_at») (now source) n (now out) i
-        (honestNumbers (now file) (turn .«function_at») (now arguments) (turn .caller) (nodeStatement (now file) n) (turn .live) (now numbers))) ⌝ }
+        (honestNumbers (now file) (turn .«function_at») (now arguments) (turn .caller) (nodeStatement (now file) n)
+        (turn .live) (now numbers))) ⌝ }
     ensures { λ r. ⌜ Honest (now (file .entry)) (turn .«function_at») (now (arguments .entry)) (turn .caller) (turn .live)
         (nodeStatement (now (file .entry)) n) (now (numbers .entry)) (now (numbers .exit)) (now (out .entry)) (now (out .exit)) i r ⌝ }
 {
@@ -156,7 +138,8 @@ fn conditional_slots(
 ) -> usize
     requires { ⌜ (kindAt (now source) n ≡ 21)
         × (Startable (now file) (turn .«function_at») (now source) n (now out) i
-        (honestNumbers (now file) (turn .«function_at») (now arguments) (turn .caller) (nodeStatement (now file) n) (turn .live) (now numbers))) ⌝ }
+        (honestNumbers (now file) (turn .«function_at») (now arguments) (turn .caller) (nodeStatement (now file) n)
+        (turn .live) (now numbers))) ⌝ }
     ensures { λ r. ⌜ Honest (now (file .entry)) (turn .«function_at») (now (arguments .entry)) (turn .caller) (turn .live)
         (nodeStatement (now (file .entry)) n) (now (numbers .entry)) (now (numbers .exit)) (now (out .entry)) (now (out .exit)) i r ⌝ }
 {
@@ -178,7 +161,8 @@ fn branches_slots(
 ) -> usize
     requires { ⌜ (kindAt (now source) n ≡ 21)
         × (Startable (now file) (turn .«function_at») (now source) n (now out) i
-        (branchesNumbers (now file) (turn .«function_at») (now arguments) (turn .caller) (nodeStatement (now file) n) (turn .live) (now numbers))) ⌝ }
+        (branchesNumbers (now file) (turn .«function_at») (now arguments) (turn .caller) (nodeStatement (now file) n)
+        (turn .live) (now numbers))) ⌝ }
     ensures { λ r. ⌜ BranchesHonest (now (file .entry)) (turn .«function_at») (now (arguments .entry)) (turn .caller) (turn .live)
         (nodeStatement (now (file .entry)) n) (now (numbers .entry)) (now (numbers .exit)) (now (out .entry)) (now (out .exit)) i r ⌝ }
 {
@@ -234,7 +218,8 @@ fn branch_slots(
     i: usize,
 ) -> usize
     requires { ⌜ Startable (now file) (turn .«function_at») (now source) n (now out) i (branchNumbers
-        (honestNumbers (now file) (turn .«function_at») (now arguments) (turn .caller) (nodeStatement (now file) n) (turn .live) (now numbers))) ⌝ }
+        (honestNumbers (now file) (turn .«function_at») (now arguments) (turn .caller) (nodeStatement (now file) n)
+        (turn .live) (now numbers))) ⌝ }
     ensures { λ r. ⌜ BranchHonest (now (file .entry)) (turn .«function_at») (now (arguments .entry)) (turn .caller) (turn .live)
         (nodeStatement (now (file .entry)) n) (now (numbers .entry)) (now (numbers .exit)) (now (out .entry)) (now (out .exit)) i r ⌝ }
 {

@@ -1,4 +1,5 @@
 // The events of an assignment, logged in their order: the key's, the value's, the supply for a private place.
+use file_bytes::Node;
 use rewrite_expressions::body_log;
 use rewrite_expressions::supply_log;
 use rewrite_log::Position;
@@ -61,21 +62,20 @@ pub fn assign_entry_log(
     file: &[u8],
     function_at: usize,
     source: &[u16],
-    f: usize,
-    key: usize,
-    value: usize,
+    node: Node,
     guard: u16,
     log: &mut [u16],
     p: Position,
 ) -> Position
-    requires { ⌜ ((f ≤ 255) × (value < nodeCount (now file)))
-        × (Ready (now file) «function_at» (now source) key (now log) p (assignEntryOf (now file) «function_at» guard f key value)) ⌝ }
+    requires { ⌜ ((node .arg ≤ 255) × (node .second < nodeCount (now file)))
+        × (Ready (now file) «function_at» (now source) (node .first) (now log) p
+        (assignEntryOf (now file) «function_at» guard (node .arg) (node .first) (node .second))) ⌝ }
     ensures { λ r. ⌜ Logged (nodesIn (now (file .entry))) (now (log .entry)) (now (log .exit)) p r
-        (assignEntryOf (now (file .entry)) «function_at» guard f key value (p .variable)) ⌝ }
+        (assignEntryOf (now (file .entry)) «function_at» guard (node .arg) (node .first) (node .second) (p .variable)) ⌝ }
 {
-    let declared = field_owner(file, f);
-    let name = name_code(file, function_at, source, key);
+    let declared = field_owner(file, node.arg);
+    let name = name_code(file, function_at, source, node.first);
     let owner = place_code(declared, name) as usize;
-    let q = body_log(file, function_at, source, key, guard, log, p);
-    place_log(file, function_at, source, value, owner, guard, log, q)
+    let q = body_log(file, function_at, source, node.first, guard, log, p);
+    place_log(file, function_at, source, node.second, owner, guard, log, q)
 }

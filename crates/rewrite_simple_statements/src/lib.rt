@@ -80,17 +80,7 @@ fn parts_log(
             log,
             p,
         ),
-        ENTRY_TAKES => assign_entry_log(
-            file,
-            function_at,
-            source,
-            node.arg,
-            node.first,
-            node.second,
-            guard,
-            log,
-            p,
-        ),
+        ENTRY_TAKES => assign_entry_log(file, function_at, source, node, guard, log, p),
         REQUIRE => body_log(file, function_at, source, node.first, guard, log, p),
         _ => p,
     }

@@ -14,6 +14,6 @@ disclose-body-spec =
     (λ c. search needs)
     (λ c. taken-length _ _ (omega (arith, c .before .before .before .decode-source .ensures .1, c .before .before .before .before .before .node-room .ensures)))
     (λ c. search needs)
-    (λ c κs. body-ready _ _ _ _ _ _ _ (c .before .before .before .before .before .before .before .before .before .before .before .before .before .before .before .before .before .pre) _ (c .before .before .before .before .before .before .before .before .before .before .put-addresses .ensures) _ _ _ (c .before .before .before .before .before .before .decode-source .ensures .0) refl refl refl (c .before .before .before .before .root-at .ensures))
+    (λ c κs. body-ready _ _ _ _ _ _ _ (c .before .before .before .before .before .before .before .before .before .before .before .before .before .before .before .before .before .pre) _ (c .before .before .before .before .before .before .before .before .before .before .put-addresses .ensures) _ _ _ (c .before .before .before .before .before .before .decode-source .ensures .0) refl refl refl refl (c .before .before .before .before .root-at .ensures))
     (λ c. search needs) (λ c. search needs)
     (λ c. body-disclosed _ _ _ _ _ _ _ (c .before .before .before .before .before .before .before .before .before .before .before .before .before .before .before .before .before .before .before .before .before .before .pre) _ (c .before .before .before .before .before .before .before .before .before .before .before .before .before .before .before .put-addresses .ensures) _ _ _ _ (c .before .before .before .before .before .before .before .before .before .root-at .ensures) (c .before .before .before .before .disclose-statement .ensures)))

@@ -73,13 +73,13 @@ pub +disclose-expression+disclose-operator+disclose-reveal-spec : {M : Type 1} �
     (λ c κs. let start = c .before .before .before .before .before .before .before .before .before in let (falls-2, ready) = start .pre in
     let same = c .before .before .node-at .ensures .same in let kind = c .before .match .keys1 in
     let less = key-below (node-reads _ _ _ (ready .context) _ (ready .inside) _ same) kind in
-    (omega (arith, falls-2, less), ready-part _ _ _ _ _ _ _ _ _ _ _ _ ready less (like-room _ _ _ _ _ _ _ (start .args .out .now) _ (entry-like _ _ _ _ _ _ _ _ (entry-is (node-reads _ _ _ (ready .context) _ (ready .inside) _ same) kind)) (ready .room))))
+    (omega (arith, falls-2, less), ready-part _ _ _ _ _ _ _ _ _ _ _ ready less (like-room _ _ _ _ _ _ _ (start .args .out .now) _ (entry-like _ _ _ _ _ _ _ _ (entry-is (node-reads _ _ _ (ready .context) _ (ready .inside) _ same) kind)) (ready .room))))
     (λ c κs. let (falls-2, ready) = c .before .before .before .before .before .before .before .before .before .pre in
     (omega (arith, falls-2), (kind-as _ _ _ (sym (c .before .before .node-at .ensures .same)) (c .before .match .keys2), ready)))
     (λ c κs. let start = c .before .before .before .before .before .before .before .before .before in let (falls-2, ready) = start .pre in
     let same = c .before .before .node-at .ensures .same in let kind = c .before .match .keys3 in
     let less = part-below (node-reads _ _ _ (ready .context) _ (ready .inside) _ same) kind in
-    (omega (arith, falls-2, less), ready-part _ _ _ _ _ _ _ _ _ _ _ _ ready less (like-room _ _ _ _ _ _ _ (start .args .out .now) _ (negation-like _ _ _ _ _ _ _ (negation-is (node-reads _ _ _ (ready .context) _ (ready .inside) _ same) kind)) (ready .room))))
+    (omega (arith, falls-2, less), ready-part _ _ _ _ _ _ _ _ _ _ _ ready less (like-room _ _ _ _ _ _ _ (start .args .out .now) _ (negation-like _ _ _ _ _ _ _ (negation-is (node-reads _ _ _ (ready .context) _ (ready .inside) _ same) kind)) (ready .room))))
     (λ c κs. let (falls-2, ready) = c .before .before .before .before .before .before .before .before .before .pre in
     (omega (arith, falls-2), (kind-as _ _ _ (sym (c .before .before .node-at .ensures .same)) (c .before .match .keys4), ready)))
     (λ c. search needs)
@@ -98,7 +98,7 @@ pub +disclose-expression+disclose-operator+disclose-reveal-spec : {M : Type 1} �
     (λ c κs. let start = c .before .before .before .before .before .before .before .before in let (falls-2, (kind-at-is, ready)) = start .pre in
     let same = c .before .node-at .ensures .same in let kind = kind-as _ _ _ same kind-at-is in
     let less = operands-below (node-reads _ _ _ (ready .context) _ (ready .inside) _ same) kind in
-    (omega (arith, falls-2, less .0), ready-part _ _ _ _ _ _ _ _ _ _ _ _ ready (less .0) (left-room _ _ _ _ _ _ _ _ _ (operator-is (node-reads _ _ _ (ready .context) _ (ready .inside) _ same) kind) (start .args .out .now) _ (ready .room))))
+    (omega (arith, falls-2, less .0), ready-part _ _ _ _ _ _ _ _ _ _ _ ready (less .0) (left-room _ _ _ _ _ _ _ _ _ (operator-is (node-reads _ _ _ (ready .context) _ (ready .inside) _ same) kind) (start .args .out .now) _ (ready .room))))
     (λ c. search needs)
     (λ c. let (_, (kind-at-is, ready)) = c .before .before .before .before .before .before .before .before .before .before .before .before .before .pre in
     let same = c .before .before .before .before .before .before .node-at .ensures .same in let kind = kind-as _ _ _ same kind-at-is in
@@ -106,7 +106,7 @@ pub +disclose-expression+disclose-operator+disclose-reveal-spec : {M : Type 1} �
     (λ c κs. let (falls-2, (kind-at-is, ready)) = c .before .before .before .before .before .before .before .before .before .before .before .before .before .before .pre in
     let same = c .before .before .before .before .before .before .before .node-at .ensures .same in let kind = kind-as _ _ _ same kind-at-is in
     let less = operands-below (node-reads _ _ _ (ready .context) _ (ready .inside) _ same) kind in
-    (omega (arith, falls-2, less .1), ready-part _ _ _ _ _ _ _ _ _ _ _ _ ready (less .1) (right-room _ _ _ _ _ _ _ _ _ (operator-is (node-reads _ _ _ (ready .context) _ (ready .inside) _ same) kind) _ _ (ready .room) _ _ (c .before .before .before .before .before .disclose-expression .ensures) (not-false _ (c .before .if1 .left)))))
+    (omega (arith, falls-2, less .1), ready-part _ _ _ _ _ _ _ _ _ _ _ ready (less .1) (right-room _ _ _ _ _ _ _ _ _ (operator-is (node-reads _ _ _ (ready .context) _ (ready .inside) _ same) kind) _ _ (ready .room) _ _ (c .before .before .before .before .before .disclose-expression .ensures) (not-false _ (c .before .if1 .left)))))
     (λ c. search needs)
     (λ c. let (_, (kind-at-is, ready)) = c .before .before .before .before .before .before .before .before .before .before .before .before .before .before .before .before .before .before .before .pre in
     let same = c .before .before .before .before .before .before .before .before .before .before .before .before .node-at .ensures .same in
@@ -125,7 +125,7 @@ pub +disclose-expression+disclose-operator+disclose-reveal-spec : {M : Type 1} �
     (λ c κs. let start = c .before .before .before .before .before .before .before .before in let (falls-2, (kind-at-is, ready)) = start .pre in
     let same = c .before .node-at .ensures .same in let kind = kind-as _ _ _ same kind-at-is in
     let less = revealed-below (node-reads _ _ _ (ready .context) _ (ready .inside) _ same) kind in
-    (omega (arith, falls-2, less), ready-part _ _ _ _ _ _ _ _ _ _ _ _ ready less (part-room _ _ _ _ _ _ _ _ (reveal-is (node-reads _ _ _ (ready .context) _ (ready .inside) _ same) kind) (start .args .out .now) _ (ready .room))))
+    (omega (arith, falls-2, less), ready-part _ _ _ _ _ _ _ _ _ _ _ ready less (part-room _ _ _ _ _ _ _ _ (reveal-is (node-reads _ _ _ (ready .context) _ (ready .inside) _ same) kind) (start .args .out .now) _ (ready .room))))
     (λ c. search needs)
     (λ c. let (_, (kind-at-is, ready)) = c .before .before .before .before .before .before .before .before .before .before .before .before .before .pre in
     let same = c .before .before .before .before .before .before .node-at .ensures .same in let kind = kind-as _ _ _ same kind-at-is in

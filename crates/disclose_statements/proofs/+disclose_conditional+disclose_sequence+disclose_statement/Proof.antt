@@ -82,7 +82,7 @@ pub +disclose-conditional+disclose-sequence+disclose-statement-spec : {M : Type 
     let kind = kind-as _ _ _ same kind-at-is in let less = branches-below (node-reads _ _ _ (ready .context) _ (ready .inside) _ same) kind in
     let chosen = branch-in (start .args .file .now) (isTrue (c .before .before .before .value-asked .result)) _ (c .before .before .before .before .before .node-at .result .second) (c .before .before .before .before .before .node-at .result .third) (c .before .before .branch-of .ensures) in
     let known = ap isTrue (value-here _ _ _ _ _ _ _ (ready .called) (c .before .before .before .value-asked .ensures)) in
-    expression-ready _ _ _ _ _ _ _ _ _ _ _ _ ready (less .0) (condition-room _ _ _ _ _ _ _ _ _ _ (conditional-is (node-reads _ _ _ (ready .context) _ (ready .inside) _ same) kind) _ known chosen (start .args .out .now) _ (ready .room)))
+    expression-ready _ _ _ _ _ _ _ _ _ _ _ ready (less .0) (condition-room _ _ _ _ _ _ _ _ _ _ (conditional-is (node-reads _ _ _ (ready .context) _ (ready .inside) _ same) kind) _ known chosen (start .args .out .now) _ (ready .room)))
     (λ c. search needs) (λ c. search needs)
     (λ c. let start = c .before .before .before .before .before .before .before .before .before .before .before .before .before .before .before .before .before in
     let (falls-2, (kind-at-is, ready)) = start .pre in
@@ -98,7 +98,7 @@ pub +disclose-conditional+disclose-sequence+disclose-statement-spec : {M : Type 
     let chosen = branch-in (start .args .file .now) (isTrue (c .before .before .before .before .before .before .before .before .before .before .value-asked .result)) _ (c .before .before .before .before .before .before .before .before .before .before .before .before .node-at .result .second) (c .before .before .before .before .before .before .before .before .before .before .before .before .node-at .result .third) (c .before .before .before .before .before .before .before .before .before .branch-of .ensures) in
     let known = ap isTrue (value-here _ _ _ _ _ _ _ (ready .called) (c .before .before .before .before .before .before .before .before .before .before .value-asked .ensures)) in
     let lower = branch-below _ (isTrue (c .before .before .before .before .before .before .before .before .before .before .value-asked .result)) _ (c .before .before .before .before .before .before .before .before .before .before .before .before .node-at .result .second) (c .before .before .before .before .before .before .before .before .before .before .before .before .node-at .result .third) (c .before .before .before .before .before .before .before .before .before .branch-of .ensures) (less .1 .0) (less .1 .1) in
-    (omega (arith, falls-2, lower), statement-ready _ _ _ _ _ _ _ _ _ _ _ _ _ ready lower (branch-room _ _ _ _ _ _ _ _ _ _ (conditional-is (node-reads _ _ _ (ready .context) _ (ready .inside) _ same) kind) _ known chosen _ _ (ready .room) _ _ (c .before .before .before .before .before .before .disclose-expression .ensures) (not-false _ (c .before .before .if1 .left)))))
+    (omega (arith, falls-2, lower), statement-ready _ _ _ _ _ _ _ _ _ _ _ _ ready lower (branch-room _ _ _ _ _ _ _ _ _ _ (conditional-is (node-reads _ _ _ (ready .context) _ (ready .inside) _ same) kind) _ known chosen _ _ (ready .room) _ _ (c .before .before .before .before .before .before .disclose-expression .ensures) (not-false _ (c .before .before .if1 .left)))))
     (λ c. search needs) (λ c. search needs)
     (λ c. let start = c .before .before .before .before .before .before .before .before .before .before .before .before .before .before .before .before .before .before .before .before .before .before .before .before in
     let (falls-2, (kind-at-is, ready)) = start .pre in
@@ -112,7 +112,7 @@ pub +disclose-conditional+disclose-sequence+disclose-statement-spec : {M : Type 
     (λ c κs. let start = c .before .before .before .before .before .before .before .before .before in let (falls-2, (kind-at-is, ready)) = start .pre in
     let same = c .before .before .node-at .ensures .same in let kind = kind-as _ _ _ same kind-at-is in
     let less = steps-below (node-reads _ _ _ (ready .context) _ (ready .inside) _ same) kind in
-    (omega (arith, falls-2, less .0), statement-ready _ _ _ _ _ _ _ _ _ _ _ _ _ ready (less .0) (one-room _ _ _ _ _ _ _ _ (sequence-is (node-reads _ _ _ (ready .context) _ (ready .inside) _ same) kind) (start .args .out .now) _ (ready .room))))
+    (omega (arith, falls-2, less .0), statement-ready _ _ _ _ _ _ _ _ _ _ _ _ ready (less .0) (one-room _ _ _ _ _ _ _ _ (sequence-is (node-reads _ _ _ (ready .context) _ (ready .inside) _ same) kind) (start .args .out .now) _ (ready .room))))
     (λ c. search needs) (λ c. search needs)
     (λ c. let (falls-2, (kind-at-is, ready)) = c .before .before .before .before .before .before .before .before .before .before .before .before .before .before .before .before .pre in
     let same = c .before .before .before .before .before .before .before .before .before .node-at .ensures .same in
@@ -121,7 +121,7 @@ pub +disclose-conditional+disclose-sequence+disclose-statement-spec : {M : Type 
     (λ c κs. let (falls-2, (kind-at-is, ready)) = c .before .before .before .before .before .before .before .before .before .before .before .before .before .before .before .before .before .before .pre in
     let same = c .before .before .before .before .before .before .before .before .before .before .before .node-at .ensures .same in
     let kind = kind-as _ _ _ same kind-at-is in let less = steps-below (node-reads _ _ _ (ready .context) _ (ready .inside) _ same) kind in
-    (omega (arith, falls-2, less .1), statement-ready _ _ _ _ _ _ _ _ _ _ _ _ _ ready (less .1) (two-room _ _ _ _ _ _ _ _ (sequence-is (node-reads _ _ _ (ready .context) _ (ready .inside) _ same) kind) _ _ (ready .room) _ _ _ (c .before .before .before .before .before .before .before .before .disclose-statement .ensures) (not-false _ (c .before .before .if1 .left)))))
+    (omega (arith, falls-2, less .1), statement-ready _ _ _ _ _ _ _ _ _ _ _ _ ready (less .1) (two-room _ _ _ _ _ _ _ _ (sequence-is (node-reads _ _ _ (ready .context) _ (ready .inside) _ same) kind) _ _ (ready .room) _ _ _ (c .before .before .before .before .before .before .before .before .disclose-statement .ensures) (not-false _ (c .before .before .if1 .left)))))
     (λ c. search needs) (λ c. search needs)
     (λ c. let (falls-2, (kind-at-is, ready)) = c .before .before .before .before .before .before .before .before .before .before .before .before .before .before .before .before .before .before .before .before .before .before .before .pre in
     let same = c .before .before .before .before .before .before .before .before .before .before .before .before .before .before .before .before .node-at .ensures .same in

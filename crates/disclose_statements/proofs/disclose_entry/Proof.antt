@@ -14,7 +14,7 @@ disclose-entry-spec =
     (λ c κs. let start = c .before .before .before .before .before .before .before .before .before in let (kind-at-is, ready) = start .pre in
     let same = c .before .before .node-at .ensures .same in let kind = kind-as _ _ _ same kind-at-is in
     let less = key-and-value-below (node-reads _ _ _ (ready .context) _ (ready .inside) _ same) kind in
-    expression-ready _ _ _ _ _ _ _ _ _ _ _ _ ready (less .0) (key-room _ _ _ _ _ _ _ _ _ (assign-entry-is (node-reads _ _ _ (ready .context) _ (ready .inside) _ same) kind) (start .args .out .now) _ (ready .room)))
+    expression-ready _ _ _ _ _ _ _ _ _ _ _ ready (less .0) (key-room _ _ _ _ _ _ _ _ _ (assign-entry-is (node-reads _ _ _ (ready .context) _ (ready .inside) _ same) kind) (start .args .out .now) _ (ready .room)))
     (λ c. search needs) (λ c. search needs)
     (λ c. let (kind-at-is, ready) = c .before .before .before .before .before .before .before .before .before .before .before .before .before .before .pre in
     let same = c .before .before .before .before .before .before .before .node-at .ensures .same in let kind = kind-as _ _ _ same kind-at-is in
@@ -22,7 +22,7 @@ disclose-entry-spec =
     (λ c κs. let (kind-at-is, ready) = c .before .before .before .before .before .before .before .before .before .before .before .before .before .before .before .before .pre in
     let same = c .before .before .before .before .before .before .before .before .before .node-at .ensures .same in
     let kind = kind-as _ _ _ same kind-at-is in let less = key-and-value-below (node-reads _ _ _ (ready .context) _ (ready .inside) _ same) kind in
-    expression-ready _ _ _ _ _ _ _ _ _ _ _ _ ready (less .1) (value-room _ _ _ _ _ _ _ _ _ (assign-entry-is (node-reads _ _ _ (ready .context) _ (ready .inside) _ same) kind) _ _ (ready .room) _ _ (c .before .before .before .before .before .before .disclose-expression .ensures) (not-false _ (c .before .before .if1 .left))))
+    expression-ready _ _ _ _ _ _ _ _ _ _ _ ready (less .1) (value-room _ _ _ _ _ _ _ _ _ (assign-entry-is (node-reads _ _ _ (ready .context) _ (ready .inside) _ same) kind) _ _ (ready .room) _ _ (c .before .before .before .before .before .before .disclose-expression .ensures) (not-false _ (c .before .before .if1 .left))))
     (λ c κs. let (kind-at-is, ready) = c .before .before .before .before .before .before .before .before .before .before .before .before .before .before .before .before .before .before .before .before .pre in
     let same = c .before .before .before .before .before .before .before .before .before .before .before .before .before .node-at .ensures .same in
     let kind = kind-as _ _ _ same kind-at-is in let less = key-and-value-below (node-reads _ _ _ (ready .context) _ (ready .inside) _ same) kind in

@@ -21,4 +21,4 @@ entry-slots-spec =
     let place-slots = c .before .before .before .before .before .before .before .before .before .before .before .place-slots .ensures in
     let value = c .before .before .before .before .before .before .before .value .ensures in
     let value2 = c .before .before .before .before .before .value2 .ensures in
-    (put-at (args .turn .live) (args .numbers .now) _ _ _ _ _ (c .before .before .before .before .position .ensures ∙ ap (position (fieldsIn (args .file .now)) (args .f)) value) value2 (c .before .before .put-taken .ensures), entry-wrote _ _ _ _ _ _ _ _ pre _ _ _ _ _ _ _ is-private-entry body-slots _ _ place-slots)))
+    (put-at (args .turn .live) (args .numbers .now) _ _ _ _ _ (c .before .before .before .before .position .ensures ∙ ap (position (fieldsIn (args .file .now)) (args .node .arg)) value) value2 (c .before .before .put-taken .ensures), entry-wrote _ _ _ _ _ _ _ _ pre _ _ _ _ _ _ _ is-private-entry body-slots _ _ place-slots)))
