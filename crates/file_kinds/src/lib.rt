@@ -134,6 +134,13 @@ pub const CALLER_CODE: usize = 1;
 
 pub const KEY_CODE: usize = 2;
 
+// The owner codes as bytes.
+pub const EVERYONE_BYTE: u8 = EVERYONE_CODE as u8;
+
+pub const CALLER_BYTE: u8 = CALLER_CODE as u8;
+
+pub const KEY_BYTE: u8 = KEY_CODE as u8;
+
 // "Owner codes: .. 16+f final field f (f 0 to 63), 128+k parameter k (k 0 to 7).": where the codes of finals and those of parameters
 // begin, and where they end.
 pub const FINAL_CODES: usize = 16;
@@ -207,6 +214,10 @@ pub const FINAL_CODES_SHORT: u16 = FINAL_CODES as u16;
 pub const FINAL_CODES_END_SHORT: u16 = FINAL_CODES_END as u16;
 
 pub const PARAMETER_CODES_SHORT: u16 = PARAMETER_CODES as u16;
+
+pub const EVERYONE_CODE_SHORT: u16 = EVERYONE_CODE as u16;
+
+pub const KEY_CODE_SHORT: u16 = KEY_CODE as u16;
 
 pub const CALLER_CODE_SHORT: u16 = CALLER_CODE as u16;
 

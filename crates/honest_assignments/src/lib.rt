@@ -1,11 +1,13 @@
 // 01, Runs and views: an assignment of the original on numbers, with the numbers of the variables that it makes.
 use file_bytes::Node;
+use file_kinds::EVERYONE_BYTE;
 use honest_supplies::Turn;
 use honest_supplies::body_slots;
 use honest_supplies::place_slots;
 use honest_values::value;
 use ledger_places::position;
 use ledger_places::put_number;
+use rewrite_owners::NO_NAME;
 use rewrite_owners::field_owner;
 use rewrite_owners::name_code;
 use rewrite_owners::place_code;
@@ -32,7 +34,7 @@ fn is_private_field(file: &[u8], function_at: usize, source: &[u16], f: usize) -
     requires { ⌜ (f ≤ 255) × (Context (now file) «function_at» (now source)) ⌝ }
     ensures { λ r. ⌜ r ≡ not (isEveryone (placeOwner ((fieldAt (fieldsIn (now (file .entry))) f) .owner) none)) ⌝ }
 {
-    place_code(field_owner(file, f), 0) != 0
+    place_code(field_owner(file, f), NO_NAME) != EVERYONE_BYTE
 }
 
 fn is_private_entry(file: &[u8], function_at: usize, source: &[u16], f: usize, key: usize) -> bool
@@ -41,7 +43,7 @@ fn is_private_entry(file: &[u8], function_at: usize, source: &[u16], f: usize, k
         (nameOf (scopeIn (now (file .entry)) «function_at») (nodeExpression (now (file .entry)) key)))) ⌝ }
 {
     let owner = field_owner(file, f);
-    place_code(owner, name_code(file, function_at, source, key)) != 0
+    place_code(owner, name_code(file, function_at, source, key)) != EVERYONE_BYTE
 }
 
 // The field of a node takes a value.

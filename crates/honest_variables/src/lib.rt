@@ -2,6 +2,8 @@
 use file_bytes::byte_at;
 use file_bytes::function_end;
 use file_bytes::two_bytes_at;
+use file_kinds::CALLER_CODE;
+use file_kinds::EVERYONE_CODE;
 use file_kinds::FINAL_CODES;
 use file_kinds::FINAL_CODES_END;
 use file_kinds::PARAMETER_CODES;
@@ -70,8 +72,8 @@ fn address_place(code: usize) -> usize
     requires { ⌜ (code ≡ 0 → ⊥) ⌝ }
     ensures { λ r. ⌜ AddressPlace code r ⌝ }
 {
-    if code == 1 {
-        return 1;
+    if code == CALLER_CODE {
+        return CALLER_CODE;
     }
     if code < FINAL_CODES {
         return PARAMETER_CODES;
@@ -88,7 +90,7 @@ fn address_place(code: usize) -> usize
 fn reader_of(addresses: &[u32], code: usize) -> Reader
     ensures { λ r. ⌜ readerOfCode r ≡ readerOf (addressFrom (now (addresses .entry))) (ownerOfCode code) ⌝ }
 {
-    if code == 0 {
+    if code == EVERYONE_CODE {
         Reader::Anyone
     } else {
         let place = address_place(code);

@@ -1,5 +1,6 @@
 // Whether the parameters of a ledger's last call have the types and the owners that the file asks.
 use file_bytes::byte_at;
+use file_kinds::EVERYONE_CODE;
 use ledger_readers::Reader;
 ghost use Rattle.kit.specs.Names.{_≡_, _&&_, not, cond, _≤_, eqb};
 ghost use Rattle.definitions.specs.ContractFile.{byteAt};
@@ -14,7 +15,7 @@ ghost use Rattle.ledger_18_parameters.specs.Parameters.{formsOfParameter
 fn parameter_reader(owner: usize, caller: u8) -> Reader
     ensures { λ r. ⌜ readerOfCode r ≡ cond (not (eqb owner 0)) (only caller) anyone ⌝ }
 {
-    if owner == 0 {
+    if owner == EVERYONE_CODE {
         Reader::Anyone
     } else {
         Reader::Only(caller as u32)
@@ -25,7 +26,7 @@ fn parameter_reader(owner: usize, caller: u8) -> Reader
 fn is_hidden(all: bool, owner: usize) -> bool
     ensures { λ r. ⌜ r ≡ (not (eqb owner 0) && not all) ⌝ }
 {
-    if owner == 0 { false } else { !all }
+    if owner == EVERYONE_CODE { false } else { !all }
 }
 
 // All parameters of the function that begins at a place, or the public ones alone.

@@ -2,6 +2,7 @@
 use file_bytes::two_bytes_at;
 use file_kinds::ADDRESS;
 use file_kinds::BOOL;
+use file_kinds::EVERYONE_CODE;
 use ledger_readers::Reader;
 use ledger_types::type_code;
 use rewrite_log::GUARD_LOGGED;
@@ -16,7 +17,7 @@ ghost use Rattle.ledger_18_variable.specs.Variables.{codeReader};
 pub fn code_reader(addresses: &[u32], code: usize) -> Reader
     ensures { λ r. ⌜ readerOfCode r ≡ codeReader (now (addresses .entry)) code ⌝ }
 {
-    if code == 0 {
+    if code == EVERYONE_CODE {
         Reader::Anyone
     } else {
         Reader::Only(ledger_places::number_at(addresses, code))

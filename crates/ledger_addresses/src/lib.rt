@@ -1,5 +1,6 @@
 // 01, Owners: the addresses that names stand for in a call, put down at their owner codes.
 use file_bytes::byte_at;
+use file_kinds::CALLER_CODE;
 use file_kinds::FINAL;
 use file_kinds::FINAL_CODES;
 use file_kinds::FINAL_CODES_END;
@@ -50,7 +51,7 @@ fn address_of_code(
     requires { ⌜ FewNames (now file) «function_at» ⌝ }
     ensures { λ r. ⌜ r ≡ addressOfCode (now (file .entry)) «function_at» caller (now (arguments .entry)) (now (places .entry)) code ⌝ }
 {
-    if code == 1 {
+    if code == CALLER_CODE {
         return caller as u32;
     }
     if code < FINAL_CODES {

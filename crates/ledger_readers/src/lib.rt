@@ -1,6 +1,8 @@
 // Who can read a value, the content that a value is for its readers, and whether a content is what a form asks.
 use file_kinds::BOOL;
+use file_kinds::EVERYONE_CODE;
 use file_kinds::FINAL_CODES;
+use file_kinds::KEY_CODE;
 use file_kinds::UINT;
 use ledger_contents::Cell;
 use ledger_contents::Content;
@@ -93,10 +95,10 @@ pub fn place_reader(file: &[u8], f: usize, key: u32, numbers: &[u32]) -> Reader
         ((fieldAt (fieldsIn (now (file .entry))) f) .owner) key ⌝ }
 {
     let owner = file_bytes::byte_at(file, 1 + 3 * f + 2);
-    if owner == 0 {
+    if owner == EVERYONE_CODE {
         return Reader::Anyone;
     }
-    if owner == 2 {
+    if owner == KEY_CODE {
         return Reader::Only(key);
     }
     let p = ledger_places::position(file, final_of(owner), 0);

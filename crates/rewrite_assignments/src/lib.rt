@@ -1,5 +1,6 @@
 // The events of an assignment, logged in their order: the key's, the value's, the supply for a private place.
 use file_bytes::Node;
+use file_kinds::EVERYONE_CODE;
 use rewrite_expressions::body_log;
 use rewrite_expressions::supply_log;
 use rewrite_log::Position;
@@ -28,7 +29,7 @@ pub fn place_log(
     requires { ⌜ ReadyToPlace (now file) «function_at» (now source) n guard owner (now log) p ⌝ }
     ensures { λ r. ⌜ Placed (now (file .entry)) «function_at» guard n owner (now (log .entry)) (now (log .exit)) p r ⌝ }
 {
-    if owner == 0 {
+    if owner == EVERYONE_CODE {
         return body_log(file, function_at, source, n, guard, log, p);
     }
     if is_public(file, function_at, source, n) {

@@ -2,11 +2,15 @@
 use file_bytes::byte_at;
 use file_decoded::node_at;
 use file_kinds::ADDRESS;
+use file_kinds::CALLER_BYTE;
 use file_kinds::CONSTANT;
 use file_kinds::ENTRY;
+use file_kinds::EVERYONE_BYTE;
+use file_kinds::EVERYONE_CODE;
 use file_kinds::FIELD;
 use file_kinds::FINAL;
 use file_kinds::FINAL_CODES;
+use file_kinds::KEY_BYTE;
 use file_kinds::NOT;
 use file_kinds::OPERATOR;
 use file_kinds::PARAMETER;
@@ -20,6 +24,9 @@ ghost use Rattle.theory_trees.specs.Trees.{expressionIn};
 ghost use Rattle.file_accepted.specs.Context.{Context, nodesIn, fieldsIn, parametersIn, scopeIn};
 ghost use Rattle.rewrite_owners.specs.Codes.{nameCode, partsCode, placeCode, FieldsListed};
 
+// The code for an expression that is not a name: no name has it.
+pub const NO_NAME: u8 = 0;
+
 // The owner code that field f declares; a field that is missing belongs to all.
 pub fn field_owner(file: &[u8], f: usize) -> u8
     requires { ⌜ (f ≤ 255) × (FieldsListed (now file)) ⌝ }
@@ -28,7 +35,7 @@ pub fn field_owner(file: &[u8], f: usize) -> u8
     if f < byte_at(file, 0) {
         byte_at(file, 1 + 3 * f + 2) as u8
     } else {
-        0
+        EVERYONE_BYTE
     }
 }
 
@@ -41,10 +48,10 @@ fn final_code(file: &[u8], f: usize) -> u8
         if byte_at(file, 1 + 3 * f) == FINAL {
             (FINAL_CODES + f) as u8
         } else {
-            0
+            NO_NAME
         }
     } else {
-        0
+        NO_NAME
     }
 }
 
@@ -59,14 +66,14 @@ fn address_code(file: &[u8], function_at: usize, k: usize) -> u8
         let kind = byte_at(file, function_at + 1 + 2 * k);
         let owner = byte_at(file, function_at + 1 + 2 * k + 1);
         if kind < ADDRESS {
-            0
-        } else if owner == 0 {
+            NO_NAME
+        } else if owner == EVERYONE_CODE {
             (PARAMETER_CODES + k) as u8
         } else {
-            0
+            NO_NAME
         }
     } else {
-        0
+        NO_NAME
     }
 }
 
@@ -76,23 +83,27 @@ pub fn parameter_code(file: &[u8], function_at: usize, k: usize) -> u8
     ensures { λ r. ⌜ r ≡ ownerCode (parameterOwner (parameterAt (parametersIn (now (file .entry)) «function_at») k)) ⌝ }
 {
     if k < byte_at(file, function_at) {
-        if byte_at(file, function_at + 1 + 2 * k + 1) == 0 {
-            0
+        if byte_at(file, function_at + 1 + 2 * k + 1) == EVERYONE_CODE {
+            EVERYONE_BYTE
         } else {
-            1
+            CALLER_BYTE
         }
     } else {
-        1
+        CALLER_BYTE
     }
 }
 
 fn parts_code(left: u8, right: u8) -> u8
     ensures { λ r. ⌜ r ≡ partsCode left right ⌝ }
 {
-    if left == 0 {
-        if right == 0 { 0 } else { 1 }
+    if left == EVERYONE_BYTE {
+        if right == EVERYONE_BYTE {
+            EVERYONE_BYTE
+        } else {
+            CALLER_BYTE
+        }
     } else {
-        1
+        CALLER_BYTE
     }
 }
 
@@ -100,8 +111,8 @@ fn parts_code(left: u8, right: u8) -> u8
 pub fn place_code(owner: u8, key: u8) -> u8
     ensures { λ r. ⌜ r ≡ placeCode owner key ⌝ }
 {
-    if owner == 2 {
-        if key == 0 { 1 } else { key }
+    if owner == KEY_BYTE {
+        if key == NO_NAME { CALLER_BYTE } else { key }
     } else {
         owner
     }
@@ -115,14 +126,14 @@ pub fn name_code(file: &[u8], function_at: usize, source: &[u16], n: usize) -> u
     let node = node_at(source, n);
     let kind = node.kind;
     match kind {
-        CONSTANT => 0,
+        CONSTANT => NO_NAME,
         FIELD => final_code(file, node.arg),
-        ENTRY => 0,
+        ENTRY => NO_NAME,
         PARAMETER => address_code(file, function_at, node.arg),
-        OPERATOR => 0,
-        NOT => 0,
-        REVEAL => 0,
-        _ => 1,
+        OPERATOR => NO_NAME,
+        NOT => NO_NAME,
+        REVEAL => NO_NAME,
+        _ => CALLER_BYTE,
     }
 }
 
@@ -134,23 +145,29 @@ pub fn owner_code(file: &[u8], function_at: usize, source: &[u16], n: usize) -> 
     let node = node_at(source, n);
     let kind = node.kind;
     match kind {
-        CONSTANT => 0,
-        FIELD => place_code(field_owner(file, node.arg), 0),
+        CONSTANT => EVERYONE_BYTE,
+        FIELD => place_code(field_owner(file, node.arg), NO_NAME),
         ENTRY => place_code(
             field_owner(file, node.arg),
             name_code(file, function_at, source, node.first),
         ),
         PARAMETER => parameter_code(file, function_at, node.arg),
         OPERATOR => {
-            if owner_code(file, function_at, source, node.first) == 0 {
-                parts_code(owner_code(file, function_at, source, node.second), 0)
+            if owner_code(file, function_at, source, node.first) == EVERYONE_BYTE {
+                parts_code(
+                    owner_code(file, function_at, source, node.second),
+                    EVERYONE_BYTE,
+                )
             } else {
-                1
+                CALLER_BYTE
             }
         }
-        NOT => parts_code(owner_code(file, function_at, source, node.first), 0),
+        NOT => parts_code(
+            owner_code(file, function_at, source, node.first),
+            EVERYONE_BYTE,
+        ),
         REVEAL => node.arg as u8,
-        _ => 0,
+        _ => EVERYONE_BYTE,
     }
 }
 
@@ -159,5 +176,5 @@ pub fn is_public(file: &[u8], function_at: usize, source: &[u16], n: usize) -> b
     requires { ⌜ (n < nodeCount (now file)) × (Context (now file) «function_at» (now source)) ⌝ }
     ensures { λ r. ⌜ r ≡ isPublic (scopeIn (now (file .entry)) «function_at») (expressionIn (nodesIn (now (file .entry))) n) ⌝ }
 {
-    owner_code(file, function_at, source, n) == 0
+    owner_code(file, function_at, source, n) == EVERYONE_BYTE
 }

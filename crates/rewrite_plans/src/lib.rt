@@ -1,6 +1,7 @@
 // What rewriting does with a node: whether it is supplied in the body, read in a circuit, and which parts it has.
 use file_decoded::node_at;
 use file_kinds::ENTRY;
+use file_kinds::EVERYONE_BYTE;
 use file_kinds::FIELD;
 use file_kinds::NOT;
 use file_kinds::OPERATOR;
@@ -25,7 +26,7 @@ pub struct Parts {
 fn private_code(owner: u8) -> usize
     ensures { λ r. ⌜ r ≡ cond (eqb owner 0) 0 2 ⌝ }
 {
-    if owner == 0 { 0 } else { 2 }
+    if owner == EVERYONE_BYTE { 0 } else { 2 }
 }
 
 // The owner is asked for where it decides: it is found by going through the parts.
@@ -36,7 +37,7 @@ fn division_code(file: &[u8], function_at: usize, source: &[u16], n: usize, oper
         && isDivision (operatorOf operator)) 1 0 ⌝ }
 {
     if is_division(operator) {
-        if owner_code(file, function_at, source, n) == 0 {
+        if owner_code(file, function_at, source, n) == EVERYONE_BYTE {
             1
         } else {
             0

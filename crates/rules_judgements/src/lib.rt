@@ -1,5 +1,6 @@
 // What is found of an expression: its data type, owner, name and least fault; of constants and places.
 use file_kinds::ADDRESS_SHORT;
+use file_kinds::EVERYONE_CODE_SHORT;
 use file_kinds::FINAL_SHORT;
 use file_kinds::MAPPING_SHORT;
 use rules_codes::given_if;
@@ -87,7 +88,7 @@ pub fn argument_name(k: u16, p: Given) -> u16
     requires { ⌜ (p .owner ≡ 0 → k < 8) ⌝ }
     ensures { λ r. ⌜ r ≡ argumentName k p ⌝ }
 {
-    if p.owner == 0 {
+    if p.owner == EVERYONE_CODE_SHORT {
         given_if(p.kind == ADDRESS_SHORT, PARAMETERS + k)
     } else {
         0
@@ -99,7 +100,7 @@ pub fn parameter_judged(classes: &[u16], k: u16, count: usize, p: Given) -> Judg
     requires { ⌜ (p .owner ≡ 0 → k < 8) × (10 ≤ length (now classes)) ⌝ }
     ensures { λ r. ⌜ r ≡ parameterJudged (linkedBy (now (classes .entry))) k count p ⌝ }
 {
-    let owner = given_if(!(p.owner == 0), CALLER);
+    let owner = given_if(!(p.owner == EVERYONE_CODE_SHORT), CALLER);
     let name = argument_name(k, p);
     let fault = least(number_if(count <= (k as usize), 8), unread(classes, owner));
     Judged {

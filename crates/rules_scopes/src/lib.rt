@@ -1,7 +1,9 @@
 // The fields and parameters that a function's nodes name, as the decoded slices hold them.
 use file_kinds::ADDRESS_SHORT;
 use file_kinds::BOOL_SHORT;
+use file_kinds::EVERYONE_CODE_SHORT;
 use file_kinds::FINAL_SHORT;
+use file_kinds::KEY_CODE_SHORT;
 use rules_faults::both;
 use rules_owners::FINALS;
 use rules_owners::PARAMETERS;
@@ -36,7 +38,7 @@ pub fn field_from(fields: &[u16], f: u16) -> Declared
         shape: fields[at],
         kind: fields[at + 1],
         owner: declared_number(code),
-        tagged: code == 2,
+        tagged: code == KEY_CODE_SHORT,
     }
 }
 
@@ -69,7 +71,10 @@ pub fn target_fits(fields: &[u16], parameters: &[u16], target: u16) -> bool
     }
     if target < FINALS {
         let given = parameter_from(parameters, target - PARAMETERS);
-        return both(given.kind == ADDRESS_SHORT, given.owner == 0);
+        return both(
+            given.kind == ADDRESS_SHORT,
+            given.owner == EVERYONE_CODE_SHORT,
+        );
     }
     let declared = field_from(fields, target - FINALS);
     declared.shape == FINAL_SHORT

@@ -1,5 +1,6 @@
 // 01, Runs and views: what a constraint says of its variable.
 use file_kinds::CALLER_CODE;
+use file_kinds::EVERYONE_CODE;
 use file_kinds::FINAL_CODES;
 use file_kinds::FINAL_CODES_END;
 use file_kinds::OPENS;
@@ -23,8 +24,8 @@ ghost use Rattle.ledger_circuits.specs.Circuits.{addressFrom, valueFrom, claimF
 pub fn address_of(addresses: &[u32], code: usize) -> u32
     ensures { λ r. ⌜ ((code ≡ 0 → ⊥) → readerOf (addressFrom (now (addresses .entry))) (ownerOfCode code) ≡ only r) ⌝ }
 {
-    if code == 1 {
-        number_at(addresses, 1)
+    if code == CALLER_CODE {
+        number_at(addresses, CALLER_CODE)
     } else if code < FINAL_CODES {
         number_at(addresses, PARAMETER_CODES)
     } else if code < FINAL_CODES_END {
@@ -64,7 +65,7 @@ pub fn equals_value(
 {
     let value = root_value(nodes, addresses, variables, root);
     let content = content_at(variables, i);
-    if owner == 0 {
+    if owner == EVERYONE_CODE {
         is_plain(content, value)
     } else {
         is_cell_of(content, address_of(addresses, owner), value)

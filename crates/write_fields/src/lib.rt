@@ -1,6 +1,7 @@
 // 01, Rewriting: the fields as they are written, "Fields keep their layout; private ones get type 3 (cell)".
 use file_bytes::byte_at;
 use file_kinds::CELL;
+use file_kinds::EVERYONE_CODE;
 use memory_append::append_byte;
 ghost use Rattle.kit.specs.Names.{_≡_, true, _+_, _*_, _≤_, length};
 ghost use Rattle.definitions.specs.ContractFile.{fieldCount};
@@ -13,7 +14,7 @@ fn written_type(kind: usize, owner: usize) -> usize
     ensures { λ r. ⌜ r ≡ writtenType kind owner ⌝ }
     ensures { λ r. ⌜ r ≤ 255 ⌝ }
 {
-    if owner == 0 { kind } else { CELL }
+    if owner == EVERYONE_CODE { kind } else { CELL }
 }
 
 fn append_field(shape: usize, kind: usize, owner: usize, out: &mut [u8], at: usize) -> usize

@@ -3,7 +3,10 @@ use file_bytes::byte_at;
 use file_kinds::ADDRESS_BYTE;
 use file_kinds::BOOL;
 use file_kinds::BOOL_BYTE;
+use file_kinds::CALLER_BYTE;
 use file_kinds::CELL_BYTE;
+use file_kinds::EVERYONE_BYTE;
+use file_kinds::EVERYONE_CODE;
 use file_kinds::OPENS;
 use file_kinds::UINT;
 use file_kinds::UINT_BYTE;
@@ -35,12 +38,12 @@ fn append_parameter(kind: usize, owner: usize, out: &mut [u8], at: usize) -> usi
     requires { ⌜ at + length (parameterBytes (parameterOf (parameterRead kind owner))) ≤ length (now out) ⌝ }
     ensures { λ r. ⌜ Appended (now (out .entry)) (now (out .exit)) at (parameterBytes (parameterOf (parameterRead kind owner))) r ⌝ }
 {
-    if owner == 0 {
+    if owner == EVERYONE_CODE {
         let next = append_byte(type_code(kind), out, at);
-        append_byte(0, out, next)
+        append_byte(EVERYONE_BYTE, out, next)
     } else {
         let next = append_byte(CELL_BYTE, out, at);
-        append_byte(1, out, next)
+        append_byte(CALLER_BYTE, out, next)
     }
 }
 
@@ -70,7 +73,7 @@ fn one_if_private(owner: usize) -> usize
     ensures { λ r. ⌜ r ≡ oneIfPrivate owner ⌝ }
     ensures { λ r. ⌜ r ≤ 1 ⌝ }
 {
-    if owner == 0 { 0 } else { 1 }
+    if owner == EVERYONE_CODE { 0 } else { 1 }
 }
 
 // How many of them are private.

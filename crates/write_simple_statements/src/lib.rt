@@ -2,6 +2,7 @@
 use file_decoded::node_at;
 use file_kinds::ENTRY_TAKES;
 use file_kinds::ENTRY_TAKES_BYTE;
+use file_kinds::EVERYONE_BYTE;
 use file_kinds::FIELD_TAKES;
 use file_kinds::FIELD_TAKES_BYTE;
 use file_kinds::IF;
@@ -32,7 +33,7 @@ pub fn is_private_place(file: &[u8], f: usize) -> bool
     requires { ⌜ (f ≤ 255) × (FieldsListed (now file)) ⌝ }
     ensures { λ r. ⌜ PrivatePlace (now (file .entry)) f r ⌝ }
 {
-    field_owner(file, f) != 0
+    field_owner(file, f) != EVERYONE_BYTE
 }
 
 // The form of node n when it is put into a place.

@@ -1,4 +1,5 @@
 // 01, Rewriting: a function's variables and keys, written from its log.
+use file_kinds::EVERYONE_CODE_SHORT;
 use memory_append::append_byte;
 use rewrite_log::READ_LOGGED;
 use rewrite_log::SUPPLIED_LOGGED;
@@ -46,13 +47,17 @@ fn origin_of(tag: u16, owner: u16) -> u8
     ensures { λ r. ⌜ r ≡ originOf tag owner ⌝ }
 {
     if tag == SUPPLIED_LOGGED {
-        if owner == 0 {
+        if owner == EVERYONE_CODE_SHORT {
             SUPPLIED_PLAIN
         } else {
             SUPPLIED_CELL
         }
     } else if tag == READ_LOGGED {
-        if owner == 0 { READ_PLAIN } else { READ_CELL }
+        if owner == EVERYONE_CODE_SHORT {
+            READ_PLAIN
+        } else {
+            READ_CELL
+        }
     } else {
         GUARD
     }
@@ -107,7 +112,7 @@ fn append_key(tag: u16, owner: u16, table: &mut [u8], out: &mut [u8], at: usize)
         (now (out .entry)) (now (out .exit)) at r ⌝ }
 {
     if tag == SUPPLIED_LOGGED {
-        if owner == 0 {
+        if owner == EVERYONE_CODE_SHORT {
             at
         } else {
             append_code((owner % 256) as u8, table, out, at)

@@ -2,18 +2,17 @@
 use Rattle.kit.specs.Names.{_∙_, _+_, _*_, _-_, _≤_, arith, length, needs}
 use Rattle.file_decoded.specs.Slices.{numberAt, parametersFrom}
 use Rattle.rules_contract.proofs.Functions.{FunctionsSo, functions-start, functions-more, functions-done, own-parameters, own-ready}
-use Rattle.rules_contract.proofs.functions_fault.Statement.{statement}
-use Rattle.rules_contract.proofs.functions_fault.Tie as tie
+use Rattle.rules_contract.proofs.functions_fault as own
 
-abbrev Inv-loop : tie.InvT-loop
+abbrev Inv-loop : own.Tie.InvT-loop
 Inv-loop fields functions parameters nodes owners₀ count fault₀ f₀ owners fault f = (f ≤ count) × FunctionsSo fields functions parameters nodes owners₀ f fault owners
 
-abbrev μ-loop : tie.MeasureT-loop
+abbrev μ-loop : own.Tie.MeasureT-loop
 μ-loop fields functions parameters nodes owners₀ count fault₀ f₀ owners fault f = count - f
 
-pub functions-fault-spec : {M : Type 1} → statement M
+pub functions-fault-spec : {M : Type 1} → own.Statement.statement M
 functions-fault-spec =
-    tie.close (tie.spec Inv-loop μ-loop
+    own.Tie.close (own.Tie.spec Inv-loop μ-loop
     (λ c. let s = c .before .before .before .before .before in (omega arith, functions-start _ _ _ _ (s .args .owners .now)))
     (λ c. let s = c .before .before .before .before .before .before .before in let ready = s .pre in let loop = c .before .loop in let here = c .loop-test .taken in let few = ready .few in omega (arith, here, few))
     (λ c κs. let s = c .before .before .before .before .before .before .before in let ready = s .pre in let loop = c .before .loop in let here = c .loop-test .taken in let few = ready .few in omega (arith, here))
@@ -25,12 +24,12 @@ functions-fault-spec =
     (λ c. let s = c .before .before .before .before .before .before .before .before .before in let ready = s .pre in let loop = c .before .before .before .loop in let here = c .before .before .loop-test .taken in let few = ready .few in omega (arith, here, few))
     (λ c. let s = c .before .before .before .before .before .before .before .before .before in let ready = s .pre in let loop = c .before .before .before .loop in let here = c .before .before .loop-test .taken in let few = ready .few in omega (arith, here, few))
     (λ c κs. let s = c .before .before .before .before .before .before .before .before .before in let ready = s .pre in let loop = c .before .before .before .loop in let here = c .before .before .loop-test .taken in let few = ready .few in omega (arith, here))
-    (λ c. let s = c .before .before .before .before .before .before .before .before .before .before in let ready = s .pre in let loop = c .before .before .before .before .loop in let here = c .before .before .before .loop-test .taken in let few = ready .few in let from = c .before .before .number-from .ensures .0 in let own = c .before .number-from2 .ensures .0 in let inside : numberAt (s .args .functions .now) (3 * loop .f) + 2 * numberAt (s .args .functions .now) (3 * loop .f + 1) ≤ length (s .args .parameters .now) = ready .inside .each (loop .f) (omega (arith, here)) in omega (arith, inside, from, own))
-    (λ c. let s = c .before .before .before .before .before .before .before .before .before .before in let ready = s .pre in let loop = c .before .before .before .before .loop in let here = c .before .before .before .loop-test .taken in let few = ready .few in let from = c .before .before .number-from .ensures .0 in let own = c .before .number-from2 .ensures .0 in let inside : numberAt (s .args .functions .now) (3 * loop .f) + 2 * numberAt (s .args .functions .now) (3 * loop .f + 1) ≤ length (s .args .parameters .now) = ready .inside .each (loop .f) (omega (arith, here)) in omega (arith, inside, from, own))
-    (λ c. let s = c .before .before .before .before .before .before .before .before .before .before in let ready = s .pre in let loop = c .before .before .before .before .loop in let here = c .before .before .before .loop-test .taken in let few = ready .few in let from = c .before .before .number-from .ensures .0 in let own = c .before .number-from2 .ensures .0 in let inside : numberAt (s .args .functions .now) (3 * loop .f) + 2 * numberAt (s .args .functions .now) (3 * loop .f + 1) ≤ length (s .args .parameters .now) = ready .inside .each (loop .f) (omega (arith, here)) in omega (arith, inside, from, own))
-    (λ c. let s = c .before .before .before .before .before .before .before .before .before .before in let ready = s .pre in let loop = c .before .before .before .before .loop in let here = c .before .before .before .loop-test .taken in let few = ready .few in let from = c .before .before .number-from .ensures .0 in let own = c .before .number-from2 .ensures .0 in let inside : numberAt (s .args .functions .now) (3 * loop .f) + 2 * numberAt (s .args .functions .now) (3 * loop .f + 1) ≤ length (s .args .parameters .now) = ready .inside .each (loop .f) (omega (arith, here)) in omega (arith, inside, from, own))
-    (λ c κs. let s = c .before .before .before .before .before .before .before .before .before .before .before .before in let ready = s .pre in let loop = c .before .before .before .before .before .before .loop in let here = c .before .before .before .before .before .loop-test .taken in let few = ready .few in let from = c .before .before .before .before .number-from .ensures .0 in let own = c .before .before .before .number-from2 .ensures .0 in let inside : numberAt (s .args .functions .now) (3 * loop .f) + 2 * numberAt (s .args .functions .now) (3 * loop .f + 1) ≤ length (s .args .parameters .now) = ready .inside .each (loop .f) (omega (arith, here)) in let fits : c .before .before .before .before .number-from .result + 2 * c .before .before .before .number-from2 .result ≤ length (s .args .parameters .now) = omega (arith, inside, from, own) in let so = loop .inv .1 in let some = ready .fewParameters (loop .f) here in (rw (c .before .before .number-from3 .ensures .0) (ready .roots (loop .f) here), ready .declared, own-ready (s .args .parameters .now) (c .before .before .before .before .number-from .result) (c .before .before .before .number-from2 .result) fits (omega (arith, some, own)) (rw (own, from) (ready .listed (loop .f) here)), ready .bodies, omega (arith, ready .column, so .long)))
+    (λ c. let s = c .before .before .before .before .before .before .before .before .before .before in let ready = s .pre in let loop = c .before .before .before .before .loop in let here = c .before .before .before .loop-test .taken in let few = ready .few in let from = c .before .before .number-from .ensures .0 in let its = c .before .number-from2 .ensures .0 in let inside : numberAt (s .args .functions .now) (3 * loop .f) + 2 * numberAt (s .args .functions .now) (3 * loop .f + 1) ≤ length (s .args .parameters .now) = ready .inside .each (loop .f) (omega (arith, here)) in omega (arith, inside, from, its))
+    (λ c. let s = c .before .before .before .before .before .before .before .before .before .before in let ready = s .pre in let loop = c .before .before .before .before .loop in let here = c .before .before .before .loop-test .taken in let few = ready .few in let from = c .before .before .number-from .ensures .0 in let its = c .before .number-from2 .ensures .0 in let inside : numberAt (s .args .functions .now) (3 * loop .f) + 2 * numberAt (s .args .functions .now) (3 * loop .f + 1) ≤ length (s .args .parameters .now) = ready .inside .each (loop .f) (omega (arith, here)) in omega (arith, inside, from, its))
+    (λ c. let s = c .before .before .before .before .before .before .before .before .before .before in let ready = s .pre in let loop = c .before .before .before .before .loop in let here = c .before .before .before .loop-test .taken in let few = ready .few in let from = c .before .before .number-from .ensures .0 in let its = c .before .number-from2 .ensures .0 in let inside : numberAt (s .args .functions .now) (3 * loop .f) + 2 * numberAt (s .args .functions .now) (3 * loop .f + 1) ≤ length (s .args .parameters .now) = ready .inside .each (loop .f) (omega (arith, here)) in omega (arith, inside, from, its))
+    (λ c. let s = c .before .before .before .before .before .before .before .before .before .before in let ready = s .pre in let loop = c .before .before .before .before .loop in let here = c .before .before .before .loop-test .taken in let few = ready .few in let from = c .before .before .number-from .ensures .0 in let its = c .before .number-from2 .ensures .0 in let inside : numberAt (s .args .functions .now) (3 * loop .f) + 2 * numberAt (s .args .functions .now) (3 * loop .f + 1) ≤ length (s .args .parameters .now) = ready .inside .each (loop .f) (omega (arith, here)) in omega (arith, inside, from, its))
+    (λ c κs. let s = c .before .before .before .before .before .before .before .before .before .before .before .before in let ready = s .pre in let loop = c .before .before .before .before .before .before .loop in let here = c .before .before .before .before .before .loop-test .taken in let few = ready .few in let from = c .before .before .before .before .number-from .ensures .0 in let its = c .before .before .before .number-from2 .ensures .0 in let inside : numberAt (s .args .functions .now) (3 * loop .f) + 2 * numberAt (s .args .functions .now) (3 * loop .f + 1) ≤ length (s .args .parameters .now) = ready .inside .each (loop .f) (omega (arith, here)) in let fits : c .before .before .before .before .number-from .result + 2 * c .before .before .before .number-from2 .result ≤ length (s .args .parameters .now) = omega (arith, inside, from, its) in let so = loop .inv .1 in let some = ready .fewParameters (loop .f) here in (rw (c .before .before .number-from3 .ensures .0) (ready .roots (loop .f) here), ready .declared, own-ready (s .args .parameters .now) (c .before .before .before .before .number-from .result) (c .before .before .before .number-from2 .result) fits (omega (arith, some, its)) (rw (its, from) (ready .listed (loop .f) here)), ready .bodies, omega (arith, ready .column, so .long)))
     (λ c κs. search needs) (λ c. search needs) (λ c. search needs)
-    (λ c. let s = c .before .before .before .before .before .before .before .before .before .before .before .before .before .before .before .before in let ready = s .pre in let loop = c .before .before .before .before .before .before .before .before .before .before .loop in let here = c .before .before .before .before .before .before .before .before .before .loop-test .taken in let few = ready .few in let from = c .before .before .before .before .before .before .before .before .number-from .ensures .0 in let own = c .before .before .before .before .before .before .before .number-from2 .ensures .0 in let inside : numberAt (s .args .functions .now) (3 * loop .f) + 2 * numberAt (s .args .functions .now) (3 * loop .f + 1) ≤ length (s .args .parameters .now) = ready .inside .each (loop .f) (omega (arith, here)) in let fits : c .before .before .before .before .before .before .before .before .number-from .result + 2 * c .before .before .before .before .before .before .before .number-from2 .result ≤ length (s .args .parameters .now) = omega (arith, inside, from, own) in let so = loop .inv .1 in let some = ready .fewParameters (loop .f) here in (omega (arith, here), functions-more _ _ _ _ _ _ _ _ so _ _ _ _ here (own-parameters (s .args .parameters .now) (c .before .before .before .before .before .before .before .before .number-from .result) (c .before .before .before .before .before .before .before .number-from2 .result) fits ∙ λ i. parametersFrom (own i) (s .args .parameters .now) (from i)) (rw (c .before .before .before .before .before .before .number-from3 .ensures .0) at (c .before .before .before .function-fault .ensures)) (c .least .ensures)))
+    (λ c. let s = c .before .before .before .before .before .before .before .before .before .before .before .before .before .before .before .before in let ready = s .pre in let loop = c .before .before .before .before .before .before .before .before .before .before .loop in let here = c .before .before .before .before .before .before .before .before .before .loop-test .taken in let few = ready .few in let from = c .before .before .before .before .before .before .before .before .number-from .ensures .0 in let its = c .before .before .before .before .before .before .before .number-from2 .ensures .0 in let inside : numberAt (s .args .functions .now) (3 * loop .f) + 2 * numberAt (s .args .functions .now) (3 * loop .f + 1) ≤ length (s .args .parameters .now) = ready .inside .each (loop .f) (omega (arith, here)) in let fits : c .before .before .before .before .before .before .before .before .number-from .result + 2 * c .before .before .before .before .before .before .before .number-from2 .result ≤ length (s .args .parameters .now) = omega (arith, inside, from, its) in let so = loop .inv .1 in let some = ready .fewParameters (loop .f) here in (omega (arith, here), functions-more _ _ _ _ _ _ _ _ so _ _ _ _ here (own-parameters (s .args .parameters .now) (c .before .before .before .before .before .before .before .before .number-from .result) (c .before .before .before .before .before .before .before .number-from2 .result) fits ∙ λ i. parametersFrom (its i) (s .args .parameters .now) (from i)) (rw (c .before .before .before .before .before .before .number-from3 .ensures .0) at (c .before .before .before .function-fault .ensures)) (c .least .ensures)))
     (λ c. search needs)
     (λ c. let s = c .before .before .before .before .before .before .before in let done = c .loop-test .left in functions-done _ _ _ _ _ _ _ _ (c .before .loop .inv .1) (omega (arith, done))))
