@@ -4,7 +4,9 @@ use file_kinds::OPENS_SHORT;
 use write_circuits::Circuits;
 use write_circuits::put_circuits;
 use write_circuits::put_four;
+use write_function_bodies::Plan;
 use write_function_bodies::write_function_body;
+use write_places::Run;
 ghost use Rattle.kit.specs.Names.{_≡_, _*_, _≤_, length};
 ghost use Rattle.memory_buffer.specs.Buffer.{stored};
 ghost use Rattle.write_function_room.specs.Functions.{writtenIn};
@@ -47,16 +49,18 @@ fn put_constraints(
     put_openings(numbers, private);
     put_circuits(
         file,
-        function_at,
         source,
         log,
-        0,
-        entries,
+        Run {
+            function_at: function_at,
+            from: 0,
+            left: entries,
+            noted: 4 * private,
+            at: 0,
+            base: 0,
+        },
         numbers,
-        4 * private,
         out,
-        0,
-        0,
     )
 }
 
@@ -91,15 +95,17 @@ pub fn put_function(
     let count = private + circuits.count;
     let body = write_function_body(
         file,
-        function_at,
         source,
-        private,
-        0 < count,
+        Plan {
+            function_at: function_at,
+            private: private,
+            verified: 0 < count,
+            at: 8 * nodes,
+            base: nodes,
+        },
         log,
         roots,
         out,
-        8 * nodes,
-        nodes,
     );
     Extent {
         nodes: nodes + body,

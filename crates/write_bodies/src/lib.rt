@@ -10,6 +10,8 @@ use write_ends::find_end;
 use write_guards::put_guard;
 use write_nodes::put_above_three;
 use write_nodes::put_above_two;
+use write_places::Run;
+use write_places::Spot;
 use write_stepped_statements::write_single;
 use write_steps::close_steps;
 use write_steps::put_steps;
@@ -38,37 +40,25 @@ pub struct Condition {
 // A statement that holds no other, behind its steps.
 fn write_simple(
     file: &[u8],
-    function_at: usize,
     source: &[u16],
     n: usize,
     log: &[u16],
-    p: Position,
+    spot: Spot,
     roots: &mut [u16],
     out: &mut [u8],
-    at: usize,
-    base: usize,
 ) -> Extent
     requires { ⌜ (isSimple (statementIn (nodesIn (now file)) n) ≡ true)
-        × (StatementReady (now file) «function_at» (now source) n (now log) p (now roots) (now out) at base) ⌝ }
-    ensures { λ r. ⌜ StatementWritten (now (file .entry)) «function_at» n p (now (out .entry)) (now (out .exit)) at base r ⌝ }
+        × (StatementReady (now file) (spot .«function_at») (now source) n (now log) (spot .p) (now roots) (now out) (spot .at) (spot .base)) ⌝ }
+    ensures { λ r. ⌜ StatementWritten (now (file .entry)) (spot .«function_at») n (spot .p) (now (out .entry)) (now (out .exit)) (spot .at) (spot .base) r ⌝ }
 {
+    let function_at = spot.function_at;
+    let p = spot.p;
+    let at = spot.at;
+    let base = spot.base;
     let from = p.at;
     let end = find_end(log, from);
     let entries = (end.at - from) / 5;
-    let nodes = write_single(
-        file,
-        function_at,
-        source,
-        log,
-        from,
-        entries,
-        n,
-        p.variable,
-        roots,
-        out,
-        at,
-        base,
-    );
+    let nodes = write_single(file, source, log, entries, n, spot, roots, out);
     Extent {
         nodes: nodes,
         next: end,
@@ -78,35 +68,38 @@ fn write_simple(
 // The steps before a condition, and its form.
 fn write_condition(
     file: &[u8],
-    function_at: usize,
     source: &[u16],
     n: usize,
     log: &[u16],
-    p: Position,
+    spot: Spot,
     roots: &mut [u16],
     out: &mut [u8],
-    at: usize,
-    base: usize,
 ) -> Condition
-    requires { ⌜ ConditionReady (now file) «function_at» (now source) n (now log) p (now roots) (now out) at base ⌝ }
-    ensures { λ r. ⌜ ConditionWritten (now (file .entry)) «function_at» n p (now (roots .entry)) (now (roots .exit))
-        (now (out .entry)) (now (out .exit)) at base r ⌝ }
+    requires { ⌜ ConditionReady (now file) (spot .«function_at») (now source) n (now log) (spot .p) (now roots) (now out) (spot .at) (spot .base) ⌝ }
+    ensures { λ r. ⌜ ConditionWritten (now (file .entry)) (spot .«function_at») n (spot .p) (now (roots .entry)) (now (roots .exit))
+        (now (out .entry)) (now (out .exit)) (spot .at) (spot .base) r ⌝ }
 {
+    let function_at = spot.function_at;
+    let p = spot.p;
+    let at = spot.at;
+    let base = spot.base;
     let from = p.at;
     let end = find_end(log, from);
     let entries = (end.at - from) / 5;
     let steps = put_steps(
         file,
-        function_at,
         source,
         log,
-        from,
-        entries,
+        Run {
+            function_at: function_at,
+            from: from,
+            left: entries,
+            noted: 0,
+            at: at,
+            base: base,
+        },
         roots,
-        0,
         out,
-        at,
-        base,
     );
     let place = at + 8 * steps.nodes;
     let first = base + steps.nodes;
@@ -122,19 +115,20 @@ fn write_condition(
 // "Each branch begins by setting a guard variable of its own to true": node n behind its guard.
 fn write_branch(
     file: &[u8],
-    function_at: usize,
     source: &[u16],
     n: usize,
     log: &[u16],
-    p: Position,
+    spot: Spot,
     roots: &mut [u16],
     out: &mut [u8],
-    at: usize,
-    base: usize,
 ) -> Extent
-    requires { ⌜ BranchReady (now file) «function_at» (now source) n (now log) p (now roots) (now out) at base ⌝ }
-    ensures { λ r. ⌜ BranchWritten (now (file .entry)) «function_at» n p (now (out .entry)) (now (out .exit)) at base r ⌝ }
+    requires { ⌜ BranchReady (now file) (spot .«function_at») (now source) n (now log) (spot .p) (now roots) (now out) (spot .at) (spot .base) ⌝ }
+    ensures { λ r. ⌜ BranchWritten (now (file .entry)) (spot .«function_at») n (spot .p) (now (out .entry)) (now (out .exit)) (spot .at) (spot .base) r ⌝ }
 {
+    let function_at = spot.function_at;
+    let p = spot.p;
+    let at = spot.at;
+    let base = spot.base;
     let guard = p.variable;
     put_guard(guard, out, at, base);
     let q = Position {
@@ -143,15 +137,17 @@ fn write_branch(
     };
     let inside = write_statement(
         file,
-        function_at,
         source,
         n,
         log,
-        q,
+        Spot {
+            function_at: function_at,
+            p: q,
+            at: at + 16,
+            base: base + 2,
+        },
         roots,
         out,
-        at + 16,
-        base + 2,
     );
     let nodes = put_above_two(SEQUENCE_BYTE, 0, 2, inside.nodes, out, at, base);
     let next = inside.next;
@@ -164,51 +160,56 @@ fn write_branch(
 // The two branches of conditional n and its own node, behind a condition of so many nodes.
 fn write_branches(
     file: &[u8],
-    function_at: usize,
     source: &[u16],
     n: usize,
     form: usize,
     log: &[u16],
-    p: Position,
+    spot: Spot,
     roots: &mut [u16],
     out: &mut [u8],
-    at: usize,
-    base: usize,
 ) -> Extent
-    requires { ⌜ BranchesReady (now file) «function_at» (now source) n (recordAt (now source) n) form (now log) p
-        (now roots) (now out) at base ⌝ }
-    ensures { λ r. ⌜ BranchesWritten (now (file .entry)) «function_at» (recordAt (now (source .entry)) n) form p
-        (now (out .entry)) (now (out .exit)) at base r ⌝ }
+    requires { ⌜ BranchesReady (now file) (spot .«function_at») (now source) n (recordAt (now source) n) form (now log) (spot .p)
+        (now roots) (now out) (spot .at) (spot .base) ⌝ }
+    ensures { λ r. ⌜ BranchesWritten (now (file .entry)) (spot .«function_at») (recordAt (now (source .entry)) n) form (spot .p)
+        (now (out .entry)) (now (out .exit)) (spot .at) (spot .base) r ⌝ }
 {
+    let function_at = spot.function_at;
+    let p = spot.p;
+    let at = spot.at;
+    let base = spot.base;
     let node = node_at(source, n);
     let a = at + 8 * form;
     let b = base + form;
     let then = write_branch(
         file,
-        function_at,
         source,
         node.second,
         log,
-        p,
+        Spot {
+            function_at: function_at,
+            p: p,
+            at: a,
+            base: b,
+        },
         roots,
         out,
-        a,
-        b,
     );
     let c = a + 8 * then.nodes;
     let d = b + then.nodes;
     let q = then.next;
     let last = write_branch(
         file,
-        function_at,
         source,
         node.third,
         log,
-        q,
+        Spot {
+            function_at: function_at,
+            p: q,
+            at: c,
+            base: d,
+        },
         roots,
         out,
-        c,
-        d,
     );
     let nodes = put_above_three(IF_BYTE, form, then.nodes, last.nodes, out, at, base);
     let next = last.next;
@@ -221,49 +222,41 @@ fn write_branches(
 // A conditional behind the steps of its condition. The steps' roots stay before those of the branches.
 fn write_conditional(
     file: &[u8],
-    function_at: usize,
     source: &[u16],
     n: usize,
     log: &[u16],
-    p: Position,
+    spot: Spot,
     roots: &mut [u16],
     out: &mut [u8],
-    at: usize,
-    base: usize,
 ) -> Extent
     requires { ⌜ ((recordAt (now source) n) .kind ≡ 21)
-        × (StatementReady (now file) «function_at» (now source) n (now log) p (now roots) (now out) at base) ⌝ }
-    ensures { λ r. ⌜ StatementWritten (now (file .entry)) «function_at» n p (now (out .entry)) (now (out .exit)) at base r ⌝ }
+        × (StatementReady (now file) (spot .«function_at») (now source) n (now log) (spot .p) (now roots) (now out) (spot .at) (spot .base)) ⌝ }
+    ensures { λ r. ⌜ StatementWritten (now (file .entry)) (spot .«function_at») n (spot .p) (now (out .entry)) (now (out .exit)) (spot .at) (spot .base) r ⌝ }
 {
+    let function_at = spot.function_at;
+    let p = spot.p;
+    let at = spot.at;
+    let base = spot.base;
     let first = node_at(source, n).first;
-    let c = write_condition(
-        file,
-        function_at,
-        source,
-        first,
-        log,
-        p,
-        roots,
-        out,
-        at,
-        base,
-    );
+    let c = write_condition(file, source, first, log, spot, roots, out);
     let count = c.count;
     let q = c.next;
     let place = at + 8 * c.nodes;
     let number = base + c.nodes;
     let rest = write_branches(
         file,
-        function_at,
         source,
         n,
         c.form,
         log,
-        q,
+        Spot {
+            function_at: function_at,
+            p: q,
+            at: place,
+            base: number,
+        },
         &mut roots[count..],
         out,
-        place,
-        number,
     );
     let top = number + rest.nodes - 1;
     close_steps(roots, count, top, out, place + 8 * rest.nodes);
@@ -277,72 +270,65 @@ fn write_conditional(
 // Statement n, whose events the log holds from a position on; `roots` is scratch space.
 pub fn write_statement(
     file: &[u8],
-    function_at: usize,
     source: &[u16],
     n: usize,
     log: &[u16],
-    p: Position,
+    spot: Spot,
     roots: &mut [u16],
     out: &mut [u8],
-    at: usize,
-    base: usize,
 ) -> Extent
-    requires { ⌜ StatementReady (now file) «function_at» (now source) n (now log) p (now roots) (now out) at base ⌝ }
-    ensures { λ r. ⌜ StatementWritten (now (file .entry)) «function_at» n p (now (out .entry)) (now (out .exit)) at base r ⌝ }
+    requires { ⌜ StatementReady (now file) (spot .«function_at») (now source) n (now log) (spot .p) (now roots) (now out) (spot .at) (spot .base) ⌝ }
+    ensures { λ r. ⌜ StatementWritten (now (file .entry)) (spot .«function_at») n (spot .p) (now (out .entry)) (now (out .exit)) (spot .at) (spot .base) r ⌝ }
 {
+    let function_at = spot.function_at;
+    let p = spot.p;
+    let at = spot.at;
+    let base = spot.base;
     let node = node_at(source, n);
     let kind = node.kind;
     match kind {
-        SEQUENCE => write_sequence(file, function_at, source, n, log, p, roots, out, at, base),
-        IF => write_conditional(file, function_at, source, n, log, p, roots, out, at, base),
-        _ => write_simple(file, function_at, source, n, log, p, roots, out, at, base),
+        SEQUENCE => write_sequence(file, source, n, log, spot, roots, out),
+        IF => write_conditional(file, source, n, log, spot, roots, out),
+        _ => write_simple(file, source, n, log, spot, roots, out),
     }
 }
 
 // Two statements and the sequence above them.
 fn write_sequence(
     file: &[u8],
-    function_at: usize,
     source: &[u16],
     n: usize,
     log: &[u16],
-    p: Position,
+    spot: Spot,
     roots: &mut [u16],
     out: &mut [u8],
-    at: usize,
-    base: usize,
 ) -> Extent
     requires { ⌜ ((recordAt (now source) n) .kind ≡ 17)
-        × (StatementReady (now file) «function_at» (now source) n (now log) p (now roots) (now out) at base) ⌝ }
-    ensures { λ r. ⌜ StatementWritten (now (file .entry)) «function_at» n p (now (out .entry)) (now (out .exit)) at base r ⌝ }
+        × (StatementReady (now file) (spot .«function_at») (now source) n (now log) (spot .p) (now roots) (now out) (spot .at) (spot .base)) ⌝ }
+    ensures { λ r. ⌜ StatementWritten (now (file .entry)) (spot .«function_at») n (spot .p) (now (out .entry)) (now (out .exit)) (spot .at) (spot .base) r ⌝ }
 {
+    let function_at = spot.function_at;
+    let p = spot.p;
+    let at = spot.at;
+    let base = spot.base;
     let node = node_at(source, n);
-    let first = write_statement(
-        file,
-        function_at,
-        source,
-        node.first,
-        log,
-        p,
-        roots,
-        out,
-        at,
-        base,
-    );
+    let first = write_statement(file, source, node.first, log, spot, roots, out);
     let q = first.next;
     let a = at + 8 * first.nodes;
     let b = base + first.nodes;
     let second = write_statement(
         file,
-        function_at,
         source,
         node.second,
         log,
-        q,
+        Spot {
+            function_at: function_at,
+            p: q,
+            at: a,
+            base: b,
+        },
         roots,
         out,
-        a,
-        b,
     );
     let nodes = put_above_two(SEQUENCE_BYTE, 0, first.nodes, second.nodes, out, at, base);
     let next = second.next;

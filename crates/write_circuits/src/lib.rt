@@ -2,6 +2,7 @@
 use memory_buffer::put_number;
 use rewrite_log::CLAIM_LOGGED;
 use write_circuit_expressions::write_circuit_form;
+use write_places::Run;
 ghost use Rattle.kit.specs.Names.{_≡_, _+_, _*_, _≤_, length, getD};
 ghost use Rattle.memory_buffer.specs.Buffer.{stored};
 ghost use Rattle.file_accepted.specs.Context.{Context, nodesIn, scopeIn};
@@ -67,23 +68,24 @@ fn put_claim(log: &[u16], from: usize, root: u16, numbers: &mut [u16], noted: us
 // The circuits of the claims among `left` entries of a log, with the claims' numbers noted from place `noted` on.
 pub fn put_circuits(
     file: &[u8],
-    function_at: usize,
     source: &[u16],
     log: &[u16],
-    from: usize,
-    left: usize,
+    run: Run,
     numbers: &mut [u16],
-    noted: usize,
     out: &mut [u8],
-    at: usize,
-    base: usize,
 ) -> Circuits
-    requires { ⌜ (Context (now file) «function_at» (now source))
-        × ((Claimable (now file) «function_at» (now log) from left)
-        × (CircuitsRoom (now out) (now numbers) at base noted (claimsIn (now file) «function_at» (now log) from left))) ⌝ }
-    ensures { λ r. ⌜ CircuitsPut (now (out .entry)) (now (out .exit)) (now (numbers .entry)) (now (numbers .exit)) at base noted
-        (claimsIn (now (file .entry)) «function_at» (now (log .entry)) from left) r ⌝ }
+    requires { ⌜ (Context (now file) (run .«function_at») (now source))
+        × ((Claimable (now file) (run .«function_at») (now log) (run .from) (run .left))
+        × (CircuitsRoom (now out) (now numbers) (run .at) (run .base) (run .noted) (claimsIn (now file) (run .«function_at») (now log) (run .from) (run .left)))) ⌝ }
+    ensures { λ r. ⌜ CircuitsPut (now (out .entry)) (now (out .exit)) (now (numbers .entry)) (now (numbers .exit)) (run .at) (run .base) (run .noted)
+        (claimsIn (now (file .entry)) (run .«function_at») (now (log .entry)) (run .from) (run .left)) r ⌝ }
 {
+    let function_at = run.function_at;
+    let from = run.from;
+    let left = run.left;
+    let noted = run.noted;
+    let at = run.at;
+    let base = run.base;
     if left == 0 {
         Circuits { count: 0, nodes: 0 }
     } else if log[from] == CLAIM_LOGGED {
@@ -91,16 +93,18 @@ pub fn put_circuits(
         put_claim(log, from, (base + nodes - 1) as u16, numbers, noted);
         let later = put_circuits(
             file,
-            function_at,
             source,
             log,
-            from + 5,
-            left - 1,
+            Run {
+                function_at: function_at,
+                from: from + 5,
+                left: left - 1,
+                noted: noted + 4,
+                at: at + 8 * nodes,
+                base: base + nodes,
+            },
             numbers,
-            noted + 4,
             out,
-            at + 8 * nodes,
-            base + nodes,
         );
         Circuits {
             count: later.count + 1,
@@ -109,16 +113,18 @@ pub fn put_circuits(
     } else {
         put_circuits(
             file,
-            function_at,
             source,
             log,
-            from + 5,
-            left - 1,
+            Run {
+                function_at: function_at,
+                from: from + 5,
+                left: left - 1,
+                noted: noted,
+                at: at,
+                base: base,
+            },
             numbers,
-            noted,
             out,
-            at,
-            base,
         )
     }
 }

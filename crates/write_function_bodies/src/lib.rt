@@ -11,6 +11,7 @@ use write_bodies::write_statement;
 use write_nodes::put_above_two;
 use write_nodes::put_leaf;
 use write_nodes::put_setting;
+use write_places::Spot;
 use write_steps::Steps;
 use write_steps::close_steps;
 ghost use Rattle.kit.specs.Names.{_+_, _*_, _≤_};
@@ -21,45 +22,76 @@ ghost use Rattle.write_function_room.specs.Functions.{writtenIn};
 ghost use Rattle.write_bodies.specs.Bodies.{PassageReady, BodyReady};
 ghost use Rattle.write_bodies.specs.Parts.{openingSteps, passageTree};
 
+// The body of the function that begins at a place: how many of its parameters are private, whether a verify ends it, and the place and the
+// number of its first node.
+pub struct Plan {
+    pub function_at: usize,
+    pub private: usize,
+    pub verified: bool,
+    pub at: usize,
+    pub base: usize,
+}
+
+// The parameters that are left: where they stand in the file and how many, the number of the first one and of the first variable, and the
+// place and the number of the next node.
+pub struct ParametersLeft {
+    pub place: usize,
+    pub left: usize,
+    pub k: usize,
+    pub i: usize,
+    pub at: usize,
+    pub base: usize,
+}
+
 // "First, each private parameter is read": the steps of the parameters from number k on, which stand in the file from a place on; the
 // first variable is number i.
-pub fn put_openings(
-    file: &[u8],
-    place: usize,
-    left: usize,
-    k: usize,
-    i: usize,
-    roots: &mut [u16],
-    out: &mut [u8],
-    at: usize,
-    base: usize,
-) -> Steps
-    requires { ⌜ (k + left ≤ 8)
-        × ((i ≤ k)
-        × ((place + 2 * left ≤ 1000000) × (StepsRoom (now out) (now roots) at base i (openingSteps (now file) place left k i)))) ⌝ }
-    ensures { λ r. ⌜ StepsPut (now (out .entry)) (now (out .exit)) (now (roots .entry)) (now (roots .exit)) at base i
-        (openingSteps (now (file .entry)) place left k i) r ⌝ }
+pub fn put_openings(file: &[u8], rest: ParametersLeft, roots: &mut [u16], out: &mut [u8]) -> Steps
+    requires { ⌜ ((rest .k) + (rest .left) ≤ 8)
+        × (((rest .i) ≤ (rest .k))
+        × (((rest .place) + 2 * (rest .left) ≤ 1000000) × (StepsRoom (now out) (now roots) (rest .at) (rest .base) (rest .i) (openingSteps (now file) (rest .place) (rest .left) (rest .k) (rest .i))))) ⌝ }
+    ensures { λ r. ⌜ StepsPut (now (out .entry)) (now (out .exit)) (now (roots .entry)) (now (roots .exit)) (rest .at) (rest .base) (rest .i)
+        (openingSteps (now (file .entry)) (rest .place) (rest .left) (rest .k) (rest .i)) r ⌝ }
 {
+    let place = rest.place;
+    let left = rest.left;
+    let k = rest.k;
+    let i = rest.i;
+    let at = rest.at;
+    let base = rest.base;
     if left == 0 {
         return Steps { count: 0, nodes: 0 };
     }
     let next = place + 2;
     if byte_at(file, place + 1) == 0 {
-        return put_openings(file, next, left - 1, k + 1, i, roots, out, at, base);
+        return put_openings(
+            file,
+            ParametersLeft {
+                place: next,
+                left: left - 1,
+                k: k + 1,
+                i: i,
+                at: at,
+                base: base,
+            },
+            roots,
+            out,
+        );
     }
     put_leaf(PARAMETER_BYTE, k as u8, 0, 0, out, at);
     put_setting(i, 1, out, at, base);
     put_number(roots, i, (base + 1) as u16);
     let later = put_openings(
         file,
-        next,
-        left - 1,
-        k + 1,
-        i + 1,
+        ParametersLeft {
+            place: next,
+            left: left - 1,
+            k: k + 1,
+            i: i + 1,
+            at: at + 16,
+            base: base + 2,
+        },
         roots,
         out,
-        at + 16,
-        base + 2,
     );
     Steps {
         count: later.count + 1,
@@ -70,20 +102,21 @@ pub fn put_openings(
 // "A verify ends the body if any constraint exists." The log holds the events of the body.
 pub fn write_passage(
     file: &[u8],
-    function_at: usize,
     source: &[u16],
-    private: usize,
-    verified: bool,
+    plan: Plan,
     log: &[u16],
     roots: &mut [u16],
     out: &mut [u8],
-    at: usize,
-    base: usize,
 ) -> usize
-    requires { ⌜ PassageReady (now file) «function_at» (now source) private verified (now log) (now roots) (now out) at base ⌝ }
-    ensures { λ r. ⌜ Numbered (now (out .entry)) (now (out .exit)) at base
-        (passageTree (now (file .entry)) «function_at» private verified) r ⌝ }
+    requires { ⌜ PassageReady (now file) (plan .«function_at») (now source) (plan .private) (plan .verified) (now log) (now roots) (now out) (plan .at) (plan .base) ⌝ }
+    ensures { λ r. ⌜ Numbered (now (out .entry)) (now (out .exit)) (plan .at) (plan .base)
+        (passageTree (now (file .entry)) (plan .«function_at») (plan .private) (plan .verified)) r ⌝ }
 {
+    let function_at = plan.function_at;
+    let private = plan.private;
+    let verified = plan.verified;
+    let at = plan.at;
+    let base = plan.base;
     let root = two_bytes_at(file, function_end(file, function_at) - 2);
     let start = Position {
         at: 0,
@@ -91,15 +124,17 @@ pub fn write_passage(
     };
     let body = write_statement(
         file,
-        function_at,
         source,
         root,
         log,
-        start,
+        Spot {
+            function_at: function_at,
+            p: start,
+            at: at,
+            base: base,
+        },
         roots,
         out,
-        at,
-        base,
     );
     let nodes = body.nodes;
     if verified {
@@ -113,46 +148,51 @@ pub fn write_passage(
 // The body of the function that begins at a place, behind the reads of its private parameters.
 pub fn write_function_body(
     file: &[u8],
-    function_at: usize,
     source: &[u16],
-    private: usize,
-    verified: bool,
+    plan: Plan,
     log: &[u16],
     roots: &mut [u16],
     out: &mut [u8],
-    at: usize,
-    base: usize,
 ) -> usize
-    requires { ⌜ BodyReady (now file) «function_at» (now source) private verified (now log) (now roots) (now out) at base ⌝ }
-    ensures { λ r. ⌜ Numbered (now (out .entry)) (now (out .exit)) at base
-        (commandTree ((writtenIn (now (file .entry)) «function_at») .body)) r ⌝ }
+    requires { ⌜ BodyReady (now file) (plan .«function_at») (now source) (plan .private) (plan .verified) (now log) (now roots) (now out) (plan .at) (plan .base) ⌝ }
+    ensures { λ r. ⌜ Numbered (now (out .entry)) (now (out .exit)) (plan .at) (plan .base)
+        (commandTree ((writtenIn (now (file .entry)) (plan .«function_at»)) .body)) r ⌝ }
 {
+    let function_at = plan.function_at;
+    let private = plan.private;
+    let verified = plan.verified;
+    let at = plan.at;
+    let base = plan.base;
     let parameters = byte_at(file, function_at);
     let opened = put_openings(
         file,
-        function_at + 1,
-        parameters,
-        0,
-        0,
+        ParametersLeft {
+            place: function_at + 1,
+            left: parameters,
+            k: 0,
+            i: 0,
+            at: at,
+            base: base,
+        },
         roots,
         out,
-        at,
-        base,
     );
     let count = opened.count;
     let place = at + 8 * opened.nodes;
     let number = base + opened.nodes;
     let rest = write_passage(
         file,
-        function_at,
         source,
-        private,
-        verified,
+        Plan {
+            function_at: function_at,
+            private: private,
+            verified: verified,
+            at: place,
+            base: number,
+        },
         log,
         &mut roots[count..],
         out,
-        place,
-        number,
     );
     close_steps(roots, count, number + rest - 1, out, place + 8 * rest);
     opened.nodes + rest + count

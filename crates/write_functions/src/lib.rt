@@ -5,9 +5,11 @@ use write_circuits::put_circuits;
 use write_crossings::count_crossings;
 use write_extents::Extent;
 use write_extents::is_verified;
+use write_function_bodies::Plan;
 use write_function_bodies::write_function_body;
 use write_headings::append_heading;
 use write_parameters::count_private;
+use write_places::Run;
 ghost use Rattle.definitions.specs.Rewriting.{functionBytes};
 ghost use Rattle.memory_append.specs.Append.{Appended};
 ghost use Rattle.write_function_room.specs.Functions.{writtenIn};
@@ -48,16 +50,18 @@ fn write_circuits(
     let end = function_log(file, function_at, source, private, log);
     let circuits = put_circuits(
         file,
-        function_at,
         source,
         log,
-        0,
-        end.at / 5,
+        Run {
+            function_at: function_at,
+            from: 0,
+            left: end.at / 5,
+            noted: 0,
+            at: 8 * base,
+            base: base,
+        },
         numbers,
-        0,
         out,
-        8 * base,
-        base,
     );
     Parts {
         private: private,
@@ -122,15 +126,17 @@ pub fn write_function(
     let first = base + parts.nodes;
     let body = write_function_body(
         file,
-        function_at,
         source,
-        parts.private,
-        verified,
+        Plan {
+            function_at: function_at,
+            private: parts.private,
+            verified: verified,
+            at: 8 * first,
+            base: first,
+        },
         log,
         roots,
         nodes,
-        8 * first,
-        first,
     );
     let total = parts.nodes + body;
     let end = write_heading(

@@ -1,4 +1,6 @@
 // 01, Rewriting: one statement that holds no other, written with the steps before it.
+use write_places::Run;
+use write_places::Spot;
 use write_simple_statements::write_statement_form;
 use write_steps::close_steps;
 use write_steps::put_steps;
@@ -11,42 +13,45 @@ ghost use Rattle.write_simple_statements.specs.Statements.{simpleCount};
 ghost use Rattle.write_steps.specs.Steps.{stepsIn, Readable};
 ghost use Rattle.write_stepped_statements.specs.Single.{singleTree};
 
-// The statement is node n, its first variable is number i, and its `left` entries stand in the log; `roots` is scratch space.
+// The statement is node n, and its `left` entries stand in the log; `roots` is scratch space.
 pub fn write_single(
     file: &[u8],
-    function_at: usize,
     source: &[u16],
     log: &[u16],
-    from: usize,
     left: usize,
     n: usize,
-    i: usize,
+    spot: Spot,
     roots: &mut [u16],
     out: &mut [u8],
-    at: usize,
-    base: usize,
 ) -> usize
     requires { ⌜ (n < nodeCount (now file))
-        × ((Context (now file) «function_at» (now source))
-        × ((i + simpleCount (scopeIn (now file) «function_at») (statementIn (nodesIn (now file)) n) ≤ 65535)
-        × ((Readable (now file) «function_at» (now log) from left)
-        × ((length (stepsIn (now file) «function_at» (now log) from left) ≤ length (now roots))
-        × (Room (now out) at base (singleTree (now file) «function_at» (now log) from left n i)))))) ⌝ }
-    ensures { λ r. ⌜ Numbered (now (out .entry)) (now (out .exit)) at base
-        (singleTree (now (file .entry)) «function_at» (now (log .entry)) from left n i) r ⌝ }
+        × ((Context (now file) (spot .«function_at») (now source))
+        × (((spot .p .variable) + simpleCount (scopeIn (now file) (spot .«function_at»)) (statementIn (nodesIn (now file)) n) ≤ 65535)
+        × ((Readable (now file) (spot .«function_at») (now log) (spot .p .at) left)
+        × ((length (stepsIn (now file) (spot .«function_at») (now log) (spot .p .at) left) ≤ length (now roots))
+        × (Room (now out) (spot .at) (spot .base) (singleTree (now file) (spot .«function_at») (now log) (spot .p .at) left n (spot .p .variable))))))) ⌝ }
+    ensures { λ r. ⌜ Numbered (now (out .entry)) (now (out .exit)) (spot .at) (spot .base)
+        (singleTree (now (file .entry)) (spot .«function_at») (now (log .entry)) (spot .p .at) left n (spot .p .variable)) r ⌝ }
 {
+    let function_at = spot.function_at;
+    let from = spot.p.at;
+    let i = spot.p.variable;
+    let at = spot.at;
+    let base = spot.base;
     let steps = put_steps(
         file,
-        function_at,
         source,
         log,
-        from,
-        left,
+        Run {
+            function_at: function_at,
+            from: from,
+            left: left,
+            noted: 0,
+            at: at,
+            base: base,
+        },
         roots,
-        0,
         out,
-        at,
-        base,
     );
     let rest = write_statement_form(
         file,

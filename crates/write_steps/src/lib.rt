@@ -5,6 +5,7 @@ use rewrite_log::READ_LOGGED;
 use write_body_expressions::write_body_form;
 use write_nodes::put_node;
 use write_nodes::put_setting;
+use write_places::Run;
 ghost use Rattle.kit.specs.Names.{_≡_, _+_, _*_, _<_, _≤_, length, take};
 ghost use Rattle.definitions.specs.Basics.{flatMap};
 ghost use Rattle.definitions.specs.ContractFile.{nodeCount};
@@ -50,23 +51,24 @@ pub fn put_step(
 // The steps of the read variables among `left` entries of a log, with their roots noted from place `noted` on.
 pub fn put_steps(
     file: &[u8],
-    function_at: usize,
     source: &[u16],
     log: &[u16],
-    from: usize,
-    left: usize,
+    run: Run,
     roots: &mut [u16],
-    noted: usize,
     out: &mut [u8],
-    at: usize,
-    base: usize,
 ) -> Steps
-    requires { ⌜ (Context (now file) «function_at» (now source))
-        × ((Readable (now file) «function_at» (now log) from left)
-        × (StepsRoom (now out) (now roots) at base noted (stepsIn (now file) «function_at» (now log) from left))) ⌝ }
-    ensures { λ r. ⌜ StepsPut (now (out .entry)) (now (out .exit)) (now (roots .entry)) (now (roots .exit)) at base noted
-        (stepsIn (now (file .entry)) «function_at» (now (log .entry)) from left) r ⌝ }
+    requires { ⌜ (Context (now file) (run .«function_at») (now source))
+        × ((Readable (now file) (run .«function_at») (now log) (run .from) (run .left))
+        × (StepsRoom (now out) (now roots) (run .at) (run .base) (run .noted) (stepsIn (now file) (run .«function_at») (now log) (run .from) (run .left)))) ⌝ }
+    ensures { λ r. ⌜ StepsPut (now (out .entry)) (now (out .exit)) (now (roots .entry)) (now (roots .exit)) (run .at) (run .base) (run .noted)
+        (stepsIn (now (file .entry)) (run .«function_at») (now (log .entry)) (run .from) (run .left)) r ⌝ }
 {
+    let function_at = run.function_at;
+    let from = run.from;
+    let left = run.left;
+    let noted = run.noted;
+    let at = run.at;
+    let base = run.base;
     if left == 0 {
         Steps { count: 0, nodes: 0 }
     } else if log[from] == READ_LOGGED {
@@ -77,16 +79,18 @@ pub fn put_steps(
         put_number(roots, noted, (base + nodes - 1) as u16);
         let later = put_steps(
             file,
-            function_at,
             source,
             log,
-            from + 5,
-            left - 1,
+            Run {
+                function_at: function_at,
+                from: from + 5,
+                left: left - 1,
+                noted: noted + 1,
+                at: at + 8 * nodes,
+                base: base + nodes,
+            },
             roots,
-            noted + 1,
             out,
-            at + 8 * nodes,
-            base + nodes,
         );
         Steps {
             count: later.count + 1,
@@ -95,16 +99,18 @@ pub fn put_steps(
     } else {
         put_steps(
             file,
-            function_at,
             source,
             log,
-            from + 5,
-            left - 1,
+            Run {
+                function_at: function_at,
+                from: from + 5,
+                left: left - 1,
+                noted: noted,
+                at: at,
+                base: base,
+            },
             roots,
-            noted,
             out,
-            at,
-            base,
         )
     }
 }

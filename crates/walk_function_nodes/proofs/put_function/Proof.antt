@@ -9,8 +9,8 @@ put-function-spec =
     (λ c. let pre = c .before .before .before .before .before .before .before .before .before .before .before .before .before .before .pre in
     let put-constraints = c .before .before .before .before .before .put-constraints .ensures in
     omega (arith, circuits-few _ _ _ _ _ _ _ _ _ pre _ _ _ put-constraints .1))
-    (λ c. let pre = c .before .before .before .before .before .before .before .before .before .before .before .before .before .before .before .before .pre in
-    let put-constraints = c .before .before .before .before .before .before .before .put-constraints .ensures in
+    (λ c. let pre = c .before .before .before .before .before .before .before .before .before .before .before .before .before .before .pre in
+    let put-constraints = c .before .before .before .before .before .put-constraints .ensures in
     omega (arith, circuits-few _ _ _ _ _ _ _ _ _ pre _ _ _ put-constraints .0))
     (λ c κs. let pre = c .before .before .before .before .before .before .before .before .before .before .before .before .before .before .before .before .pre in
     let put-constraints = c .before .before .before .before .before .before .before .put-constraints .ensures in

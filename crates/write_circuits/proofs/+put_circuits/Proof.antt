@@ -11,7 +11,7 @@ use Rattle.write_circuits.proofs.+put_circuits.{statement}
 use Rattle.write_circuits.proofs.+put_circuits.Tie.{close}
 
 abbrev μ-put-circuits : Measures 5 put-circuits-kinds.ps ℕ
-μ-put-circuits κs a = a .1 .1 .1 .1 .1 .0
+μ-put-circuits κs a = a .1 .1 .1 .0 .left
 
 abbrev put-circuits-at : ℕ → In 5 put-circuits-kinds.ps
 put-circuits-at t = and 5 put-circuits-kinds.ps (is 5 put-circuits-kinds.ps μ-put-circuits t) put-circuits.Pre
@@ -37,7 +37,7 @@ pub +put-circuits-spec : {M : Type 1} → statement M
 +put-circuits-spec =
     close μ-put-circuits (λ t. put-circuits-lts.spec (put-circuits-claims t) (put-circuits-at t) put-circuits.Post
     (λ c. let (_, (_, (claimable, _))) = c .before .before .before .before .before .before .pre in let some = c .if1 .left in
-    omega (arith, c .before .before .before .before .before .before .good .1 .1 .1 .0, claimable .space))
+    omega (arith, c .before .before .before .before .before .before .good .1 .1 .0, claimable .space))
     (λ c. let (_, (_, (claimable, _))) = c .before .before .before .before .before .before .before .pre in
     let some = c .before .if1 .left in omega (arith, claimable .space))
     (λ c κs. let (_, (context, (claimable, circuits-room))) = c .before .before .before .before .before .before .before .before .before .pre in
@@ -59,35 +59,35 @@ pub +put-circuits-spec : {M : Type 1} → statement M
     let if1-left = c .before .before .before .before .before .before .before .if1 .left in
     let if2-taken = c .before .before .before .before .before .if2 .taken in
     ((claimable-first _ _ _ _ _ if1-left claimable if2-taken) .space, room-four _ _ _ _ _ _ _ (room-same _ _ _ _ _ _ _ (claims-claim _ _ _ _ _ if1-left if2-taken) circuits-room)))
-    (λ c. let good = c .before .before .before .before .before .before .before .before .before .before .before .before .before .before .before .before .good .1 .1 .1 .0 in
+    (λ c. let good = c .before .before .before .before .before .before .before .before .before .before .before .before .before .before .before .before .good .1 .1 .0 in
     let (_, (_, (claimable, _))) = c .before .before .before .before .before .before .before .before .before .before .before .before .before .before .before .before .pre in
     let if1-left = c .before .before .before .before .before .before .before .before .before .before .if1 .left in let some = if1-left in
     omega (arith, good, claimable .space))
     (λ c. let some = c .before .before .before .before .before .before .before .before .before .before .if1 .left in omega arith)
-    (λ c. let good = c .before .before .before .before .before .before .before .before .before .before .before .before .before .before .before .before .before .good .1 .1 .1 .1 .1 .1 .0 in
-    let (_, (_, (_, circuits-room))) = c .before .before .before .before .before .before .before .before .before .before .before .before .before .before .before .before .before .pre in
-    let if1-left = c .before .before .before .before .before .before .before .before .before .before .before .if1 .left in
-    let if2-taken = c .before .before .before .before .before .before .before .before .before .if2 .taken in
+    (λ c. let good = c .before .before .before .before .before .before .before .before .before .before .before .before .before .before .before .before .good .1 .1 .1 .1 .0 in
+    let (_, (_, (_, circuits-room))) = c .before .before .before .before .before .before .before .before .before .before .before .before .before .before .before .before .pre in
+    let if1-left = c .before .before .before .before .before .before .before .before .before .before .if1 .left in
+    let if2-taken = c .before .before .before .before .before .before .before .before .if2 .taken in
     let inside = room-four _ _ _ _ _ _ _ (room-same _ _ _ _ _ _ _ (claims-claim _ _ _ _ _ if1-left if2-taken) circuits-room) in
     omega (arith, good))
-    (λ c. let (_, (_, (_, circuits-room))) = c .before .before .before .before .before .before .before .before .before .before .before .before .before .before .before .before .before .before .pre in
-    let if1-left = c .before .before .before .before .before .before .before .before .before .before .before .before .if1 .left in
-    let if2-taken = c .before .before .before .before .before .before .before .before .before .before .if2 .taken in
-    let put-circuit = c .before .before .before .before .before .before .before .before .put-circuit .ensures in
+    (λ c. let (_, (_, (_, circuits-room))) = c .before .before .before .before .before .before .before .before .before .before .before .before .before .before .before .before .pre in
+    let if1-left = c .before .before .before .before .before .before .before .before .before .before .if1 .left in
+    let if2-taken = c .before .before .before .before .before .before .before .before .if2 .taken in
+    let put-circuit = c .before .before .before .before .before .before .put-circuit .ensures in
     let fits = root-fits _ _ _ _ _ _ _ (room-same _ _ _ _ _ _ _ (claims-claim _ _ _ _ _ if1-left if2-taken) circuits-room) _ _ put-circuit in
     omega arith)
-    (λ c. let good = c .before .before .before .before .before .before .before .before .before .before .before .before .before .before .before .before .before .before .good .1 .1 .1 .1 .1 .1 .1 .1 .0 in
-    let (_, (_, (_, circuits-room))) = c .before .before .before .before .before .before .before .before .before .before .before .before .before .before .before .before .before .before .pre in
-    let if1-left = c .before .before .before .before .before .before .before .before .before .before .before .before .if1 .left in
-    let if2-taken = c .before .before .before .before .before .before .before .before .before .before .if2 .taken in
-    let put-circuit = c .before .before .before .before .before .before .before .before .put-circuit in
+    (λ c. let good = c .before .before .before .before .before .before .before .before .before .before .before .before .before .before .before .before .good .1 .1 .1 .1 .1 .0 in
+    let (_, (_, (_, circuits-room))) = c .before .before .before .before .before .before .before .before .before .before .before .before .before .before .before .before .pre in
+    let if1-left = c .before .before .before .before .before .before .before .before .before .before .if1 .left in
+    let if2-taken = c .before .before .before .before .before .before .before .before .if2 .taken in
+    let put-circuit = c .before .before .before .before .before .before .put-circuit in
     let fits = root-fits _ _ _ _ _ _ _ (room-same _ _ _ _ _ _ _ (claims-claim _ _ _ _ _ if1-left if2-taken) circuits-room) _ _ (put-circuit .ensures) in
-    let later = room-circuits _ _ _ _ _ _ _ (room-same _ _ _ _ _ _ _ (claims-claim _ _ _ _ _ if1-left if2-taken) circuits-room) _ _ _ (record { circuit = put-circuit .ensures; claim = c .before .before .before .before .put-claim .ensures }) in
+    let later = room-circuits _ _ _ _ _ _ _ (room-same _ _ _ _ _ _ _ (claims-claim _ _ _ _ _ if1-left if2-taken) circuits-room) _ _ _ (record { circuit = put-circuit .ensures; claim = c .before .before .put-claim .ensures }) in
     omega (arith, later .bytes, put-circuit .kept .1 .1 .1 .1 .1 .0, good))
-    (λ c. let (_, (_, (_, circuits-room))) = c .before .before .before .before .before .before .before .before .before .before .before .before .before .before .before .before .before .before .pre in
-    let if1-left = c .before .before .before .before .before .before .before .before .before .before .before .before .if1 .left in
-    let if2-taken = c .before .before .before .before .before .before .before .before .before .before .if2 .taken in
-    let put-circuit = c .before .before .before .before .before .before .before .before .put-circuit .ensures in
+    (λ c. let (_, (_, (_, circuits-room))) = c .before .before .before .before .before .before .before .before .before .before .before .before .before .before .before .before .pre in
+    let if1-left = c .before .before .before .before .before .before .before .before .before .before .if1 .left in
+    let if2-taken = c .before .before .before .before .before .before .before .before .if2 .taken in
+    let put-circuit = c .before .before .before .before .before .before .put-circuit .ensures in
     let fits = root-fits _ _ _ _ _ _ _ (room-same _ _ _ _ _ _ _ (claims-claim _ _ _ _ _ if1-left if2-taken) circuits-room) _ _ put-circuit in
     omega arith)
     (λ c κs. let (_, (context, (claimable, circuits-room))) = c .before .before .before .before .before .before .before .before .before .before .before .before .before .before .before .before .before .before .pre in
@@ -95,7 +95,7 @@ pub +put-circuits-spec : {M : Type 1} → statement M
     let if2-taken = c .before .before .before .before .before .before .before .before .before .before .if2 .taken in
     let put-circuit = c .before .before .before .before .before .before .before .before .put-circuit .ensures in let some = if1-left in
     (omega arith, (context, (claimable-next _ _ _ _ _ if1-left claimable, room-circuits _ _ _ _ _ _ _ (room-same _ _ _ _ _ _ _ (claims-claim _ _ _ _ _ if1-left if2-taken) circuits-room) _ _ _ (record { circuit = put-circuit; claim = c .before .before .before .before .put-claim .ensures })))))
-    (λ c. let good = c .before .before .before .before .before .before .before .before .before .before .before .before .before .before .before .before .before .before .before .before .before .before .before .before .good .1 .1 .1 .1 .1 .1 .0 in
+    (λ c. let good = c .before .before .before .before .before .before .before .before .before .before .before .before .before .before .before .before .before .before .before .before .before .before .before .before .good .1 .1 .1 .1 .0 in
     let (_, (_, (_, circuits-room))) = c .before .before .before .before .before .before .before .before .before .before .before .before .before .before .before .before .before .before .before .before .before .before .before .before .pre in
     let if1-left = c .before .before .before .before .before .before .before .before .before .before .before .before .before .before .before .before .before .before .if1 .left in
     let if2-taken = c .before .before .before .before .before .before .before .before .before .before .before .before .before .before .before .before .if2 .taken in
@@ -114,18 +114,18 @@ pub +put-circuits-spec : {M : Type 1} → statement M
     omega (arith, later .numbers, put-circuits-nodes))
     (λ c. let (_, (_, (claimable, _))) = c .before .before .before .before .before .before .before .before .pre in
     let some = c .before .before .if1 .left in
-    omega (arith, c .before .before .before .before .before .before .before .before .good .1 .1 .1 .0, claimable .space))
+    omega (arith, c .before .before .before .before .before .before .before .before .good .1 .1 .0, claimable .space))
     (λ c. let some = c .before .before .if1 .left in omega arith)
     (λ c κs. let (_, (context, (claimable, circuits-room))) = c .before .before .before .before .before .before .before .before .before .before .pre in
     let if1-left = c .before .before .before .before .if1 .left in let some = if1-left in
     (omega arith, (context, (claimable-next _ _ _ _ _ if1-left claimable, room-same _ _ _ _ _ _ _ (claims-other _ _ _ _ _ if1-left (c .before .before .if2 .left)) circuits-room))))
     (λ c. put-same _ _ _ _ _ _ _ _ _ _ (claims-none _ _ _ _ _ (c .if1 .taken)) (put-none _ _ _ _ _))
-    (λ c. c .before .before .before .before .before .before .put-circuits .kept .1 .1 .1 .1 .1 .1 .0 ∙ c .before .before .before .before .before .before .before .before .before .before .before .put-claim .kept .1 .1 .1 .0)
+    (λ c. c .before .before .before .before .before .before .put-circuits .kept .1 .1 .1 .1 .0 ∙ c .before .before .before .before .before .before .before .before .before .before .before .put-claim .kept .1 .1 .1 .0)
     (λ c. let put-circuit-kept = c .before .before .before .before .before .before .before .before .before .before .before .before .before .before .before .put-circuit .kept .1 .1 .1 .1 .1 .0 in
-    let put-circuits-kept = c .before .before .before .before .before .before .put-circuits .kept .1 .1 .1 .1 .1 .1 .1 .1 .0 in
+    let put-circuits-kept = c .before .before .before .before .before .before .put-circuits .kept .1 .1 .1 .1 .1 .0 in
     put-circuits-kept ∙ put-circuit-kept) (claim-returns t)
-    (λ c. c .before .before .before .before .put-circuits2 .kept .1 .1 .1 .1 .1 .1 .0)
-    (λ c. c .before .before .before .before .put-circuits2 .kept .1 .1 .1 .1 .1 .1 .1 .1 .0)
+    (λ c. c .before .before .before .before .put-circuits2 .kept .1 .1 .1 .1 .0)
+    (λ c. c .before .before .before .before .put-circuits2 .kept .1 .1 .1 .1 .1 .0)
     (λ c. let if1-left = c .before .before .before .before .before .before .before .before .before .if1 .left in
     let if2-left = c .before .before .before .before .before .before .before .if2 .left in
     put-same _ _ _ _ _ _ _ _ _ _ (claims-other _ _ _ _ _ if1-left if2-left) (c .before .before .before .before .put-circuits2 .ensures)))

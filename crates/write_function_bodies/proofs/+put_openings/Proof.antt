@@ -12,7 +12,7 @@ use Rattle.write_function_bodies.proofs.+put_openings.{statement}
 use Rattle.write_function_bodies.proofs.+put_openings.Tie.{close}
 
 abbrev μ-put-openings : Measures 3 put-openings-kinds.ps ℕ
-μ-put-openings κs a = a .1 .1 .0
+μ-put-openings κs a = a .1 .0 .left
 
 abbrev put-openings-at : ℕ → In 3 put-openings-kinds.ps
 put-openings-at t = and 3 put-openings-kinds.ps (is 3 put-openings-kinds.ps μ-put-openings t) put-openings.Pre
@@ -34,8 +34,8 @@ pub +put-openings-spec : {M : Type 1} → statement M
     (λ c κs. let (_, (k-bound, (i-bound, (place-bound, steps-room)))) = c .before .before .before .before .before .before .before .before .pre in
     let if1-left = c .before .before .before .before .if1 .left in let some = if1-left in
     (omega arith, (omega (arith, k-bound), (omega (arith, i-bound), (omega (arith, place-bound), public-room _ _ _ _ _ _ _ _ _ if1-left _ (c .before .before .before .byte-at .ensures .0) steps-room (c .before .before .if2 .taken))))))
-    (λ c. c .before .before .before .before .put-openings .kept .1 .1 .1 .1 .1 .0)
-    (λ c. c .before .before .before .before .put-openings .kept .1 .1 .1 .1 .1 .1 .0)
+    (λ c. c .before .before .before .before .put-openings .kept .1 .1 .0)
+    (λ c. c .before .before .before .before .put-openings .kept .1 .1 .1 .0)
     (λ c. let (_, (_, (_, (_, steps-room)))) = c .before .before .before .before .before .before .before .before .before .before .before .before .before .pre in
     let if1-left = c .before .before .before .before .before .before .before .before .before .if1 .left in
     let byte-at = c .before .before .before .before .before .before .before .before .byte-at .ensures .0 in
@@ -74,22 +74,22 @@ pub +put-openings-spec : {M : Type 1} → statement M
     (λ c. let (_, (k-bound, (i-bound, _))) = c .before .before .before .before .before .before .before .before .before .before .before .before .before .before .before .before .before .before .pre in
     let if1-left = c .before .before .before .before .before .before .before .before .before .before .before .before .before .before .if1 .left in
     let some = if1-left in omega (arith, k-bound, i-bound))
-    (λ c. let good = c .before .before .before .before .before .before .before .before .before .before .before .before .before .before .before .before .before .before .before .before .good .1 .1 .1 .1 .1 .1 .0 in
-    let (_, (_, (_, (_, steps-room)))) = c .before .before .before .before .before .before .before .before .before .before .before .before .before .before .before .before .before .before .before .before .pre in
-    let if1-left = c .before .before .before .before .before .before .before .before .before .before .before .before .before .before .before .before .if1 .left in
-    let byte-at = c .before .before .before .before .before .before .before .before .before .before .before .before .before .before .before .byte-at .ensures .0 in
-    let if2-left = c .before .before .before .before .before .before .before .before .before .before .before .before .before .before .if2 .left in
-    let put-leaf = c .before .before .before .before .before .before .before .before .before .before .before .before .put-leaf in
-    let put-setting = c .before .before .before .before .before .before .before .before .put-setting in
-    let room = openings-room _ _ _ _ _ _ _ _ _ if1-left _ byte-at steps-room if2-left _ (put-leaf .ensures .0) _ (put-setting .ensures .0) _ (c .before .before .before .before .put-number .ensures) in
+    (λ c. let good = c .before .before .before .before .before .before .before .before .before .before .before .before .before .before .before .before .before .before .good .1 .1 .1 .0 in
+    let (_, (_, (_, (_, steps-room)))) = c .before .before .before .before .before .before .before .before .before .before .before .before .before .before .before .before .before .before .pre in
+    let if1-left = c .before .before .before .before .before .before .before .before .before .before .before .before .before .before .if1 .left in
+    let byte-at = c .before .before .before .before .before .before .before .before .before .before .before .before .before .byte-at .ensures .0 in
+    let if2-left = c .before .before .before .before .before .before .before .before .before .before .before .before .if2 .left in
+    let put-leaf = c .before .before .before .before .before .before .before .before .before .before .put-leaf in
+    let put-setting = c .before .before .before .before .before .before .put-setting in
+    let room = openings-room _ _ _ _ _ _ _ _ _ if1-left _ byte-at steps-room if2-left _ (put-leaf .ensures .0) _ (put-setting .ensures .0) _ (c .before .before .put-number .ensures) in
     omega (arith, room .bytes, put-setting .kept .1 .1 .0, put-leaf .kept .1 .1 .1 .1 .0, good))
-    (λ c. let (_, (_, (_, (_, steps-room)))) = c .before .before .before .before .before .before .before .before .before .before .before .before .before .before .before .before .before .before .before .before .pre in
-    let if1-left = c .before .before .before .before .before .before .before .before .before .before .before .before .before .before .before .before .if1 .left in
-    let byte-at = c .before .before .before .before .before .before .before .before .before .before .before .before .before .before .before .byte-at .ensures .0 in
-    let if2-left = c .before .before .before .before .before .before .before .before .before .before .before .before .before .before .if2 .left in
-    let put-leaf = c .before .before .before .before .before .before .before .before .before .before .before .before .put-leaf .ensures .0 in
-    let put-setting = c .before .before .before .before .before .before .before .before .put-setting .ensures .0 in
-    let room = openings-room _ _ _ _ _ _ _ _ _ if1-left _ byte-at steps-room if2-left _ put-leaf _ put-setting _ (c .before .before .before .before .put-number .ensures) in
+    (λ c. let (_, (_, (_, (_, steps-room)))) = c .before .before .before .before .before .before .before .before .before .before .before .before .before .before .before .before .before .before .pre in
+    let if1-left = c .before .before .before .before .before .before .before .before .before .before .before .before .before .before .if1 .left in
+    let byte-at = c .before .before .before .before .before .before .before .before .before .before .before .before .before .byte-at .ensures .0 in
+    let if2-left = c .before .before .before .before .before .before .before .before .before .before .before .before .if2 .left in
+    let put-leaf = c .before .before .before .before .before .before .before .before .before .before .put-leaf .ensures .0 in
+    let put-setting = c .before .before .before .before .before .before .put-setting .ensures .0 in
+    let room = openings-room _ _ _ _ _ _ _ _ _ if1-left _ byte-at steps-room if2-left _ put-leaf _ put-setting _ (c .before .before .put-number .ensures) in
     omega (arith, room .numbers))
     (λ c κs. let (_, (k-bound, (i-bound, (place-bound, steps-room)))) = c .before .before .before .before .before .before .before .before .before .before .before .before .before .before .before .before .before .before .before .before .pre in
     let if1-left = c .before .before .before .before .before .before .before .before .before .before .before .before .before .before .before .before .if1 .left in
@@ -98,7 +98,7 @@ pub +put-openings-spec : {M : Type 1} → statement M
     let put-leaf = c .before .before .before .before .before .before .before .before .before .before .before .before .put-leaf .ensures .0 in
     let put-setting = c .before .before .before .before .before .before .before .before .put-setting .ensures .0 in let some = if1-left in
     (omega arith, (omega (arith, k-bound), (omega (arith, i-bound), (omega (arith, place-bound), openings-room _ _ _ _ _ _ _ _ _ if1-left _ byte-at steps-room if2-left _ put-leaf _ put-setting _ (c .before .before .before .before .put-number .ensures))))))
-    (λ c. let good = c .before .before .before .before .before .before .before .before .before .before .before .before .before .before .before .before .before .before .before .before .before .before .before .before .before .before .good .1 .1 .1 .1 .1 .0 in
+    (λ c. let good = c .before .before .before .before .before .before .before .before .before .before .before .before .before .before .before .before .before .before .before .before .before .before .before .before .before .before .good .1 .1 .0 in
     let (_, (_, (_, (_, steps-room)))) = c .before .before .before .before .before .before .before .before .before .before .before .before .before .before .before .before .before .before .before .before .before .before .before .before .before .before .pre in
     let if1-left = c .before .before .before .before .before .before .before .before .before .before .before .before .before .before .before .before .before .before .before .before .before .before .if1 .left in
     let byte-at = c .before .before .before .before .before .before .before .before .before .before .before .before .before .before .before .before .before .before .before .before .before .byte-at .ensures .0 in
@@ -119,10 +119,10 @@ pub +put-openings-spec : {M : Type 1} → statement M
     let put-openings2-nodes = c .before .before .before .before .before .before .put-openings2 .ensures .nodes in
     let room = openings-room _ _ _ _ _ _ _ _ _ if1-left _ byte-at steps-room if2-left _ put-leaf _ put-setting _ put-number in
     omega (arith, room .numbers, put-openings2-nodes))
-    (λ c. c .before .before .before .before .before .before .put-openings2 .kept .1 .1 .1 .1 .1 .0 ∙ c .before .before .before .before .before .before .before .before .before .before .before .put-number .kept .0)
+    (λ c. c .before .before .before .before .before .before .put-openings2 .kept .1 .1 .0 ∙ c .before .before .before .before .before .before .before .before .before .before .before .put-number .kept .0)
     (λ c. let put-leaf-kept = c .before .before .before .before .before .before .before .before .before .before .before .before .before .before .before .before .before .before .before .put-leaf .kept .1 .1 .1 .1 .0 in
     let put-setting-kept = c .before .before .before .before .before .before .before .before .before .before .before .before .before .before .before .put-setting .kept .1 .1 .0 in
-    let put-openings2-kept = c .before .before .before .before .before .before .put-openings2 .kept .1 .1 .1 .1 .1 .1 .0 in
+    let put-openings2-kept = c .before .before .before .before .before .before .put-openings2 .kept .1 .1 .1 .0 in
     put-openings2-kept ∙ put-setting-kept ∙ put-leaf-kept)
     (λ c. let (_, (_, (_, (_, steps-room)))) = c .before .before .before .before .before .before .before .before .before .before .before .before .before .before .before .before .before .before .before .before .before .before .before .before .before .before .before .pre in
     let if1-left = c .before .before .before .before .before .before .before .before .before .before .before .before .before .before .before .before .before .before .before .before .before .before .before .if1 .left in

@@ -7,7 +7,7 @@ use Rattle.write_function_bodies.proofs.write_function_body as own
 sub-write-passage : own.Tie.Need-sub-write-passage
 sub-write-passage c =
     let fits = openings-fit _ _ _ _ _ _ _ _ _ _ (c .before .before .before .before .before .before .before .before .before .before .before .before .before .before .before .pre) _ (c .before .before .before .before .before .before .before .before .before .byte-at .ensures .0) _ _ _ (c .before .before .before .before .before .before .put-openings .ensures) in
-    omega (arith, fits .0, c .before .before .before .before .before .before .put-openings .kept .1 .1 .1 .1 .1 .0)
+    omega (arith, fits .0, c .before .before .before .before .before .before .put-openings .kept .1 .1 .0)
 
 pub write-function-body-spec : {M : Type 1} → own.Statement.statement M
 write-function-body-spec =
@@ -17,7 +17,7 @@ write-function-body-spec =
     let byte-at = c .before .before .before .before .before .before .before .before .byte-at .ensures .0 in
     let put-openings = c .before .before .before .before .before .put-openings .ensures in
     let fits = openings-fit _ _ _ _ _ _ _ _ _ _ pre _ byte-at _ _ _ put-openings in omega (arith, fits .1 .1))
-    (λ c. let good = c .before .before .before .before .before .before .before .before .before .before .before .before .before .before .good .1 .1 .1 .1 .1 .1 .1 .0 in
+    (λ c. let good = c .before .before .before .before .before .before .before .before .before .before .before .before .before .before .good .1 .1 .1 .1 .1 .0 in
     let pre = c .before .before .before .before .before .before .before .before .before .before .before .before .before .before .pre in
     let byte-at = c .before .before .before .before .before .before .before .before .byte-at .ensures .0 in
     let put-openings = c .before .before .before .before .before .put-openings .ensures in
@@ -34,7 +34,7 @@ write-function-body-spec =
     (λ c κs. let pre = c .before .before .before .before .before .before .before .before .before .before .before .before .before .before .before .before .before .pre in
     let byte-at = c .before .before .before .before .before .before .before .before .before .before .before .byte-at .ensures .0 in
     let put-openings = c .before .before .before .before .before .before .before .before .put-openings in
-    passage-ready _ _ _ _ _ _ _ _ _ _ pre _ byte-at _ _ _ (put-openings .ensures) _ (sym (c .before .write-passage-arg .given .1)) (put-openings .kept .1 .1 .1 .1 .1 .0))
+    passage-ready _ _ _ _ _ _ _ _ _ _ pre _ byte-at _ _ _ (put-openings .ensures) _ (sym (c .before .write-passage-arg .given .1)) (put-openings .kept .1 .1 .0))
     (λ c. let pre = c .before .before .before .before .before .before .before .before .before .before .before .before .before .before .before .before .before .before .before .before .before .before .before .pre in
     let byte-at = c .before .before .before .before .before .before .before .before .before .before .before .before .before .before .before .before .before .byte-at .ensures .0 in
     let put-openings = c .before .before .before .before .before .before .before .before .before .before .before .before .before .before .put-openings .ensures in
@@ -51,13 +51,13 @@ write-function-body-spec =
     let put-openings = c .before .before .before .before .before .before .before .before .before .before .before .before .before .before .before .put-openings .ensures in
     let write-passage = c .before .before .before .before .before .before .write-passage .ensures in
     let close = body-close _ _ _ _ _ _ _ _ _ _ pre _ byte-at _ _ _ put-openings _ _ write-passage in omega (arith, close .1 .1 .0))
-    (λ c. let good = c .before .before .before .before .before .before .before .before .before .before .before .before .before .before .before .before .before .before .before .before .before .before .before .before .good .1 .1 .1 .1 .1 .1 .1 .0 in
+    (λ c. let good = c .before .before .before .before .before .before .before .before .before .before .before .before .before .before .before .before .before .before .before .before .before .before .before .before .good .1 .1 .1 .1 .1 .0 in
     let pre = c .before .before .before .before .before .before .before .before .before .before .before .before .before .before .before .before .before .before .before .before .before .before .before .before .pre in
     let byte-at = c .before .before .before .before .before .before .before .before .before .before .before .before .before .before .before .before .before .before .byte-at .ensures .0 in
     let put-openings = c .before .before .before .before .before .before .before .before .before .before .before .before .before .before .before .put-openings in
     let write-passage = c .before .before .before .before .before .before .write-passage in
     let close = body-close _ _ _ _ _ _ _ _ _ _ pre _ byte-at _ _ _ (put-openings .ensures) _ _ (write-passage .ensures) in
-    omega (arith, close .1 .1 .1, write-passage .kept .1 .1 .1 .1 .1 .1 .1 .0, put-openings .kept .1 .1 .1 .1 .1 .1 .0, good))
+    omega (arith, close .1 .1 .1, write-passage .kept .1 .1 .1 .1 .1 .0, put-openings .kept .1 .1 .1 .0, good))
     (λ c κs. let pre = c .before .before .before .before .before .before .before .before .before .before .before .before .before .before .before .before .before .before .before .before .before .before .before .before .pre in
     let byte-at = c .before .before .before .before .before .before .before .before .before .before .before .before .before .before .before .before .before .before .byte-at .ensures .0 in
     let put-openings = c .before .before .before .before .before .before .before .before .before .before .before .before .before .before .before .put-openings .ensures in
@@ -81,6 +81,6 @@ write-function-body-spec =
     let byte-at = c .before .before .before .before .before .before .before .before .before .before .before .before .before .before .before .before .before .before .before .before .before .before .byte-at .ensures .0 in
     let put-openings = c .before .before .before .before .before .before .before .before .before .before .before .before .before .before .before .before .before .before .before .put-openings in
     let write-passage = c .before .before .before .before .before .before .before .before .before .before .write-passage in
-    let kept = put-openings .last .1 .1 .1 .1 .1 .0 in let changed = write-passage .last .1 .1 .1 .1 .1 .1 .0 in
+    let kept = put-openings .last .1 .1 .0 in let changed = write-passage .last .1 .1 .1 .1 .0 in
     let count = put-openings .result .count in
     body-written _ _ _ _ _ _ _ _ _ _ pre _ byte-at _ _ _ (put-openings .ensures) _ _ (write-passage .ensures) (putMid count (length kept - count) kept changed) _ (take-put count (length kept - count) kept changed (body-close _ _ _ _ _ _ _ _ _ _ pre _ byte-at _ _ _ (put-openings .ensures) _ _ (write-passage .ensures) .1 .0)) (c .before .before .before .close-steps .ensures)))

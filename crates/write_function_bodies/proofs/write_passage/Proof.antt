@@ -26,13 +26,13 @@ write-passage-spec =
     let write-statement = c .before .before .before .before .before .before .write-statement .ensures in
     let room = verify-room _ _ _ _ _ _ _ _ _ _ pre _ _ function-end two-bytes-at _ _ write-statement (c .before .if1 .taken) in
     omega (arith, room .numbers))
-    (λ c. let good = c .before .before .before .before .before .before .before .before .before .before .before .before .before .before .before .before .good .1 .1 .1 .1 .1 .1 .1 .0 in
+    (λ c. let good = c .before .before .before .before .before .before .before .before .before .before .before .before .before .before .before .before .good .1 .1 .1 .1 .1 .0 in
     let pre = c .before .before .before .before .before .before .before .before .before .before .before .before .before .before .before .before .pre in
     let function-end = c .before .before .before .before .before .before .before .before .before .before .function-end .ensures .0 in
     let two-bytes-at = c .before .before .before .before .before .before .before .before .before .two-bytes-at .ensures .0 in
     let write-statement = c .before .before .before .before .before .before .write-statement in
     let room = verify-room _ _ _ _ _ _ _ _ _ _ pre _ _ function-end two-bytes-at _ _ (write-statement .ensures) (c .before .if1 .taken) in
-    omega (arith, room .bytes, write-statement .kept .1 .1 .1 .1 .1 .1 .1 .0, good))
+    omega (arith, room .bytes, write-statement .kept .1 .1 .1 .1 .1 .1 .0, good))
     (λ c κs. let pre = c .before .before .before .before .before .before .before .before .before .before .before .before .before .before .before .before .pre in
     let function-end = c .before .before .before .before .before .before .before .before .before .before .function-end .ensures .0 in
     let two-bytes-at = c .before .before .before .before .before .before .before .before .before .two-bytes-at .ensures .0 in

@@ -12,7 +12,7 @@ write-circuits-spec =
     omega (arith, pre .room .context .nearFunction, pre .room .context .fewParameters, c .byte-at .ensures .0))
     (λ c κs. let start = c .before .before .before .before .before .before .before .before in let args = start .args in let pre = start .pre in
     log-ready _ _ (args .source .now) _ (args .numbers .now) (args .out .now) (args .base) pre _ (private-is _ _ _ _ (c .before .before .byte-at .ensures .0) (c .before .count-private .ensures)))
-    (λ c. omega (arith, (c .before .before .before .before .before .before .before .before .before .before .before .before .before .before .before .pre) .room .nodes))
+    (λ c. omega (arith, (c .before .before .before .before .before .before .before .before .before .before .before .before .before .pre) .room .nodes))
     (λ c κs. let start = c .before .before .before .before .before .before .before .before .before .before .before .before .before .before .before in
     let args = start .args in let pre = start .pre in
     let byte-at = c .before .before .before .before .before .before .before .before .before .byte-at .ensures .0 in
@@ -27,4 +27,4 @@ write-circuits-spec =
     let count-private = c .before .before .before .before .before .before .before .before .before .before .before .before .before .before .count-private .ensures in
     let function-log = c .before .before .before .before .before .before .before .before .before .before .before .before .function-log .ensures in
     let put-circuits = c .before .before .before .before .before .put-circuits in
-    circuits-written _ _ (args .source .now) _ (args .numbers .now) (args .out .now) (args .base) pre _ (private-is _ _ _ _ byte-at count-private) _ _ function-log _ _ _ (put-circuits .ensures) (put-circuits .kept .1 .1 .1 .1 .1 .1 .0)))
+    circuits-written _ _ (args .source .now) _ (args .numbers .now) (args .out .now) (args .base) pre _ (private-is _ _ _ _ byte-at count-private) _ _ function-log _ _ _ (put-circuits .ensures) (put-circuits .kept .1 .1 .1 .1 .0)))

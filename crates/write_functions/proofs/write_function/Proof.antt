@@ -15,9 +15,9 @@ write-function-spec =
     let args-nodes-at = start .args .source .now in let pre = start .pre in
     let write-circuits = c .before .before .before .before .before .before .before .before .before .write-circuits .ensures in
     let few = nodes-few _ _ args-nodes-at _ _ _ _ _ _ _ pre _ _ _ _ write-circuits in omega arith)
-    (λ c. let start = c .before .before .before .before .before .before .before .before .before .before .before .before .before .before .before .before .before .before .before .before .before .before .before in
+    (λ c. let start = c .before .before .before .before .before .before .before .before .before .before .before .before .before .before .before .before .before .before .before .before in
     let args-nodes-at = start .args .source .now in let pre = start .pre in
-    let write-circuits = c .before .before .before .before .before .before .before .before .before .before .before .before .write-circuits .ensures in
+    let write-circuits = c .before .before .before .before .before .before .before .before .before .write-circuits .ensures in
     let few = nodes-few _ _ args-nodes-at _ _ _ _ _ _ _ pre _ _ _ _ write-circuits in omega arith)
     (λ c κs. let start = c .before .before .before .before .before .before .before .before .before .before .before .before .before .before .before .before .before .before .before .before .before .before .before in
     let args-nodes-at = start .args .source .now in let pre = start .pre in
@@ -39,11 +39,11 @@ write-function-spec =
     let write-circuits = c .before .before .before .before .before .before .before .before .before .before .before .before .before .before .before .before .before .before .before .before .before .before .before .before .before .write-circuits .ensures in
     log-few _ _ args-nodes-at _ _ _ _ _ _ _ pre _ _ _ _ write-circuits)
     (λ c. c .before .before .before .before .before .before .before .before .before .before .before .before .before .before .before .before .before .before .before .before .before .before .before .before .before .before .write-circuits .kept .1 .1 .1 .0)
-    (λ c. c .before .before .before .before .before .before .before .before .before .before .before .before .before .write-function-body .kept .1 .1 .1 .1 .1 .1 .0)
+    (λ c. c .before .before .before .before .before .before .before .before .before .before .before .before .before .write-function-body .kept .1 .1 .1 .1 .0)
     (λ c. c .before .before .before .before .before .before .before .before .before .before .before .before .before .before .before .before .before .before .before .before .before .before .before .before .before .before .write-circuits .kept .1 .1 .1 .1 .0)
     (λ c. c .before .before .before .before .write-heading .kept .1 .1 .1 .1 .0)
     (λ c. let write-circuits-kept = c .before .before .before .before .before .before .before .before .before .before .before .before .before .before .before .before .before .before .before .before .before .before .before .before .before .before .write-circuits .kept .1 .1 .1 .1 .1 .0 in
-    let write-function-body-kept = c .before .before .before .before .before .before .before .before .before .before .before .before .before .write-function-body .kept .1 .1 .1 .1 .1 .1 .1 .0 in
+    let write-function-body-kept = c .before .before .before .before .before .before .before .before .before .before .before .before .before .write-function-body .kept .1 .1 .1 .1 .1 .0 in
     write-function-body-kept ∙ write-circuits-kept)
     (λ c. let start = c .before .before .before .before .before .before .before .before .before .before .before .before .before .before .before .before .before .before .before .before .before .before .before .before .before .before .before .before .before .before .before .before .before .before .before .before .before in
     let args-nodes-at = start .args .source .now in let pre = start .pre in

@@ -11,11 +11,11 @@ write-single-spec =
     (λ c. let (_, (_, (_, (_, (roots-room, room))))) = c .before .before .before .before .before .before .before .before .before .before .before .before .before .before .pre in
     let put-steps = c .before .before .before .before .before .before .put-steps .ensures in
     let rest = nested-rest-room _ _ _ _ _ _ room roots-room _ _ _ put-steps in omega (arith, rest .numbers))
-    (λ c. let good = c .before .before .before .before .before .before .before .before .before .before .before .before .before .before .good .1 .1 .1 .1 .1 .1 .1 .1 .1 .0 in
+    (λ c. let good = c .before .before .before .before .before .before .before .before .before .before .before .before .before .before .good .1 .1 .1 .1 .1 .1 .1 .0 in
     let (_, (_, (_, (_, (roots-room, room))))) = c .before .before .before .before .before .before .before .before .before .before .before .before .before .before .pre in
     let put-steps = c .before .before .before .before .before .before .put-steps in
     let rest = nested-rest-room _ _ _ _ _ _ room roots-room _ _ _ (put-steps .ensures) in
-    omega (arith, rest .bytes, put-steps .kept .1 .1 .1 .1 .1 .1 .1 .1 .0, good))
+    omega (arith, rest .bytes, put-steps .kept .1 .1 .1 .1 .1 .0, good))
     (λ c. let (_, (_, (_, (_, (roots-room, room))))) = c .before .before .before .before .before .before .before .before .before .before .before .before .before .before .before .pre in
     let put-steps = c .before .before .before .before .before .before .before .put-steps .ensures in
     let rest = nested-rest-room _ _ _ _ _ _ room roots-room _ _ _ put-steps in omega (arith, rest .numbers))
@@ -38,21 +38,21 @@ write-single-spec =
     let put-steps = c .before .before .before .before .before .before .before .before .before .before .before .before .before .before .put-steps .ensures in
     let write-statement-form = c .before .before .before .before .before .before .write-statement-form .ensures in
     let close = nested-close-room _ _ _ _ _ _ room roots-room _ _ _ put-steps _ _ write-statement-form in omega (arith, close .1 .1 .0))
-    (λ c. let good = c .before .before .before .before .before .before .before .before .before .before .before .before .before .before .before .before .before .before .before .before .before .before .good .1 .1 .1 .1 .1 .1 .1 .1 .1 .0 in
+    (λ c. let good = c .before .before .before .before .before .before .before .before .before .before .before .before .before .before .before .before .before .before .before .before .before .before .good .1 .1 .1 .1 .1 .1 .1 .0 in
     let (_, (_, (_, (_, (roots-room, room))))) = c .before .before .before .before .before .before .before .before .before .before .before .before .before .before .before .before .before .before .before .before .before .before .pre in
     let put-steps = c .before .before .before .before .before .before .before .before .before .before .before .before .before .before .put-steps in
     let rest = nested-rest-room _ _ _ _ _ _ room roots-room _ _ _ (put-steps .ensures) in
-    omega (arith, rest .bytes, put-steps .kept .1 .1 .1 .1 .1 .1 .1 .1 .0, good))
+    omega (arith, rest .bytes, put-steps .kept .1 .1 .1 .1 .1 .0, good))
     (λ c. let (_, (_, (_, (_, (roots-room, room))))) = c .before .before .before .before .before .before .before .before .before .before .before .before .before .before .before .before .before .before .before .before .before .before .pre in
     let put-steps = c .before .before .before .before .before .before .before .before .before .before .before .before .before .before .put-steps .ensures in
     let write-statement-form = c .before .before .before .before .before .before .write-statement-form .ensures in
     let close = nested-close-room _ _ _ _ _ _ room roots-room _ _ _ put-steps _ _ write-statement-form in omega (arith, close .1 .1 .0))
-    (λ c. let good = c .before .before .before .before .before .before .before .before .before .before .before .before .before .before .before .before .before .before .before .before .before .before .good .1 .1 .1 .1 .1 .1 .1 .1 .1 .0 in
+    (λ c. let good = c .before .before .before .before .before .before .before .before .before .before .before .before .before .before .before .before .before .before .before .before .before .before .good .1 .1 .1 .1 .1 .1 .1 .0 in
     let (_, (_, (_, (_, (roots-room, room))))) = c .before .before .before .before .before .before .before .before .before .before .before .before .before .before .before .before .before .before .before .before .before .before .pre in
     let put-steps = c .before .before .before .before .before .before .before .before .before .before .before .before .before .before .put-steps in
     let write-statement-form = c .before .before .before .before .before .before .write-statement-form in
     let close = nested-close-room _ _ _ _ _ _ room roots-room _ _ _ (put-steps .ensures) _ _ (write-statement-form .ensures) in
-    omega (arith, close .1 .1 .1, put-steps .kept .1 .1 .1 .1 .1 .1 .1 .1 .0, write-statement-form .kept .1 .1 .1 .1 .1 .0, good))
+    omega (arith, close .1 .1 .1, put-steps .kept .1 .1 .1 .1 .1 .0, write-statement-form .kept .1 .1 .1 .1 .1 .0, good))
     (λ c κs. let (_, (_, (_, (_, (roots-room, room))))) = c .before .before .before .before .before .before .before .before .before .before .before .before .before .before .before .before .before .before .before .before .before .before .pre in
     let put-steps = c .before .before .before .before .before .before .before .before .before .before .before .before .before .before .put-steps .ensures in
     let write-statement-form = c .before .before .before .before .before .before .write-statement-form .ensures in
@@ -66,8 +66,8 @@ write-single-spec =
     let write-statement-form = c .before .before .before .before .before .before .before .before .before .before .before .write-statement-form .ensures in
     let close = nested-close-room _ _ _ _ _ _ room roots-room _ _ _ put-steps _ _ write-statement-form in
     omega (arith, close .0, close .1 .1 .0))
-    (λ c. c .before .before .before .before .before .before .before .before .before .before .before .before .before .before .before .before .before .before .before .put-steps .kept .1 .1 .1 .1 .1 .1 .0)
-    (λ c. let put-steps-kept = c .before .before .before .before .before .before .before .before .before .before .before .before .before .before .before .before .before .before .before .put-steps .kept .1 .1 .1 .1 .1 .1 .1 .1 .0 in
+    (λ c. c .before .before .before .before .before .before .before .before .before .before .before .before .before .before .before .before .before .before .before .put-steps .kept .1 .1 .1 .1 .0)
+    (λ c. let put-steps-kept = c .before .before .before .before .before .before .before .before .before .before .before .before .before .before .before .before .before .before .before .put-steps .kept .1 .1 .1 .1 .1 .0 in
     let write-statement-form-kept = c .before .before .before .before .before .before .before .before .before .before .before .write-statement-form .kept .1 .1 .1 .1 .1 .0 in
     c .before .before .before .before .close-steps .kept .1 .1 .1 .0 ∙ write-statement-form-kept ∙ put-steps-kept)
     (λ c. let (_, (_, (_, (_, (roots-room, room))))) = c .before .before .before .before .before .before .before .before .before .before .before .before .before .before .before .before .before .before .before .before .before .before .before .before .before .before .before .pre in
