@@ -3,6 +3,8 @@
 use file_bytes::byte_at;
 use rewrite_statements::function_log;
 use walk_commands::run;
+use walk_function_nodes::Extent;
+use walk_function_nodes::Logged;
 use walk_function_nodes::put_function;
 use write_extents::numbers_of;
 use write_parameters::count_private;
@@ -21,25 +23,27 @@ ghost use Rattle.walk_function.specs.Walks.{LastReady, WalkReady};
 // The command whose root is the last of so many nodes, with so many constraints.
 fn run_last(
     nodes: &[u8],
-    count: usize,
+    extent: Extent,
     numbers: &[u16],
-    constraints: usize,
     file: &[u8],
     addresses: &[u32],
     parameters: &[u32],
     places: &mut [u32],
     variables: &mut [u32],
 ) -> bool
-    requires { ⌜ LastReady (now nodes) count (now numbers) constraints (now file) ⌝ }
+    requires { ⌜ LastReady (now nodes) (extent .nodes) (now numbers) (extent .constraints) (now file) ⌝ }
     ensures { λ r. ⌜ Ran (completesFrom (now (file .entry)) (now (addresses .entry)) (now (parameters .entry))
-        (constraintsFrom (tableOf (take (8 * count) (now (nodes .entry)))) (take (4 * constraints) (now (numbers .entry))))
+        (constraintsFrom (tableOf (take (8 * (extent .nodes)) (now (nodes .entry))))
+        (take (4 * (extent .constraints)) (now (numbers .entry))))
         (stateOf (now (places .entry)) (now (variables .entry)))
-        (commandIn (tableOf (take (8 * count) (now (nodes .entry)))) (count - 1)))
+        (commandIn (tableOf (take (8 * (extent .nodes)) (now (nodes .entry)))) ((extent .nodes) - 1)))
         (afterFrom (now (file .entry)) (now (addresses .entry)) (now (parameters .entry))
         (stateOf (now (places .entry)) (now (variables .entry)))
-        (commandIn (tableOf (take (8 * count) (now (nodes .entry)))) (count - 1)))
+        (commandIn (tableOf (take (8 * (extent .nodes)) (now (nodes .entry)))) ((extent .nodes) - 1)))
         (stateOf (now (places .exit)) (now (variables .exit))) r ⌝ }
 {
+    let count = extent.nodes;
+    let constraints = extent.constraints;
     let end = 8 * count;
     let last = numbers_of(constraints);
     run(
@@ -82,20 +86,21 @@ pub fn walk_function(
     let entries = end.at / 5;
     let extent = put_function(
         file,
-        function_at,
         source,
         log,
-        entries,
-        private,
+        Logged {
+            function_at: function_at,
+            entries: entries,
+            private: private,
+        },
         numbers,
         roots,
         nodes,
     );
     run_last(
         nodes,
-        extent.nodes,
+        extent,
         numbers,
-        extent.constraints,
         file,
         addresses,
         parameters,

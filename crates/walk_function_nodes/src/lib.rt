@@ -18,6 +18,13 @@ pub struct Extent {
     pub constraints: usize,
 }
 
+// The function that begins at a place: how many entries the log of its body has, and how many of its parameters are private.
+pub struct Logged {
+    pub function_at: usize,
+    pub entries: usize,
+    pub private: usize,
+}
+
 // The constraints of so many private parameters, each ".. that it opens for the caller":
 // no guard, the caller's owner code, 65,535 for "opens".
 fn put_openings(numbers: &mut [u16], private: usize)
@@ -34,18 +41,20 @@ fn put_openings(numbers: &mut [u16], private: usize)
 // A function's constraints: those of its private parameters, then those that the log of its body's events claims, with their circuits.
 fn put_constraints(
     file: &[u8],
-    function_at: usize,
     source: &[u16],
     log: &[u16],
-    entries: usize,
-    private: usize,
+    logged: Logged,
     numbers: &mut [u16],
     out: &mut [u8],
 ) -> Circuits
-    requires { ⌜ ConstraintsReady (now file) «function_at» (now source) (now log) entries private (now numbers) (now out) ⌝ }
-    ensures { λ r. ⌜ ConstraintsPut (writtenIn (now (file .entry)) «function_at») private (now (numbers .entry)) (now (numbers .exit))
-        (now (out .entry)) (now (out .exit)) r ⌝ }
+    requires { ⌜ ConstraintsReady (now file) (logged .«function_at») (now source) (now log) (logged .entries) (logged .private)
+        (now numbers) (now out) ⌝ }
+    ensures { λ r. ⌜ ConstraintsPut (writtenIn (now (file .entry)) (logged .«function_at»)) (logged .private)
+        (now (numbers .entry)) (now (numbers .exit)) (now (out .entry)) (now (out .exit)) r ⌝ }
 {
+    let function_at = logged.function_at;
+    let entries = logged.entries;
+    let private = logged.private;
     put_openings(numbers, private);
     put_circuits(
         file,
@@ -67,30 +76,22 @@ fn put_constraints(
 // The nodes of the function that begins at a place, and its constraints; `roots` is scratch space.
 pub fn put_function(
     file: &[u8],
-    function_at: usize,
     source: &[u16],
     log: &[u16],
-    entries: usize,
-    private: usize,
+    logged: Logged,
     numbers: &mut [u16],
     roots: &mut [u16],
     out: &mut [u8],
 ) -> Extent
-    requires { ⌜ FunctionReady (now file) «function_at» (now source) (now log) entries private
+    requires { ⌜ FunctionReady (now file) (logged .«function_at») (now source) (now log) (logged .entries) (logged .private)
         (now numbers) (now roots) (now out) ⌝ }
-    ensures { λ r. ⌜ FunctionPut (writtenIn (now (file .entry)) «function_at») (now (numbers .entry)) (now (numbers .exit))
+    ensures { λ r. ⌜ FunctionPut (writtenIn (now (file .entry)) (logged .«function_at»)) (now (numbers .entry)) (now (numbers .exit))
         (now (out .entry)) (now (out .exit)) r ⌝ }
 {
-    let circuits = put_constraints(
-        file,
-        function_at,
-        source,
-        log,
-        entries,
-        private,
-        numbers,
-        out,
-    );
+    let function_at = logged.function_at;
+    let entries = logged.entries;
+    let private = logged.private;
+    let circuits = put_constraints(file, source, log, logged, numbers, out);
     let nodes = circuits.nodes;
     let count = private + circuits.count;
     let body = write_function_body(

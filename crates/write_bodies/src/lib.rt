@@ -48,8 +48,10 @@ fn write_simple(
     out: &mut [u8],
 ) -> Extent
     requires { ⌜ (isSimple (statementIn (nodesIn (now file)) n) ≡ true)
-        × (StatementReady (now file) (spot .«function_at») (now source) n (now log) (spot .p) (now roots) (now out) (spot .at) (spot .base)) ⌝ }
-    ensures { λ r. ⌜ StatementWritten (now (file .entry)) (spot .«function_at») n (spot .p) (now (out .entry)) (now (out .exit)) (spot .at) (spot .base) r ⌝ }
+        × (StatementReady (now file) (spot .«function_at») (now source) n (now log) (spot .p)
+        (now roots) (now out) (spot .at) (spot .base)) ⌝ }
+    ensures { λ r. ⌜ StatementWritten (now (file .entry)) (spot .«function_at») n (spot .p)
+        (now (out .entry)) (now (out .exit)) (spot .at) (spot .base) r ⌝ }
 {
     let function_at = spot.function_at;
     let p = spot.p;
@@ -75,7 +77,8 @@ fn write_condition(
     roots: &mut [u16],
     out: &mut [u8],
 ) -> Condition
-    requires { ⌜ ConditionReady (now file) (spot .«function_at») (now source) n (now log) (spot .p) (now roots) (now out) (spot .at) (spot .base) ⌝ }
+    requires { ⌜ ConditionReady (now file) (spot .«function_at») (now source) n (now log) (spot .p)
+        (now roots) (now out) (spot .at) (spot .base) ⌝ }
     ensures { λ r. ⌜ ConditionWritten (now (file .entry)) (spot .«function_at») n (spot .p) (now (roots .entry)) (now (roots .exit))
         (now (out .entry)) (now (out .exit)) (spot .at) (spot .base) r ⌝ }
 {
@@ -122,8 +125,10 @@ fn write_branch(
     roots: &mut [u16],
     out: &mut [u8],
 ) -> Extent
-    requires { ⌜ BranchReady (now file) (spot .«function_at») (now source) n (now log) (spot .p) (now roots) (now out) (spot .at) (spot .base) ⌝ }
-    ensures { λ r. ⌜ BranchWritten (now (file .entry)) (spot .«function_at») n (spot .p) (now (out .entry)) (now (out .exit)) (spot .at) (spot .base) r ⌝ }
+    requires { ⌜ BranchReady (now file) (spot .«function_at») (now source) n (now log) (spot .p)
+        (now roots) (now out) (spot .at) (spot .base) ⌝ }
+    ensures { λ r. ⌜ BranchWritten (now (file .entry)) (spot .«function_at») n (spot .p)
+        (now (out .entry)) (now (out .exit)) (spot .at) (spot .base) r ⌝ }
 {
     let function_at = spot.function_at;
     let p = spot.p;
@@ -230,8 +235,10 @@ fn write_conditional(
     out: &mut [u8],
 ) -> Extent
     requires { ⌜ ((recordAt (now source) n) .kind ≡ 21)
-        × (StatementReady (now file) (spot .«function_at») (now source) n (now log) (spot .p) (now roots) (now out) (spot .at) (spot .base)) ⌝ }
-    ensures { λ r. ⌜ StatementWritten (now (file .entry)) (spot .«function_at») n (spot .p) (now (out .entry)) (now (out .exit)) (spot .at) (spot .base) r ⌝ }
+        × (StatementReady (now file) (spot .«function_at») (now source) n (now log) (spot .p)
+        (now roots) (now out) (spot .at) (spot .base)) ⌝ }
+    ensures { λ r. ⌜ StatementWritten (now (file .entry)) (spot .«function_at») n (spot .p)
+        (now (out .entry)) (now (out .exit)) (spot .at) (spot .base) r ⌝ }
 {
     let function_at = spot.function_at;
     let p = spot.p;
@@ -277,8 +284,10 @@ pub fn write_statement(
     roots: &mut [u16],
     out: &mut [u8],
 ) -> Extent
-    requires { ⌜ StatementReady (now file) (spot .«function_at») (now source) n (now log) (spot .p) (now roots) (now out) (spot .at) (spot .base) ⌝ }
-    ensures { λ r. ⌜ StatementWritten (now (file .entry)) (spot .«function_at») n (spot .p) (now (out .entry)) (now (out .exit)) (spot .at) (spot .base) r ⌝ }
+    requires { ⌜ StatementReady (now file) (spot .«function_at») (now source) n (now log) (spot .p)
+        (now roots) (now out) (spot .at) (spot .base) ⌝ }
+    ensures { λ r. ⌜ StatementWritten (now (file .entry)) (spot .«function_at») n (spot .p)
+        (now (out .entry)) (now (out .exit)) (spot .at) (spot .base) r ⌝ }
 {
     let function_at = spot.function_at;
     let p = spot.p;
@@ -304,8 +313,10 @@ fn write_sequence(
     out: &mut [u8],
 ) -> Extent
     requires { ⌜ ((recordAt (now source) n) .kind ≡ 17)
-        × (StatementReady (now file) (spot .«function_at») (now source) n (now log) (spot .p) (now roots) (now out) (spot .at) (spot .base)) ⌝ }
-    ensures { λ r. ⌜ StatementWritten (now (file .entry)) (spot .«function_at») n (spot .p) (now (out .entry)) (now (out .exit)) (spot .at) (spot .base) r ⌝ }
+        × (StatementReady (now file) (spot .«function_at») (now source) n (now log) (spot .p)
+        (now roots) (now out) (spot .at) (spot .base)) ⌝ }
+    ensures { λ r. ⌜ StatementWritten (now (file .entry)) (spot .«function_at») n (spot .p)
+        (now (out .entry)) (now (out .exit)) (spot .at) (spot .base) r ⌝ }
 {
     let function_at = spot.function_at;
     let p = spot.p;

@@ -76,8 +76,10 @@ pub fn put_circuits(
 ) -> Circuits
     requires { ⌜ (Context (now file) (run .«function_at») (now source))
         × ((Claimable (now file) (run .«function_at») (now log) (run .from) (run .left))
-        × (CircuitsRoom (now out) (now numbers) (run .at) (run .base) (run .noted) (claimsIn (now file) (run .«function_at») (now log) (run .from) (run .left)))) ⌝ }
-    ensures { λ r. ⌜ CircuitsPut (now (out .entry)) (now (out .exit)) (now (numbers .entry)) (now (numbers .exit)) (run .at) (run .base) (run .noted)
+        × (CircuitsRoom (now out) (now numbers) (run .at) (run .base) (run .noted)
+        (claimsIn (now file) (run .«function_at») (now log) (run .from) (run .left)))) ⌝ }
+    ensures { λ r. ⌜ CircuitsPut (now (out .entry)) (now (out .exit)) (now (numbers .entry)) (now (numbers .exit))
+        (run .at) (run .base) (run .noted)
         (claimsIn (now (file .entry)) (run .«function_at») (now (log .entry)) (run .from) (run .left)) r ⌝ }
 {
     let function_at = run.function_at;

@@ -48,8 +48,11 @@ pub struct ParametersLeft {
 pub fn put_openings(file: &[u8], rest: ParametersLeft, roots: &mut [u16], out: &mut [u8]) -> Steps
     requires { ⌜ ((rest .k) + (rest .left) ≤ 8)
         × (((rest .i) ≤ (rest .k))
-        × (((rest .place) + 2 * (rest .left) ≤ 1000000) × (StepsRoom (now out) (now roots) (rest .at) (rest .base) (rest .i) (openingSteps (now file) (rest .place) (rest .left) (rest .k) (rest .i))))) ⌝ }
-    ensures { λ r. ⌜ StepsPut (now (out .entry)) (now (out .exit)) (now (roots .entry)) (now (roots .exit)) (rest .at) (rest .base) (rest .i)
+        × (((rest .place) + 2 * (rest .left) ≤ 1000000)
+        × (StepsRoom (now out) (now roots) (rest .at) (rest .base) (rest .i)
+        (openingSteps (now file) (rest .place) (rest .left) (rest .k) (rest .i))))) ⌝ }
+    ensures { λ r. ⌜ StepsPut (now (out .entry)) (now (out .exit)) (now (roots .entry)) (now (roots .exit))
+        (rest .at) (rest .base) (rest .i)
         (openingSteps (now (file .entry)) (rest .place) (rest .left) (rest .k) (rest .i)) r ⌝ }
 {
     let place = rest.place;
@@ -108,7 +111,8 @@ pub fn write_passage(
     roots: &mut [u16],
     out: &mut [u8],
 ) -> usize
-    requires { ⌜ PassageReady (now file) (plan .«function_at») (now source) (plan .private) (plan .verified) (now log) (now roots) (now out) (plan .at) (plan .base) ⌝ }
+    requires { ⌜ PassageReady (now file) (plan .«function_at») (now source) (plan .private) (plan .verified)
+        (now log) (now roots) (now out) (plan .at) (plan .base) ⌝ }
     ensures { λ r. ⌜ Numbered (now (out .entry)) (now (out .exit)) (plan .at) (plan .base)
         (passageTree (now (file .entry)) (plan .«function_at») (plan .private) (plan .verified)) r ⌝ }
 {
@@ -154,7 +158,8 @@ pub fn write_function_body(
     roots: &mut [u16],
     out: &mut [u8],
 ) -> usize
-    requires { ⌜ BodyReady (now file) (plan .«function_at») (now source) (plan .private) (plan .verified) (now log) (now roots) (now out) (plan .at) (plan .base) ⌝ }
+    requires { ⌜ BodyReady (now file) (plan .«function_at») (now source) (plan .private) (plan .verified)
+        (now log) (now roots) (now out) (plan .at) (plan .base) ⌝ }
     ensures { λ r. ⌜ Numbered (now (out .entry)) (now (out .exit)) (plan .at) (plan .base)
         (commandTree ((writtenIn (now (file .entry)) (plan .«function_at»)) .body)) r ⌝ }
 {

@@ -31,6 +31,20 @@ pub struct Parts {
     pub nodes: usize,
 }
 
+// Where the heading of the function that begins at a place goes, and the number of its first node; then how many nodes it has.
+pub struct Start {
+    pub function_at: usize,
+    pub from: usize,
+    pub base: usize,
+}
+
+pub struct HeadingPlace {
+    pub function_at: usize,
+    pub from: usize,
+    pub base: usize,
+    pub total: usize,
+}
+
 // The log of the body's events, the circuits of its claims as nodes, and the claims' numbers.
 fn write_circuits(
     file: &[u8],
@@ -75,19 +89,21 @@ fn write_circuits(
 // The heading of a function whose nodes are `total`, the first of them number `base`.
 fn write_heading(
     file: &[u8],
-    function_at: usize,
     log: &[u16],
     numbers: &[u16],
     headings: &mut [u8],
-    from: usize,
+    place: HeadingPlace,
     parts: Parts,
-    base: usize,
-    total: usize,
 ) -> usize
-    requires { ⌜ HeadingReady (now file) «function_at» (now log) (now numbers) (now headings) from parts base total ⌝ }
-    ensures { λ r. ⌜ Appended (now (headings .entry)) (now (headings .exit)) from
-        (functionBytes base (writtenIn (now (file .entry)) «function_at»)) r ⌝ }
+    requires { ⌜ HeadingReady (now file) (place .«function_at») (now log) (now numbers) (now headings)
+        (place .from) parts (place .base) (place .total) ⌝ }
+    ensures { λ r. ⌜ Appended (now (headings .entry)) (now (headings .exit)) (place .from)
+        (functionBytes (place .base) (writtenIn (now (file .entry)) (place .«function_at»))) r ⌝ }
 {
+    let function_at = place.function_at;
+    let from = place.from;
+    let base = place.base;
+    let total = place.total;
     let logged = parts.logged;
     let fours = 4 * parts.claims;
     append_heading(
@@ -106,21 +122,22 @@ fn write_heading(
 // `from` on. The first three buffers are scratch space.
 pub fn write_function(
     file: &[u8],
-    function_at: usize,
+    start: Start,
     source: &[u16],
     log: &mut [u16],
     roots: &mut [u16],
     numbers: &mut [u16],
     headings: &mut [u8],
-    from: usize,
     nodes: &mut [u8],
-    base: usize,
 ) -> Finished
-    requires { ⌜ FunctionReady (now file) «function_at» (now source) (now log) (now roots) (now numbers)
-        (now headings) from (now nodes) base ⌝ }
-    ensures { λ r. ⌜ FunctionWritten (now (file .entry)) «function_at» (now (headings .entry)) (now (headings .exit)) from
-        (now (nodes .entry)) (now (nodes .exit)) base r ⌝ }
+    requires { ⌜ FunctionReady (now file) (start .«function_at») (now source) (now log) (now roots) (now numbers)
+        (now headings) (start .from) (now nodes) (start .base) ⌝ }
+    ensures { λ r. ⌜ FunctionWritten (now (file .entry)) (start .«function_at») (now (headings .entry)) (now (headings .exit)) (start .from)
+        (now (nodes .entry)) (now (nodes .exit)) (start .base) r ⌝ }
 {
+    let function_at = start.function_at;
+    let from = start.from;
+    let base = start.base;
     let parts = write_circuits(file, function_at, source, log, numbers, nodes, base);
     let verified = is_verified(parts.private + parts.claims);
     let first = base + parts.nodes;
@@ -141,14 +158,16 @@ pub fn write_function(
     let total = parts.nodes + body;
     let end = write_heading(
         file,
-        function_at,
         log,
         numbers,
         headings,
-        from,
+        HeadingPlace {
+            function_at: function_at,
+            from: from,
+            base: base,
+            total: total,
+        },
         parts,
-        base,
-        total,
     );
     let logged = parts.logged;
     let crossings = count_crossings(parts.private, &log[..logged]);

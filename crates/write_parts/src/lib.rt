@@ -8,6 +8,7 @@ use write_crossings::with_crossings;
 use write_extents::Extent;
 use write_extents::behind;
 use write_fields::append_field_section;
+use write_functions::Start;
 use write_functions::write_function;
 ghost use Rattle.definitions.specs.ContractFile.{functionCount};
 ghost use Rattle.file_accepted.specs.Context.{Source};
@@ -48,15 +49,17 @@ fn write_functions(
     while f < count {
         let written = write_function(
             file,
-            function_at,
+            Start {
+                function_at: function_at,
+                from: all.end,
+                base: all.nodes,
+            },
             source,
             log,
             roots,
             numbers,
             headings,
-            all.end,
             nodes,
-            all.nodes,
         );
         all = behind(all, written.extent);
         counts = with_crossings(counts, f, written.crossings);

@@ -20,3 +20,10 @@ pub struct Run {
     pub at: usize,
     pub base: usize,
 }
+
+// The number of the next variable, and the place and the number of the next node.
+pub struct Next {
+    pub variable: usize,
+    pub at: usize,
+    pub base: usize,
+}

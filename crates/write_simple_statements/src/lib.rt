@@ -17,6 +17,7 @@ use write_body_expressions::write_body_form;
 use write_nodes::put_above_one;
 use write_nodes::put_above_two;
 use write_nodes::put_leaf;
+use write_places::Next;
 use write_variable_counts::body_count;
 ghost use Rattle.kit.specs.Names.{_≡_, _+_, _<_, _≤_};
 ghost use Rattle.definitions.specs.ContractFile.{nodeCount};
@@ -43,18 +44,21 @@ pub fn write_placed_form(
     source: &[u16],
     private: bool,
     n: usize,
-    i: usize,
+    next: Next,
     out: &mut [u8],
-    at: usize,
-    base: usize,
 ) -> usize
     requires { ⌜ (n < nodeCount (now file))
         × ((Context (now file) «function_at» (now source))
-        × ((i + placedCount (scopeIn (now file) «function_at») private (expressionIn (nodesIn (now file)) n) ≤ 65535)
-        × (Room (now out) at base (placedForm (scopeIn (now file) «function_at») private (expressionIn (nodesIn (now file)) n) i)))) ⌝ }
-    ensures { λ r. ⌜ Numbered (now (out .entry)) (now (out .exit)) at base
-        (placedForm (scopeIn (now (file .entry)) «function_at») private (expressionIn (nodesIn (now (file .entry))) n) i) r ⌝ }
+        × (((next .variable) + placedCount (scopeIn (now file) «function_at») private (expressionIn (nodesIn (now file)) n) ≤ 65535)
+        × (Room (now out) (next .at) (next .base)
+        (placedForm (scopeIn (now file) «function_at») private (expressionIn (nodesIn (now file)) n) (next .variable))))) ⌝ }
+    ensures { λ r. ⌜ Numbered (now (out .entry)) (now (out .exit)) (next .at) (next .base)
+        (placedForm (scopeIn (now (file .entry)) «function_at») private
+        (expressionIn (nodesIn (now (file .entry))) n) (next .variable)) r ⌝ }
 {
+    let i = next.variable;
+    let at = next.at;
+    let base = next.base;
     if private {
         if is_public(file, function_at, source, n) {
             put_leaf(VARIABLE_BYTE, 0, i, 0, out, at)
@@ -94,10 +98,12 @@ fn write_field_form(
         source,
         private,
         node.first,
-        i,
+        Next {
+            variable: i,
+            at: at,
+            base: base,
+        },
         out,
-        at,
-        base,
     );
     put_above_one(FIELD_TAKES_BYTE, arg, value, out, at, base)
 }
@@ -134,10 +140,12 @@ fn write_entry_form(
         source,
         private,
         node.second,
-        j,
+        Next {
+            variable: j,
+            at: a,
+            base: b,
+        },
         out,
-        a,
-        b,
     );
     put_above_two(ENTRY_TAKES_BYTE, arg, key, value, out, at, base)
 }

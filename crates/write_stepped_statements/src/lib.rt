@@ -29,7 +29,8 @@ pub fn write_single(
         × (((spot .p .variable) + simpleCount (scopeIn (now file) (spot .«function_at»)) (statementIn (nodesIn (now file)) n) ≤ 65535)
         × ((Readable (now file) (spot .«function_at») (now log) (spot .p .at) left)
         × ((length (stepsIn (now file) (spot .«function_at») (now log) (spot .p .at) left) ≤ length (now roots))
-        × (Room (now out) (spot .at) (spot .base) (singleTree (now file) (spot .«function_at») (now log) (spot .p .at) left n (spot .p .variable))))))) ⌝ }
+        × (Room (now out) (spot .at) (spot .base)
+        (singleTree (now file) (spot .«function_at») (now log) (spot .p .at) left n (spot .p .variable))))))) ⌝ }
     ensures { λ r. ⌜ Numbered (now (out .entry)) (now (out .exit)) (spot .at) (spot .base)
         (singleTree (now (file .entry)) (spot .«function_at») (now (log .entry)) (spot .p .at) left n (spot .p .variable)) r ⌝ }
 {

@@ -5,6 +5,7 @@ use rewrite_log::READ_LOGGED;
 use write_body_expressions::write_body_form;
 use write_nodes::put_node;
 use write_nodes::put_setting;
+use write_places::Next;
 use write_places::Run;
 ghost use Rattle.kit.specs.Names.{_≡_, _+_, _*_, _<_, _≤_, length, take};
 ghost use Rattle.definitions.specs.Basics.{flatMap};
@@ -31,19 +32,21 @@ pub fn put_step(
     source: &[u16],
     variable: usize,
     n: usize,
-    i: usize,
+    next: Next,
     out: &mut [u8],
-    at: usize,
-    base: usize,
 ) -> usize
     requires { ⌜ (n < nodeCount (now file))
         × ((Context (now file) «function_at» (now source))
-        × ((i + bodyCount (scopeIn (now file) «function_at») (expressionIn (nodesIn (now file)) n) ≤ 65535)
-        × (Room (now out) at base
-        (setting variable (bodyForm (scopeIn (now file) «function_at») (expressionIn (nodesIn (now file)) n) i))))) ⌝ }
-    ensures { λ r. ⌜ Numbered (now (out .entry)) (now (out .exit)) at base
-        (setting variable (bodyForm (scopeIn (now (file .entry)) «function_at») (expressionIn (nodesIn (now (file .entry))) n) i)) r ⌝ }
+        × (((next .variable) + bodyCount (scopeIn (now file) «function_at») (expressionIn (nodesIn (now file)) n) ≤ 65535)
+        × (Room (now out) (next .at) (next .base)
+        (setting variable (bodyForm (scopeIn (now file) «function_at») (expressionIn (nodesIn (now file)) n) (next .variable)))))) ⌝ }
+    ensures { λ r. ⌜ Numbered (now (out .entry)) (now (out .exit)) (next .at) (next .base)
+        (setting variable (bodyForm (scopeIn (now (file .entry)) «function_at»)
+        (expressionIn (nodesIn (now (file .entry))) n) (next .variable))) r ⌝ }
 {
+    let i = next.variable;
+    let at = next.at;
+    let base = next.base;
     let value = write_body_form(file, function_at, source, n, i, out, at, base);
     put_setting(variable, value, out, at, base)
 }
@@ -59,8 +62,10 @@ pub fn put_steps(
 ) -> Steps
     requires { ⌜ (Context (now file) (run .«function_at») (now source))
         × ((Readable (now file) (run .«function_at») (now log) (run .from) (run .left))
-        × (StepsRoom (now out) (now roots) (run .at) (run .base) (run .noted) (stepsIn (now file) (run .«function_at») (now log) (run .from) (run .left)))) ⌝ }
-    ensures { λ r. ⌜ StepsPut (now (out .entry)) (now (out .exit)) (now (roots .entry)) (now (roots .exit)) (run .at) (run .base) (run .noted)
+        × (StepsRoom (now out) (now roots) (run .at) (run .base) (run .noted)
+        (stepsIn (now file) (run .«function_at») (now log) (run .from) (run .left)))) ⌝ }
+    ensures { λ r. ⌜ StepsPut (now (out .entry)) (now (out .exit)) (now (roots .entry)) (now (roots .exit))
+        (run .at) (run .base) (run .noted)
         (stepsIn (now (file .entry)) (run .«function_at») (now (log .entry)) (run .from) (run .left)) r ⌝ }
 {
     let function_at = run.function_at;
@@ -75,7 +80,19 @@ pub fn put_steps(
         let variable = log[from + 1] as usize;
         let n = log[from + 3] as usize;
         let i = log[from + 4] as usize;
-        let nodes = put_step(file, function_at, source, variable, n, i, out, at, base);
+        let nodes = put_step(
+            file,
+            function_at,
+            source,
+            variable,
+            n,
+            Next {
+                variable: i,
+                at: at,
+                base: base,
+            },
+            out,
+        );
         put_number(roots, noted, (base + nodes - 1) as u16);
         let later = put_steps(
             file,

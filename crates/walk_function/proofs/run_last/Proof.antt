@@ -10,6 +10,6 @@ run-last-spec =
     (λ c. let s = c .before .before .before .before .before .before .before .before .before .before in let space = s .pre .space in
     sym (length-take-le _ (s .args .numbers .now) (omega arith))) (λ c. search needs)
     (λ c κs. let s = c .before .before .before .before .before .before .before .before .before .before .before .before in
-    (last-below (s .args .nodes .now) (s .args .count) (s .pre .some) (s .pre .bytes), (s .pre .readable, s .pre .fewFields)))
+    (last-below (s .args .nodes .now) (s .args .extent .nodes) (s .pre .some) (s .pre .bytes), (s .pre .readable, s .pre .fewFields)))
     (λ c. search needs) (λ c. search needs)
     (λ c. rw (c .before .before .before .before .before .before .before .before .before .numbers-of .ensures) at (c .before .before .before .before .run .ensures)))

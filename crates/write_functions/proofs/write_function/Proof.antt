@@ -41,7 +41,7 @@ write-function-spec =
     (λ c. c .before .before .before .before .before .before .before .before .before .before .before .before .before .before .before .before .before .before .before .before .before .before .before .before .before .before .write-circuits .kept .1 .1 .1 .0)
     (λ c. c .before .before .before .before .before .before .before .before .before .before .before .before .before .write-function-body .kept .1 .1 .1 .1 .0)
     (λ c. c .before .before .before .before .before .before .before .before .before .before .before .before .before .before .before .before .before .before .before .before .before .before .before .before .before .before .write-circuits .kept .1 .1 .1 .1 .0)
-    (λ c. c .before .before .before .before .write-heading .kept .1 .1 .1 .1 .0)
+    (λ c. c .before .before .before .before .write-heading .kept .1 .1 .1 .0)
     (λ c. let write-circuits-kept = c .before .before .before .before .before .before .before .before .before .before .before .before .before .before .before .before .before .before .before .before .before .before .before .before .before .before .write-circuits .kept .1 .1 .1 .1 .1 .0 in
     let write-function-body-kept = c .before .before .before .before .before .before .before .before .before .before .before .before .before .write-function-body .kept .1 .1 .1 .1 .1 .0 in
     write-function-body-kept ∙ write-circuits-kept)

@@ -69,7 +69,7 @@ write-functions-spec =
       kept .1 .1 .1 .1 .0 ∙ roots-long,
       kept .1 .1 .1 .1 .1 .0 ∙ numbers-long,
       kept .1 .1 .1 .1 .1 .1 .0 ∙ headings-long,
-      kept .1 .1 .1 .1 .1 .1 .1 .1 .0 ∙ nodes-long,
+      kept .1 .1 .1 .1 .1 .1 .1 .0 ∙ nodes-long,
     )) (λ c. search needs) (λ c. search needs) (λ c. search needs) (λ c. search needs) (λ c. search needs)
     (λ c. let start = c .before .before .before .before .before .before .before .before .before .before in let args-file = start .args .file .now in
     let (functions-ready, _) = start .pre in let (functions-put, _, _, _, _, _, _, _) = c .before .loop .inv in
