@@ -47,52 +47,61 @@ fn log_body(
     end.at
 }
 
+// The function that is called, where it begins, who calls it, and how many of its parameters are private.
+struct Called {
+    function_at: usize,
+    function: u8,
+    caller: u8,
+    private: usize,
+}
+
 // The one place where both meet: contents from the original, then the call with given values, which knows nothing of it.
 fn call_supplied(
     l: Ledger,
     file: &[u8],
-    function_at: usize,
-    function: u8,
-    caller: u8,
+    called: Called,
     arguments: &[u32],
     log: &[u16],
-    private: usize,
     slots: &[u64],
     addresses: &[u32],
     parameters: &mut [u32],
     variables: &mut [u32],
 ) -> Ledger
-    requires { ⌜ (WorkedOut (ledgerOf l) function caller (now arguments)
-        (now file) «function_at» (now log) private (now slots) (now addresses))
+    requires { ⌜ (WorkedOut (ledgerOf l) (called .function) (called .caller) (now arguments)
+        (now file) (called .«function_at») (now log) (called .private) (now slots) (now addresses))
         × (ContentsRoom (now arguments) (now slots) (now parameters) (now variables)) ⌝ }
-    ensures { λ r. ⌜ Laid l (callWith (ledgerOf l) function caller
-        (honestParametersOf (ledgerOf l) function caller (now (arguments .entry)))
-        (honestVariablesOf (ledgerOf l) function caller (now (arguments .entry)))) r ⌝ }
+    ensures { λ r. ⌜ Laid l (callWith (ledgerOf l) (called .function) (called .caller)
+        (honestParametersOf (ledgerOf l) (called .function) (called .caller) (now (arguments .entry)))
+        (honestVariablesOf (ledgerOf l) (called .function) (called .caller) (now (arguments .entry)))) r ⌝ }
 {
     let call = serial_call(l.call);
-    put_parameters(file, function_at, caller, call, arguments, parameters);
-    put_variables(log, private, slots, addresses, call, variables);
-    call_with(l, function, caller, parameters, variables)
+    put_parameters(
+        file,
+        called.function_at,
+        called.caller,
+        call,
+        arguments,
+        parameters,
+    );
+    put_variables(log, called.private, slots, addresses, call, variables);
+    call_with(l, called.function, called.caller, parameters, variables)
 }
 
 // Memory for one content an argument and one a variable.
 fn call_in_room(
     l: Ledger,
     file: &[u8],
-    function_at: usize,
-    function: u8,
-    caller: u8,
+    called: Called,
     arguments: &[u32],
     log: &[u16],
-    private: usize,
     slots: &[u64],
     addresses: &[u32],
 ) -> Ledger
-    requires { ⌜ WorkedOut (ledgerOf l) function caller (now arguments)
-        (now file) «function_at» (now log) private (now slots) (now addresses) ⌝ }
-    ensures { λ r. ⌜ Laid l (callWith (ledgerOf l) function caller
-        (honestParametersOf (ledgerOf l) function caller (now (arguments .entry)))
-        (honestVariablesOf (ledgerOf l) function caller (now (arguments .entry)))) r ⌝ }
+    requires { ⌜ WorkedOut (ledgerOf l) (called .function) (called .caller) (now arguments)
+        (now file) (called .«function_at») (now log) (called .private) (now slots) (now addresses) ⌝ }
+    ensures { λ r. ⌜ Laid l (callWith (ledgerOf l) (called .function) (called .caller)
+        (honestParametersOf (ledgerOf l) (called .function) (called .caller) (now (arguments .entry)))
+        (honestVariablesOf (ledgerOf l) (called .function) (called .caller) (now (arguments .entry)))) r ⌝ }
 {
     let mut parameters = [0u32; 40];
     let mut variables = [0u32; 5120];
@@ -101,12 +110,9 @@ fn call_in_room(
     call_supplied(
         l,
         file,
-        function_at,
-        function,
-        caller,
+        called,
         arguments,
         log,
-        private,
         slots,
         addresses,
         &mut parameters[..shown],
@@ -118,44 +124,30 @@ fn call_in_room(
 fn call_worked_out(
     l: Ledger,
     file: &[u8],
-    function_at: usize,
+    called: Called,
     source: &[u16],
-    function: u8,
-    caller: u8,
     arguments: &[u32],
     numbers: &mut [u32],
     log: &[u16],
-    private: usize,
     addresses: &[u32],
 ) -> Ledger
-    requires { ⌜ Told (ledgerOf l) function caller (now arguments)
-        (now file) «function_at» (now source) (now numbers) (now log) private (now addresses) ⌝ }
-    ensures { λ r. ⌜ Laid l (callWith (ledgerOf l) function caller
-        (honestParametersOf (ledgerOf l) function caller (now (arguments .entry)))
-        (honestVariablesOf (ledgerOf l) function caller (now (arguments .entry)))) r ⌝ }
+    requires { ⌜ Told (ledgerOf l) (called .function) (called .caller) (now arguments)
+        (now file) (called .«function_at») (now source) (now numbers) (now log) (called .private) (now addresses) ⌝ }
+    ensures { λ r. ⌜ Laid l (callWith (ledgerOf l) (called .function) (called .caller)
+        (honestParametersOf (ledgerOf l) (called .function) (called .caller) (now (arguments .entry)))
+        (honestVariablesOf (ledgerOf l) (called .function) (called .caller) (now (arguments .entry)))) r ⌝ }
 {
     let mut slots = [0u64; 1024];
     let made = honest_slots(
         file,
-        function_at,
+        called.function_at,
         source,
         numbers,
         arguments,
-        caller,
+        called.caller,
         &mut slots[..],
     );
-    call_in_room(
-        l,
-        file,
-        function_at,
-        function,
-        caller,
-        arguments,
-        log,
-        private,
-        &slots[..made],
-        addresses,
-    )
+    call_in_room(l, file, called, arguments, log, &slots[..made], addresses)
 }
 
 // The address of each name, and the events of the body, on places opened.
@@ -190,14 +182,16 @@ fn call_opened(
     call_worked_out(
         l,
         file,
-        function_at,
+        Called {
+            function_at: function_at,
+            function: function,
+            caller: caller,
+            private: private,
+        },
         source,
-        function,
-        caller,
         arguments,
         numbers,
         &log[..logged],
-        private,
         &addresses[..],
     )
 }

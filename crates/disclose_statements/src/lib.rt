@@ -38,17 +38,9 @@ fn disclose_field(
         (now (out .entry)) (now (out .exit)) (who .at) r ⌝ }
 {
     let node = node_at(source, n);
-    let told = disclose_expression(
-        file,
-        source,
-        who,
-        numbers,
-        arguments,
-        addresses,
-        node.first,
-        out,
-    );
-    let v = value_asked(file, source, who, numbers, arguments, node.first);
+    let part = node.first;
+    let told = disclose_expression(file, source, who, numbers, arguments, addresses, part, out);
+    let v = value_asked(file, source, who, numbers, arguments, part);
     let p = position(file, node.arg, 0);
     put_number(numbers, p, v);
     told
@@ -125,17 +117,9 @@ fn disclose_require(
         (now (out .entry)) (now (out .exit)) (who .at) r ⌝ }
 {
     let node = node_at(source, n);
-    let told = disclose_expression(
-        file,
-        source,
-        who,
-        numbers,
-        arguments,
-        addresses,
-        node.first,
-        out,
-    );
-    let condition = value_asked(file, source, who, numbers, arguments, node.first);
+    let part = node.first;
+    let told = disclose_expression(file, source, who, numbers, arguments, addresses, part, out);
+    let condition = value_asked(file, source, who, numbers, arguments, part);
     Told {
         at: told.at,
         finished: holds(told.finished, condition),
