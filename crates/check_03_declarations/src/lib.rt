@@ -1,13 +1,6 @@
 // Number 3 for fields and parameters: their shapes, types and owner codes.
 use file_decoded::number_from;
-use file_kinds::ADDRESS;
-use file_kinds::CALLER_CODE;
-use file_kinds::EVERYONE_CODE;
-use file_kinds::FINAL;
-use file_kinds::FINAL_CODES;
-use file_kinds::FINAL_CODES_END;
-use file_kinds::KEY_CODE;
-use file_kinds::MAPPING;
+use file_kinds::*;
 ghost use Rattle.kit.specs.Names.{_≡_, _&&_, _||_, _+_, _*_, _/_, _≤_, eqb, length};
 ghost use Rattle.definitions.specs.Basics.{any, isZero};
 ghost use Rattle.definitions.specs.ContractFile.{isFinalCode};

@@ -1,27 +1,7 @@
 // Number 3 for one node: its kind, its arg and the parts that its kind doesn't use.
 use check_03_declarations::is_final_code;
 use file_bytes::Node;
-use file_kinds::ADDRESS;
-use file_kinds::BOOL;
-use file_kinds::CALLER_CODE;
-use file_kinds::CONSTANT;
-use file_kinds::ENTRY;
-use file_kinds::ENTRY_TAKES;
-use file_kinds::FIELD;
-use file_kinds::FIELD_TAKES;
-use file_kinds::IF;
-use file_kinds::ME;
-use file_kinds::NOT;
-use file_kinds::OPERATOR;
-use file_kinds::OR;
-use file_kinds::PARAMETER;
-use file_kinds::PARAMETER_CODES;
-use file_kinds::PARAMETER_CODES_END;
-use file_kinds::REQUIRE;
-use file_kinds::REVEAL;
-use file_kinds::SEQUENCE;
-use file_kinds::SKIP;
-use file_kinds::UINT;
+use file_kinds::*;
 ghost use Rattle.kit.specs.Names.{_≡_, _&&_, _+_, _*_, _≤_, leb};
 ghost use Rattle.definitions.specs.Basics.{isZero};
 ghost use Rattle.definitions.specs.ContractFile.{isParameterCode, dataTypeOf, isOfType};

@@ -2,10 +2,7 @@
 // party, up to a failure." The expressions of the original, on numbers in all places.
 use disclose_readers::may_read;
 use file_decoded::node_at;
-use file_kinds::ENTRY;
-use file_kinds::NOT;
-use file_kinds::OPERATOR;
-use file_kinds::REVEAL;
+use file_kinds::*;
 use honest_values::value;
 use walk_expressions::divides;
 ghost use Rattle.kit.specs.Names.{_≡_, [], _∷_, _+_, _<_, _≤_, length};

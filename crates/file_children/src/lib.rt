@@ -1,8 +1,5 @@
 // What a kind of node says of the node's parts.
-use file_kinds::CONSTANT;
-use file_kinds::IF;
-use file_kinds::REVEAL;
-use file_kinds::SKIP;
+use file_kinds::*;
 ghost use Rattle.kit.specs.Names.{_≡_, _||_};
 ghost use Rattle.file_children.specs.Children.{childCount, expressionCount, isExpressionKind, isStatementKind};
 

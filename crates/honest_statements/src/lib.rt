@@ -1,11 +1,7 @@
 // 01, Runs and views: "An honest supplied variable holds what the original works out for its expression .. in an untaken branch it stays
 // plain 0." The original's statements on lent numbers, with one number for each variable that rewriting makes of them.
 use file_decoded::node_at;
-use file_kinds::ENTRY_TAKES;
-use file_kinds::FIELD_TAKES;
-use file_kinds::IF;
-use file_kinds::REQUIRE;
-use file_kinds::SEQUENCE;
+use file_kinds::*;
 use honest_assignments::entry_slots;
 use honest_assignments::field_slots;
 use honest_supplies::Turn;

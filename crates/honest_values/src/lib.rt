@@ -1,12 +1,6 @@
 // 01, Runs and views: the value that the original works out for an expression, on numbers in all places.
 use file_decoded::node_at;
-use file_kinds::CONSTANT;
-use file_kinds::ENTRY;
-use file_kinds::FIELD;
-use file_kinds::NOT;
-use file_kinds::OPERATOR;
-use file_kinds::PARAMETER;
-use file_kinds::REVEAL;
+use file_kinds::*;
 use ledger_arithmetic::negated;
 use ledger_arithmetic::operated;
 use ledger_places::number_at;

@@ -2,11 +2,7 @@
 use file_bytes::byte_at;
 use file_bytes::function_end;
 use file_bytes::two_bytes_at;
-use file_kinds::CALLER_CODE;
-use file_kinds::EVERYONE_CODE;
-use file_kinds::FINAL_CODES;
-use file_kinds::FINAL_CODES_END;
-use file_kinds::PARAMETER_CODES;
+use file_kinds::*;
 use honest_statements::statement_slots;
 use honest_supplies::Turn;
 use honest_supplies::put_slot;

@@ -1,8 +1,6 @@
 // "each item .. has the type": one variable, by the event that made it.
 use file_bytes::two_bytes_at;
-use file_kinds::ADDRESS;
-use file_kinds::BOOL;
-use file_kinds::EVERYONE_CODE;
+use file_kinds::*;
 use ledger_readers::Reader;
 use ledger_types::type_code;
 use rewrite_log::GUARD_LOGGED;

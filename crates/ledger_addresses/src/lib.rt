@@ -1,11 +1,6 @@
 // 01, Owners: the addresses that names stand for in a call, put down at their owner codes.
 use file_bytes::byte_at;
-use file_kinds::CALLER_CODE;
-use file_kinds::FINAL;
-use file_kinds::FINAL_CODES;
-use file_kinds::FINAL_CODES_END;
-use file_kinds::PARAMETER_CODES;
-use file_kinds::PARAMETER_CODES_END;
+use file_kinds::*;
 use ledger_places::number_at;
 use ledger_places::position;
 use ledger_places::put_number;

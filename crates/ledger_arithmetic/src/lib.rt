@@ -1,14 +1,5 @@
 // 01, The contract file: "Operators: 0 +, 1 −, 2 ×, 3 /, 4 %, 5 <, 6 ≤, 7 ==, 8 !=, 9 and, 10 or.", worked out on numbers of 32 bits.
-use file_kinds::AND;
-use file_kinds::DIVIDED;
-use file_kinds::EQUAL;
-use file_kinds::LESS;
-use file_kinds::LESS_OR_EQUAL;
-use file_kinds::MINUS;
-use file_kinds::NOT_EQUAL;
-use file_kinds::OR;
-use file_kinds::REMAINDER;
-use file_kinds::TIMES;
+use file_kinds::*;
 ghost use Rattle.kit.specs.Names.{_≡_, _&&_, _||_, _/_, _%_};
 ghost use Rattle.definitions.specs.Basics.{bit, isTrue};
 ghost use Rattle.definitions.specs.ContractFile.{plus, minus, times, operatorOf};

@@ -1,10 +1,6 @@
 // 01, Runs and views: circuits worked out on a call's variables, and the constraints that a verify tests.
 use file_bytes::read_node;
-use file_kinds::CONSTANT;
-use file_kinds::NOT;
-use file_kinds::OPENED;
-use file_kinds::OPERATOR;
-use file_kinds::VARIABLE;
+use file_kinds::*;
 use ledger_arithmetic::negated;
 use ledger_arithmetic::operated;
 use ledger_contents::opened_at;

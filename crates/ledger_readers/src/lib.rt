@@ -1,9 +1,5 @@
 // Who can read a value, the content that a value is for its readers, and whether a content is what a form asks.
-use file_kinds::BOOL;
-use file_kinds::EVERYONE_CODE;
-use file_kinds::FINAL_CODES;
-use file_kinds::KEY_CODE;
-use file_kinds::UINT;
+use file_kinds::*;
 use ledger_contents::Cell;
 use ledger_contents::Content;
 ghost use Rattle.kit.specs.Names.{_≡_, _-_, _<_, _≤_};

@@ -1,18 +1,7 @@
 // The data types of expressions, read from the file.
 use file_bytes::byte_at;
 use file_decoded::node_at;
-use file_kinds::ADDRESS;
-use file_kinds::BOOL;
-use file_kinds::CONSTANT;
-use file_kinds::ENTRY;
-use file_kinds::FIELD;
-use file_kinds::LESS;
-use file_kinds::NOT;
-use file_kinds::OPERATOR;
-use file_kinds::OPERATORS;
-use file_kinds::PARAMETER;
-use file_kinds::REVEAL;
-use file_kinds::UINT;
+use file_kinds::*;
 ghost use Rattle.kit.specs.Names.{_≡_, _<_, _≤_};
 ghost use Rattle.definitions.specs.ContractFile.{fieldAt, parameterAt, byteAt, fieldCount, nodeCount, dataTypeOf, operatorOf, resultType};
 ghost use Rattle.definitions.specs.ContractFile.{typeOf};

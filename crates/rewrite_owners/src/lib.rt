@@ -1,21 +1,7 @@
 // 01, Owners: the owner codes of fields, parameters, names and expressions, read from the file.
 use file_bytes::byte_at;
 use file_decoded::node_at;
-use file_kinds::ADDRESS;
-use file_kinds::CALLER_BYTE;
-use file_kinds::CONSTANT;
-use file_kinds::ENTRY;
-use file_kinds::EVERYONE_BYTE;
-use file_kinds::EVERYONE_CODE;
-use file_kinds::FIELD;
-use file_kinds::FINAL;
-use file_kinds::FINAL_CODES;
-use file_kinds::KEY_BYTE;
-use file_kinds::NOT;
-use file_kinds::OPERATOR;
-use file_kinds::PARAMETER;
-use file_kinds::PARAMETER_CODES;
-use file_kinds::REVEAL;
+use file_kinds::*;
 ghost use Rattle.kit.specs.Names.{_≡_, cond, none, some, _<_, _≤_};
 ghost use Rattle.definitions.specs.ContractFile.{finalName, parameterName, fieldAt, parameterAt, isFinal, byteAt, fieldCount, nodeCount};
 ghost use Rattle.definitions.specs.ContractFile.{ownerCode, fieldOwnerCode};

@@ -1,12 +1,6 @@
 // What rewriting does with a node: whether it is supplied in the body, read in a circuit, and which parts it has.
 use file_decoded::node_at;
-use file_kinds::ENTRY;
-use file_kinds::EVERYONE_BYTE;
-use file_kinds::FIELD;
-use file_kinds::NOT;
-use file_kinds::OPERATOR;
-use file_kinds::PARAMETER;
-use file_kinds::REVEAL;
+use file_kinds::*;
 use rewrite_owners::owner_code;
 use rules_codes::is_division;
 ghost use Rattle.kit.specs.Names.{_≡_, cond, _&&_, _<_, eqb};

@@ -1,8 +1,6 @@
 // The events of a statement that holds no other, and of a condition, with the mark that ends them.
 use file_decoded::node_at;
-use file_kinds::ENTRY_TAKES;
-use file_kinds::FIELD_TAKES;
-use file_kinds::REQUIRE;
+use file_kinds::*;
 use rewrite_assignments::assign_entry_log;
 use rewrite_assignments::assign_field_log;
 use rewrite_expressions::body_log;

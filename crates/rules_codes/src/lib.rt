@@ -1,15 +1,6 @@
 // Rules on data types, operators and owners, over their numbers.
 use file_children::either;
-use file_kinds::AND_SHORT;
-use file_kinds::BOOL_SHORT;
-use file_kinds::DIVIDED_SHORT;
-use file_kinds::EQUAL_SHORT;
-use file_kinds::LESS_OR_EQUAL_SHORT;
-use file_kinds::LESS_SHORT;
-use file_kinds::NOT_EQUAL_SHORT;
-use file_kinds::OR_SHORT;
-use file_kinds::REMAINDER_SHORT;
-use file_kinds::UINT_SHORT;
+use file_kinds::*;
 use rules_faults::both;
 use rules_faults::number_if;
 use rules_links::same_class;

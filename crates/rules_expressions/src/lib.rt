@@ -1,11 +1,5 @@
 // The judgement of an expression's node, which marks owners in a column, by recursion over its children.
-use file_kinds::CONSTANT_SHORT;
-use file_kinds::ENTRY_SHORT;
-use file_kinds::FIELD_SHORT;
-use file_kinds::NOT_SHORT;
-use file_kinds::OPERATOR_SHORT;
-use file_kinds::PARAMETER_SHORT;
-use file_kinds::REVEAL_SHORT;
+use file_kinds::*;
 use rules_entries::entry_judged;
 use rules_judgements::Judged;
 use rules_judgements::constant_judged;

@@ -1,8 +1,5 @@
 // What is found of an expression: its data type, owner, name and least fault; of constants and places.
-use file_kinds::ADDRESS_SHORT;
-use file_kinds::EVERYONE_CODE_SHORT;
-use file_kinds::FINAL_SHORT;
-use file_kinds::MAPPING_SHORT;
+use file_kinds::*;
 use rules_codes::given_if;
 use rules_codes::place_owner;
 use rules_codes::unread;

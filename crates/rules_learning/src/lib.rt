@@ -1,14 +1,6 @@
 // The links that a condition gives, by recursion over its "and" tree; apart from the judgement of expressions, which needs none of it.
 use file_children::either;
-use file_kinds::AND_SHORT;
-use file_kinds::CONSTANT_SHORT;
-use file_kinds::ENTRY_SHORT;
-use file_kinds::EQUAL_SHORT;
-use file_kinds::FIELD_SHORT;
-use file_kinds::NOT_SHORT;
-use file_kinds::OPERATOR_SHORT;
-use file_kinds::PARAMETER_SHORT;
-use file_kinds::REVEAL_SHORT;
+use file_kinds::*;
 use rules_judgements::argument_name;
 use rules_judgements::final_name;
 use rules_links::link;

@@ -1,8 +1,6 @@
 // Owners by number, whatever codes a file has for them: 0 all, 1 the caller, 2 + k parameter k, 10 + f final f. The numbers of a contract's
 // owners lie close together, so that a table has one place for each.
-use file_kinds::FINAL_CODES_END_SHORT;
-use file_kinds::FINAL_CODES_SHORT;
-use file_kinds::PARAMETER_CODES_SHORT;
+use file_kinds::*;
 ghost use Rattle.kit.specs.Names.{_≡_, true};
 ghost use Rattle.definitions.specs.ContractFile.{ownerOfCode};
 ghost use Rattle.definitions.specs.Numbers.{targetInTables};

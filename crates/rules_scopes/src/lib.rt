@@ -1,9 +1,5 @@
 // The fields and parameters that a function's nodes name, as the decoded slices hold them.
-use file_kinds::ADDRESS_SHORT;
-use file_kinds::BOOL_SHORT;
-use file_kinds::EVERYONE_CODE_SHORT;
-use file_kinds::FINAL_SHORT;
-use file_kinds::KEY_CODE_SHORT;
+use file_kinds::*;
 use rules_faults::both;
 use rules_owners::FINALS;
 use rules_owners::PARAMETERS;

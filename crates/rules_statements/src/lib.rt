@@ -1,9 +1,5 @@
 // The faults of a statement's node, the links after it, and the owners of its expressions, by recursion over its parts.
-use file_kinds::ENTRY_TAKES_SHORT;
-use file_kinds::FIELD_TAKES_SHORT;
-use file_kinds::IF_SHORT;
-use file_kinds::REQUIRE_SHORT;
-use file_kinds::SEQUENCE_SHORT;
+use file_kinds::*;
 use rules_assignments::entry_put_fault;
 use rules_assignments::field_fault;
 use rules_branches::Checked;

@@ -1,10 +1,5 @@
 // 01, Runs and views: what a constraint says of its variable.
-use file_kinds::CALLER_CODE;
-use file_kinds::EVERYONE_CODE;
-use file_kinds::FINAL_CODES;
-use file_kinds::FINAL_CODES_END;
-use file_kinds::OPENS;
-use file_kinds::PARAMETER_CODES;
+use file_kinds::*;
 use ledger_circuits::circuit_value;
 use ledger_contents::content_at;
 use ledger_places::number_at;

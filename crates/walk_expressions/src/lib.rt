@@ -1,14 +1,6 @@
 // 01, Runs and views: "A call walks the function's written body on the ledger's plain values and cells": the body's expressions.
 use file_bytes::read_node;
-use file_kinds::CONSTANT;
-use file_kinds::DIVIDED;
-use file_kinds::ENTRY;
-use file_kinds::FIELD;
-use file_kinds::NOT;
-use file_kinds::OPERATOR;
-use file_kinds::PARAMETER;
-use file_kinds::REMAINDER;
-use file_kinds::VARIABLE;
+use file_kinds::*;
 use ledger_arithmetic::negated;
 use ledger_arithmetic::operated;
 use ledger_circuits::constant_of;

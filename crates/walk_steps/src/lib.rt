@@ -1,10 +1,6 @@
 // 01, Runs and views: one command of a written body that is neither a sequence nor an if, on flat contents that are lent.
 use file_bytes::read_node;
-use file_kinds::ENTRY_TAKES;
-use file_kinds::FIELD_TAKES;
-use file_kinds::REQUIRE;
-use file_kinds::SET;
-use file_kinds::VERIFY;
+use file_kinds::*;
 use ledger_contents::put_content;
 use ledger_places::position;
 use walk_expressions::both_walked;

@@ -1,9 +1,6 @@
 // 01, Rewriting: the nodes of a function's written body, statement by statement.
 use file_decoded::node_at;
-use file_kinds::IF;
-use file_kinds::IF_BYTE;
-use file_kinds::SEQUENCE;
-use file_kinds::SEQUENCE_BYTE;
+use file_kinds::*;
 use rewrite_log::Position;
 use write_body_expressions::write_body_form;
 use write_ends::find_end;

@@ -2,9 +2,7 @@
 use file_bytes::byte_at;
 use file_bytes::function_end;
 use file_bytes::two_bytes_at;
-use file_kinds::PARAMETER_BYTE;
-use file_kinds::SEQUENCE_BYTE;
-use file_kinds::VERIFY_BYTE;
+use file_kinds::*;
 use memory_buffer::put_number;
 use rewrite_log::Position;
 use write_bodies::write_statement;

@@ -1,15 +1,6 @@
 // 01, Rewriting: a function's parameters as they are written, and the reads that open its private ones.
 use file_bytes::byte_at;
-use file_kinds::ADDRESS_BYTE;
-use file_kinds::BOOL;
-use file_kinds::BOOL_BYTE;
-use file_kinds::CALLER_BYTE;
-use file_kinds::CELL_BYTE;
-use file_kinds::EVERYONE_BYTE;
-use file_kinds::EVERYONE_CODE;
-use file_kinds::OPENS;
-use file_kinds::UINT;
-use file_kinds::UINT_BYTE;
+use file_kinds::*;
 use memory_append::append_byte;
 use memory_append::append_two_bytes;
 use write_variables::READ_CELL;

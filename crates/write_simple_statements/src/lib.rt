@@ -1,16 +1,6 @@
 // 01, Rewriting: the nodes of a statement that holds no other, without the steps before it.
 use file_decoded::node_at;
-use file_kinds::ENTRY_TAKES;
-use file_kinds::ENTRY_TAKES_BYTE;
-use file_kinds::EVERYONE_BYTE;
-use file_kinds::FIELD_TAKES;
-use file_kinds::FIELD_TAKES_BYTE;
-use file_kinds::IF;
-use file_kinds::REQUIRE;
-use file_kinds::REQUIRE_BYTE;
-use file_kinds::SEQUENCE;
-use file_kinds::SKIP_BYTE;
-use file_kinds::VARIABLE_BYTE;
+use file_kinds::*;
 use rewrite_owners::field_owner;
 use rewrite_owners::is_public;
 use write_body_expressions::write_body_form;

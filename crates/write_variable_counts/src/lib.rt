@@ -1,14 +1,6 @@
 // 01, Rewriting: how many variables the body's and the circuit's form of a node make.
 use file_decoded::node_at;
-use file_kinds::CONSTANT;
-use file_kinds::DIVIDED;
-use file_kinds::ENTRY;
-use file_kinds::FIELD;
-use file_kinds::NOT;
-use file_kinds::OPERATOR;
-use file_kinds::PARAMETER;
-use file_kinds::REMAINDER;
-use file_kinds::REVEAL;
+use file_kinds::*;
 use rewrite_owners::is_public;
 ghost use Rattle.kit.specs.Names.{_≡_, _&&_, _<_, _≤_};
 ghost use Rattle.definitions.specs.ContractFile.{isDivision, nodeCount, operatorOf};
