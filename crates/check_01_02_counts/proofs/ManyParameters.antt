@@ -1,6 +1,6 @@
 -- The loop over the functions that asks for too many parameters.
-use Rattle.kit.specs.Names.{_≡_, refl, ap, sym, _∙_, Bool, true, false, _||_, List, [], _∷_, ℕ, zero, suc, _+_, _-_, _<_, _≤_, arith, eqb}
-use Rattle.kit.specs.Names.{ltb, length, lt-ltb, le-ltb}
+use Rattle.kit.specs.Names.{_≡_, refl, ap, sym, _∙_, Bool, _||_, List, [], _∷_, ℕ, zero, suc, _+_, _-_, _<_, _≤_, arith, eqb}
+use Rattle.kit.specs.Names.{ltb, length}
 use Rattle.definitions.specs.Basics.{any}
 use Rattle.definitions.specs.ContractFile.{FunctionRecord, byteAt, functionEnd, functionRecord, functionRecords}
 use Rattle.definitions.specs.Reading.{functionsRead}
@@ -9,7 +9,7 @@ use Rattle.theory_laws.proofs.Records.{force-is, parameters-length}
 use Rattle.file_bytes.specs.declared.Layout.{Layout}
 use Rattle.file_bytes.specs.Layout.{IsLayout}
 use Rattle.file_bytes.proofs.Sections.{functions-are}
-use Rattle.file_children.proofs.Loops.{any-next, any-found, any-done}
+use Rattle.file_children.proofs.Loops.{noted-next, noted-done}
 
 abbrev pub hasManyParameters : FunctionRecord → Bool
 hasManyParameters f = ltb 8 (length (f .parameters))
@@ -27,20 +27,15 @@ unfolding functionsRead
 functions-end file at zero h = refl
 functions-end file at (suc k) h = absurd (omega arith)
 
-module _ (left : ℕ) (file : List ℕ) (at : ℕ) (goal : Bool) (inv : any hasManyParameters (functionRecords left file at) ≡ goal) where
-  module _ (h : 0 < left) (count : ℕ) (e : count ≡ byteAt file at) where
-    counted : length ((functionRecord file at) .parameters) ≡ count
-    counted = parameters-length (byteAt file at) file (at + 1) ∙ sym e
+module _ (left : ℕ) (file : List ℕ) (at : ℕ) (noted goal : Bool) (inv : noted || any hasManyParameters (functionRecords left file at) ≡ goal) where
+  pub many-next : 0 < left → (count next : ℕ) → count ≡ byteAt file at → next ≡ functionEnd file at
+      → (noted || ltb 8 count) || any hasManyParameters (functionRecords (left - 1) file next) ≡ goal
+  many-next h count next e ends =
+      noted-next hasManyParameters noted _ _ _ goal (functions-step file at left next h ends) inv _
+      (ap (λ (n : ℕ). noted || ltb 8 n) (e ∙ sym (parameters-length (byteAt file at) file (at + 1))))
 
-    pub many-next : count ≤ 8 → (next : ℕ) → next ≡ functionEnd file at → any hasManyParameters (functionRecords (left - 1) file next) ≡ goal
-    many-next few next ends = any-next hasManyParameters _ _ _ goal (functions-step file at left next h ends) inv (ap (ltb 8) counted ∙ le-ltb 8 count few)
-
-    pub many-found : 8 < count → true ≡ goal
-    many-found many =
-        any-found hasManyParameters _ _ _ goal (functions-step file at left (functionEnd file at) h refl) inv (ap (ltb 8) counted ∙ lt-ltb 8 count many)
-
-  pub none-many : left ≤ 0 → false ≡ goal
-  none-many h = any-done hasManyParameters _ goal (functions-end file at left h) inv
+  pub many-done : left ≤ 0 → noted ≡ goal
+  many-done h = noted-done hasManyParameters noted _ goal (functions-end file at left h) inv
 
 -- Number 2 in a layout's numbers.
 pub limits : (file : List ℕ) (l : Layout) → IsLayout file l

@@ -24,15 +24,13 @@ fn many_parameters(file: &[u8], from: usize, count: usize) -> bool
 {
     let mut at = from;
     let mut left = count;
+    let mut many = false;
     while 0 < left {
-        let parameters = byte_at(file, at);
-        if 8 < parameters {
-            return true;
-        }
+        many = many | (8 < byte_at(file, at));
         at = function_end(file, at);
         left -= 1;
     }
-    false
+    many
 }
 
 // "2. A count is off its limits."
@@ -40,17 +38,6 @@ pub fn count_off_limits(file: &[u8], l: Layout) -> bool
     requires { ⌜ IsLayout (now file) l ⌝ }
     ensures { λ r. ⌜ r ≡ countOffLimits (now (file .entry)) ⌝ }
 {
-    if 64 < l.fields {
-        return true;
-    }
-    if l.functions == 0 {
-        return true;
-    }
-    if 16 < l.functions {
-        return true;
-    }
-    if many_parameters(file, l.functions_at + 1, l.functions) {
-        return true;
-    }
-    512 < l.nodes
+    let many = many_parameters(file, l.functions_at + 1, l.functions);
+    (64 < l.fields) | (l.functions == 0) | (16 < l.functions) | many | (512 < l.nodes)
 }

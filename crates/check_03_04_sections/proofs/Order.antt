@@ -1,88 +1,36 @@
--- The first of the sentences 3 and 4 that holds, of the nodes and of all sections.
-use Rattle.kit.specs.Names.{_≡_, refl, sym, _∙_, Bool, true, false, cond, _||_, or-true, or-false, List, [], _∷_, ℕ, _/_, length}
+-- An owner code and a function's parameters as code asks of them, and the first of the sentences 3 and 4 that holds.
+use Rattle.kit.specs.Names.{_≡_, Bool, true, false, cond, not, _&&_, _||_, List, [], _∷_, ℕ, _+_, _*_, _-_, _/_, _%_, _≤_, arith, eqb, leb, length}
 use Rattle.definitions.specs.Basics.{any, anyNumbered, firstThatHolds}
-use Rattle.definitions.specs.ContractFile.{FieldRecord, FunctionRecord, Sections}
-use Rattle.definitions.specs.Numbers.{outsideTables, namesNothing}
-use Rattle.theory_accepted.proofs.Sentences.{none-holds}
-use Rattle.file_decoded.specs.Slices.{fieldsFrom, functionsFrom, nodesFrom, sectionsFrom}
+use Rattle.definitions.specs.ContractFile.{fieldOwnerOfCode}
+use Rattle.definitions.specs.Numbers.{fieldOfDeclaredOwner, outsideTables, namesNothing}
+use Rattle.file_children.proofs.Truth.{or-false}
+use Rattle.file_decoded.specs.Slices.{numberAt, fieldsFrom, functionsFrom, nodesFrom, sectionsFrom, ParametersInside}
 use Rattle.file_decoded.proofs.Records.{fields-length, nodes-length}
-use Rattle.check_03_declarations.specs.Outside.{fieldOutside, functionOutside}
-use Rattle.check_03_nodes.specs.Outside.{nodeOutside}
+use Rattle.check_03_declarations.specs.Outside.{fieldOutside, functionOutside, nodeOutside}
 use Rattle.check_04_nodes.specs.Naming.{ownerNamesNothing, rootNamesNothing, nodeNamesNothing}
 
-pub third : (outside nothing : Bool) → true ≡ outside → 3 ≡ firstThatHolds 3 (outside ∷ nothing ∷ [])
-unfolding firstThatHolds
-third outside nothing e = rw (← e)
+pub owner-asked : (count owner : ℕ) (a b : Bool) → eqb owner 0 ≡ a → eqb owner 2 ≡ b
+    → (not (eqb owner 0) && not (eqb owner 2) && leb count (owner - 16)) ≡ any (leb count) (fieldOfDeclaredOwner (fieldOwnerOfCode owner))
+unfolding any
+owner-asked count owner true b e f = rw e
+owner-asked count owner false true e f = rw (e, f)
+owner-asked count owner false false e f = rw (e, f, or-false (leb count (owner - 16)))
 
-pub fourth : (outside nothing noted : Bool) → false ≡ outside → noted ≡ nothing → cond {A = ℕ} noted 4 0 ≡ firstThatHolds 3 (outside ∷ nothing ∷ [])
-unfolding firstThatHolds
-fourth outside nothing noted e f = rw (← e, f)
+pub inside-at : (functions parameters : List ℕ) → ParametersInside functions parameters → (at : ℕ) → at % 3 ≡ 0 → at + 3 ≤ length functions
+    → numberAt functions at + 2 * numberAt functions (at + 1) ≤ length parameters
+inside-at functions parameters inside at whole h =
+    let e : 3 * (at / 3) ≡ at = omega arith in
+    rw e at (inside .each (at / 3) (omega arith))
 
--- A number that the nodes have is the sections', whatever else names nothing.
-same-number : (outside nothing others : Bool) → (firstThatHolds 3 (outside ∷ nothing ∷ []) ≡ 0 → ⊥)
-    → firstThatHolds 3 (outside ∷ nothing ∷ []) ≡ firstThatHolds 3 (outside ∷ (others || nothing) ∷ [])
-unfolding firstThatHolds
-same-number outside true others some = rw (or-true others)
-same-number true false others some = refl
-same-number false false others some = absurd (some refl)
-
-module _ (fields functions parameters nodes : List ℕ) where
-  abbrev declared : List FieldRecord
-  declared = fieldsFrom (length fields / 3) fields 0
-
-  abbrev records : List FunctionRecord
-  records = functionsFrom parameters (length functions / 3) functions 0
-
-  abbrev all : Sections
-  all = sectionsFrom fields functions parameters nodes
-
-  abbrev number : ℕ
-  number = firstThatHolds 3 (outsideTables all ∷ namesNothing all ∷ [])
-
-  abbrev outside : Bool
-  outside = any nodeOutside (nodesFrom (length nodes / 5) nodes 0)
-
-  abbrev nothing : Bool
-  nothing = anyNumbered (nodeNamesNothing (length fields / 3)) 0 (nodesFrom (length nodes / 5) nodes 0)
-
-  abbrev owners : Bool
-  owners = any (ownerNamesNothing (length fields / 3)) declared
-
-  abbrev roots : Bool
-  roots = any (rootNamesNothing (length nodes / 5)) records
-
-  tables : outsideTables all ≡ (any fieldOutside declared || any functionOutside records || outside)
-  unfolding outsideTables
-  tables = refl
-
-  names : namesNothing all ≡ (owners || roots || nothing)
-  unfolding namesNothing
-  names = rw (fields-length (length fields / 3) fields 0, nodes-length (length nodes / 5) nodes 0)
-
-  module _ (field : Bool) (a : field ≡ any fieldOutside declared) where
-    pub number-of-fields : field ≡ true → 3 ≡ number
-    unfolding firstThatHolds
-    number-of-fields t = rw (tables, ← a, t)
-
-    module _ (t : field ≡ false) (function : Bool) (b : function ≡ any functionOutside records) where
-      pub number-of-functions : function ≡ true → 3 ≡ number
-      unfolding firstThatHolds
-      number-of-functions u = rw (tables, ← a, t, ← b, u)
-
-      module _ (u : function ≡ false) (found : ℕ) (c : found ≡ firstThatHolds 3 (outside ∷ nothing ∷ [])) where
-        pub number-of-nodes : (found ≡ 0 → ⊥) → found ≡ number
-        number-of-nodes some = rw (tables, ← a, t, ← b, u, names) (c ∙ same-number outside nothing (owners || roots) (λ e. some (c ∙ e)))
-
-        module _ (none : found ≡ 0) (owner : Bool) (d : owner ≡ owners) where
-          inside : outside ≡ false
-          inside = none-holds 2 (outside ∷ nothing ∷ []) (sym c ∙ none) 0
-
-          pub number-of-owners : owner ≡ true → 4 ≡ number
-          unfolding firstThatHolds
-          number-of-owners v = rw (tables, ← a, t, ← b, u, inside, names, ← d, v)
-
-          pub number-of-roots : owner ≡ false → (root : Bool) → root ≡ roots → cond {A = ℕ} root 4 0 ≡ number
-          unfolding firstThatHolds
-          number-of-roots v root e =
-              let named : nothing ≡ false = none-holds 2 (outside ∷ nothing ∷ []) (sym c ∙ none) 1 in
-              rw (tables, ← a, t, ← b, u, inside, names, ← d, v, ← e, named, or-false root)
+pub first-of-two : (fields functions parameters nodes : List ℕ) (a b c d e f : Bool)
+    → (a ≡ any fieldOutside (fieldsFrom (length fields / 3) fields 0))
+    × (d ≡ any (ownerNamesNothing (length fields / 3)) (fieldsFrom (length fields / 3) fields 0))
+    → (b ≡ any functionOutside (functionsFrom parameters (length functions / 3) functions 0))
+    × (e ≡ any (rootNamesNothing (length nodes / 5)) (functionsFrom parameters (length functions / 3) functions 0))
+    → (c ≡ any nodeOutside (nodesFrom (length nodes / 5) nodes 0))
+    × (f ≡ anyNumbered (nodeNamesNothing (length fields / 3)) 0 (nodesFrom (length nodes / 5) nodes 0))
+    → cond {A = ℕ} (a || b || c) 3 (cond (d || e || f) 4 0)
+    ≡ firstThatHolds 3 (outsideTables (sectionsFrom fields functions parameters nodes) ∷ namesNothing (sectionsFrom fields functions parameters nodes) ∷ [])
+unfolding outsideTables namesNothing firstThatHolds
+first-of-two fields functions parameters nodes a b c d e f p q r =
+    rw (p .0, q .0, r .0, p .1, q .1, r .1, fields-length (length fields / 3) fields 0, nodes-length (length nodes / 5) nodes 0)

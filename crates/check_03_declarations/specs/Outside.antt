@@ -1,8 +1,8 @@
--- 01, number 3: a field, a parameter and a function that are outside the tables.
+-- 01, number 3: a field, a parameter, a function and a node that are outside the tables.
 use Rattle.kit.specs.Names.{Bool, not}
 use Rattle.definitions.specs.Basics.{any}
-use Rattle.definitions.specs.ContractFile.{FieldRecord, ParameterRecord, FunctionRecord}
-use Rattle.definitions.specs.Numbers.{fieldInTables, parameterInTables}
+use Rattle.definitions.specs.ContractFile.{FieldRecord, ParameterRecord, FunctionRecord, NodeRecord}
+use Rattle.definitions.specs.Numbers.{fieldInTables, parameterInTables, nodeInTables}
 
 abbrev pub fieldOutside : FieldRecord → Bool
 fieldOutside r = not (fieldInTables r)
@@ -12,3 +12,6 @@ parameterOutside r = not (parameterInTables r)
 
 abbrev pub functionOutside : FunctionRecord → Bool
 functionOutside r = any parameterOutside (r .parameters)
+
+abbrev pub nodeOutside : NodeRecord → Bool
+nodeOutside r = not (nodeInTables r)

@@ -1,106 +1,72 @@
 -- The fields that a node names and the children that it has, by its kind's number.
-use Rattle.kit.specs.Names.{_≡_, refl, ap, sym, _∙_, Bool, true, false, List, [], _∷_, ℕ, zero, suc, _-_, _<_, _≤_, arith, eqb, leb, ltb}
-use Rattle.kit.specs.Names.{getD, eqb-true, eq-eqb, ne-eqb, leb-true}
+use Rattle.kit.specs.Names.{_≡_, refl, ap, sym, _∙_, Bool, true, false, cond, not, _&&_, _||_, [], _∷_, ℕ, zero, suc, _-_, arith, eqb, leb, ltb}
+use Rattle.kit.specs.Names.{take, ne-eqb, eqb-true, eqb-false, leb-true, lt-ltb}
 use Rattle.definitions.specs.Basics.{any}
-use Rattle.definitions.specs.ContractFile.{NodeRecord, isFinalCode, ownerOfCode, fieldOwnerOfCode, Kind, constantKind, meKind, fieldKind, entryKind, parameterKind, operatorKind, negationKind, revealKind, skipKind, sequenceKind, assignFieldKind, assignEntryKind, requireKind, conditionalKind, noKind, kindOf, nodeOf, nodeOfKind, fieldsNamed, fieldOfOwner}
-use Rattle.definitions.specs.Numbers.{fieldOfDeclaredOwner}
+use Rattle.definitions.specs.ContractFile.{NodeRecord, isFinalCode, kindOf, nodeOf, nodeOfKind, fieldsNamed}
+use Rattle.definitions.specs.ContractFile.{Kind, children}
+use Rattle.file_children.specs.Children.{childCount}
 use Rattle.file_children.proofs.Truth.{or-false, both-true}
-use Rattle.file_children.proofs.Loops.{allBelow, allBelow-at}
-use Rattle.file_children.proofs.Children.{kindOf-high}
-use Rattle.check_04_nodes.specs.Naming.{namingOfKind, naming}
+use Rattle.file_children.proofs.Children.{children-are}
 
-unfoldable pub namings : List ℕ
-namings = 0 ∷ 0 ∷ 0 ∷ 1 ∷ 1 ∷ 0 ∷ 0 ∷ 0 ∷ 2 ∷ 0 ∷ 0 ∷ 0 ∷ 0 ∷ 0 ∷ 0 ∷ 0 ∷ 0 ∷ 0 ∷ 1 ∷ 1 ∷ 0 ∷ 0 ∷ []
+-- What a node of a kind names is nothing.
+abbrev nothing : ℕ → NodeRecord → Kind → Bool
+nothing fields r k = any (leb fields) (fieldsNamed (nodeOfKind k r))
 
-pub naming-table : (n : ℕ) → n < 22 → getD namings n 0 ≡ naming n
-unfolding naming namings kindOf allBelow
-naming-table n h = eqb-true _ _ (allBelow-at (λ k. eqb (getD namings k 0) (naming k)) 22 refl n h)
+-- The same by the kind's number.
+abbrev asked : ℕ → NodeRecord → ℕ → Bool
+asked fields r k =
+    cond (eqb k 8) (isFinalCode (r .arg) && leb fields (r .arg - 16)) ((eqb k 3 || eqb k 4 || eqb k 18 || eqb k 19) && leb fields (r .arg))
 
-pub naming-high : (n : ℕ) → 22 ≤ n → 0 ≡ naming n
-unfolding naming
-naming-high n h = sym (ap namingOfKind (kindOf-high n h))
+by-test : (P : ℕ → Type 0) (k n : ℕ) (b : Bool) → eqb k n ≡ b → P n → ((k ≡ n → ⊥) → P k) → P k
+by-test P k n true e there other = rw (eqb-true k n e) there
+by-test P k n false e there other = other (eqb-false k n e)
 
--- What an arg names in each way.
-abbrev named : ℕ → ℕ → List ℕ
-named zero arg = []
-named (suc zero) arg = arg ∷ []
-named (suc (suc zero)) arg = fieldOfOwner (ownerOfCode arg)
-named (suc (suc (suc n))) arg = []
+module _ (fields : ℕ) (r : NodeRecord) where
+  either-kind : (b : Bool) (k l : Kind) → false ≡ nothing fields r k → false ≡ nothing fields r l → false ≡ nothing fields r (cond b k l)
+  either-kind true k l e f = e
+  either-kind false k l e f = f
 
-named-of-kind : (k : Kind) (r : NodeRecord) → fieldsNamed (nodeOfKind k r) ≡ named (namingOfKind k) (r .arg)
-unfolding nodeOfKind fieldsNamed
-named-of-kind constantKind r = refl
-named-of-kind meKind r = refl
-named-of-kind fieldKind r = refl
-named-of-kind entryKind r = refl
-named-of-kind parameterKind r = refl
-named-of-kind operatorKind r = refl
-named-of-kind negationKind r = refl
-named-of-kind revealKind r = refl
-named-of-kind skipKind r = refl
-named-of-kind sequenceKind r = refl
-named-of-kind assignFieldKind r = refl
-named-of-kind assignEntryKind r = refl
-named-of-kind requireKind r = refl
-named-of-kind conditionalKind r = refl
-named-of-kind noKind r = refl
+  abbrev Right : ℕ → Type 0
+  Right k = asked fields r k ≡ nothing fields r (kindOf k)
 
-named-are : (r : NodeRecord) (how : ℕ) → how ≡ naming (r .kind) → fieldsNamed (nodeOf r) ≡ named how (r .arg)
-unfolding naming
-named-are r how e = named-of-kind (kindOf (r .kind)) r ∙ ap (λ (n : ℕ). named n (r .arg)) (sym e)
+  others : (k : ℕ) → (k ≡ 3 → ⊥) → (k ≡ 4 → ⊥) → (k ≡ 8 → ⊥) → (k ≡ 18 → ⊥) → (k ≡ 19 → ⊥) → Right k
+  unfolding kindOf nodeOfKind fieldsNamed any
+  others k n3 n4 n8 n18 n19 =
+      rw (ne-eqb k 3 n3, ne-eqb k 4 n4, ne-eqb k 8 n8, ne-eqb k 18 n18, ne-eqb k 19 n19)
+      (either-kind (eqb k 1) _ _ refl (either-kind (eqb k 2) _ _ refl (either-kind (eqb k 5) _ _ refl
+      (either-kind (eqb k 6) _ _ refl (either-kind (eqb k 7) _ _ refl (either-kind (eqb k 16) _ _ refl
+      (either-kind (eqb k 17) _ _ refl (either-kind (eqb k 20) _ _ refl (either-kind (eqb k 21) _ _ refl refl)))))))))
 
-any-one : (test : ℕ → Bool) (n : ℕ) → any test (n ∷ []) ≡ test n
+  -- By an owner code: 16+f alone names a field.
+  revealed : (a b c : Bool) → eqb (r .arg) 0 ≡ a → eqb (r .arg) 1 ≡ b → isFinalCode (r .arg) ≡ c → Right 8
+  unfolding kindOf nodeOfKind fieldsNamed any
+  revealed a b true e f g =
+      let low = leb-true 16 (r .arg) (both-true (leb 16 (r .arg)) (ltb (r .arg) 80) g .0) in
+      rw (ne-eqb (r .arg) 0 (λ z. omega arith), ne-eqb (r .arg) 1 (λ z. omega arith), g, or-false (leb fields (r .arg - 16)))
+  revealed true b false e f g = rw (e, g)
+  revealed false true false e f g = rw (e, f, g)
+  revealed false false false e f g = rw (e, f, g)
+
+  pub arg-asked : asked fields r (r .kind) ≡ any (leb fields) (fieldsNamed (nodeOf r))
+  unfolding kindOf nodeOfKind fieldsNamed any
+  arg-asked =
+      let by-number = sym (or-false (leb fields (r .arg))) in
+      by-test Right _ 3 _ refl by-number (λ n3. by-test Right _ 4 _ refl by-number (λ n4. by-test Right _ 8 _ refl (revealed _ _ _ refl refl refl)
+      (λ n8. by-test Right _ 18 _ refl by-number (λ n18. by-test Right _ 19 _ refl by-number (others (r .kind) n3 n4 n8 n18)))))
+
+-- The test of the children one after another, as many as there are.
+some-part : (test : ℕ → Bool) (count a b c : ℕ)
+    → any test (take count (a ∷ b ∷ c ∷ [])) ≡ (not (eqb count 0) && (test a || ltb 1 count && (test b || ltb 2 count && test c)))
 unfolding any
-any-one test n = or-false (test n)
+some-part test zero a b c = refl
+some-part test (suc zero) a b c = refl
+some-part test (suc (suc zero)) a b c = refl
+some-part test (suc (suc (suc zero))) a b c = rw (or-false (test c))
+some-part test (suc (suc (suc (suc n)))) a b c =
+    rw (ne-eqb (suc (suc (suc (suc n)))) 0 (λ e. omega arith), lt-ltb 1 (suc (suc (suc (suc n)))) (omega arith), lt-ltb 2 (suc (suc (suc (suc n)))) (omega arith))
+    (rw (or-false (test c)))
 
-any-none : (test : ℕ → Bool) → any test [] ≡ false
-unfolding any
-any-none test = refl
-
-named-otherwise : (how arg : ℕ) → (how ≡ 1 → ⊥) → (how ≡ 2 → ⊥) → named how arg ≡ []
-named-otherwise zero arg a b = refl
-named-otherwise (suc zero) arg a b = absurd (a refl)
-named-otherwise (suc (suc zero)) arg a b = absurd (b refl)
-named-otherwise (suc (suc (suc n))) arg a b = refl
-
-owner-final : (code : ℕ) → isFinalCode code ≡ true → fieldOfOwner (ownerOfCode code) ≡ (code - 16) ∷ []
-owner-final code h =
-    let low = leb-true 16 code (both-true (leb 16 code) (ltb code 80) h .0) in
-    rw (ne-eqb code 0 (λ e. omega arith), ne-eqb code 1 (λ e. omega arith), h)
-
-owner-other-by : (a b : Bool) (code : ℕ) → isFinalCode code ≡ false → eqb code 0 ≡ a → eqb code 1 ≡ b → fieldOfOwner (ownerOfCode code) ≡ []
-owner-other-by true b code h e f = rw e
-owner-other-by false true code h e f = rw (e, f)
-owner-other-by false false code h e f = rw (e, f, h)
-
--- Whether what a node names is nothing, by how its kind names it.
-module _ (fields : ℕ) (r : NodeRecord) (how : ℕ) (is : how ≡ naming (r .kind)) where
-  pub by-number : how ≡ 1 → leb fields (r .arg) ≡ any (leb fields) (fieldsNamed (nodeOf r))
-  by-number e = sym (ap (any (leb fields)) (named-are r how is ∙ ap (λ (n : ℕ). named n (r .arg)) e) ∙ any-one (leb fields) (r .arg))
-
-  pub by-nothing : (how ≡ 1 → ⊥) → (how ≡ 2 → ⊥) → false ≡ any (leb fields) (fieldsNamed (nodeOf r))
-  by-nothing a b = sym (ap (any (leb fields)) (named-are r how is ∙ named-otherwise how (r .arg) a b) ∙ any-none (leb fields))
-
-  pub by-final : how ≡ 2 → isFinalCode (r .arg) ≡ true → leb fields (r .arg - 16) ≡ any (leb fields) (fieldsNamed (nodeOf r))
-  by-final e h =
-      sym
-      (ap (any (leb fields)) (named-are r how is ∙ ap (λ (n : ℕ). named n (r .arg)) e ∙ owner-final (r .arg) h)
-      ∙ any-one (leb fields) (r .arg - 16))
-
-  pub by-other-owner : how ≡ 2 → isFinalCode (r .arg) ≡ false → false ≡ any (leb fields) (fieldsNamed (nodeOf r))
-  by-other-owner e h =
-      sym
-      (ap (any (leb fields))
-      (named-are r how is ∙ ap (λ (n : ℕ). named n (r .arg)) e ∙ owner-other-by (eqb (r .arg) 0) (eqb (r .arg) 1) (r .arg) h refl refl)
-      ∙ any-none (leb fields))
-
-module _ (fields owner : ℕ) where
-  pub owner-none : (owner ≡ 0) → false ≡ any (leb fields) (fieldOfDeclaredOwner (fieldOwnerOfCode owner))
-  owner-none e = rw (eq-eqb owner 0 e) (sym (any-none (leb fields)))
-
-  pub owner-key : (owner ≡ 0 → ⊥) → (owner ≡ 2) → false ≡ any (leb fields) (fieldOfDeclaredOwner (fieldOwnerOfCode owner))
-  owner-key a e = rw (ne-eqb owner 0 a, eq-eqb owner 2 e) (sym (any-none (leb fields)))
-
-  pub owner-field : (owner ≡ 0 → ⊥) → (owner ≡ 2 → ⊥) → (f : ℕ) → f ≡ owner - 16 → leb fields f ≡ any (leb fields)
-      (fieldOfDeclaredOwner (fieldOwnerOfCode owner))
-  owner-field a b f e = rw (ne-eqb owner 0 a, ne-eqb owner 2 b, e) (sym (any-one (leb fields) (owner - 16)))
+pub some-child : (test : ℕ → Bool) (r : NodeRecord) (count : ℕ) → count ≡ childCount (r .kind)
+    → (not (eqb count 0) && (test (r .first) || ltb 1 count && (test (r .second) || ltb 2 count && test (r .third)))) ≡ any test (children (nodeOf r))
+some-child test r count is =
+    sym (ap (any test) (children-are r) ∙ ap (λ (n : ℕ). any test (take n (r .first ∷ r .second ∷ r .third ∷ []))) (sym is) ∙ some-part test count _ _ _)

@@ -2,44 +2,12 @@
 use check_03_declarations::is_final_code;
 use file_bytes::Node;
 use file_children::child_count;
-use file_kinds::FINAL_CODES;
+use file_kinds::*;
 ghost use Rattle.kit.specs.Names.{_≡_, _-_, leb};
 ghost use Rattle.definitions.specs.Basics.{any};
 ghost use Rattle.definitions.specs.ContractFile.{nodeOf, fieldsNamed, children};
 ghost use Rattle.file_bytes.specs.Node.{recordOf};
-ghost use Rattle.check_04_nodes.specs.Naming.{naming, nodeNamesNothing};
-
-pub const NAMING: [usize; 22] = [
-    0,
-    0, // constant
-    0, // me
-    1, // field
-    1, // entry
-    0, // parameter
-    0, // operator
-    0, // not
-    2, // reveal
-    0,
-    0,
-    0,
-    0,
-    0,
-    0,
-    0,
-    0, // skip
-    0, // sequence
-    1, // field takes
-    1, // entry takes
-    0, // require
-    0, // if
-];
-
-// How a kind's arg names a field: 1 by its number, 2 by an owner code, 0 not at all.
-pub fn naming_of(kind: usize) -> usize
-    ensures { λ r. ⌜ r ≡ naming kind ⌝ }
-{
-    if kind < 22 { NAMING[kind] } else { 0 }
-}
+ghost use Rattle.check_04_nodes.specs.Naming.{nodeNamesNothing};
 
 // The field of an owner code 16+f.
 pub fn final_number(code: usize) -> usize
@@ -52,22 +20,20 @@ pub fn final_number(code: usize) -> usize
     }
 }
 
-// Whether a node's arg names no field.
+// Whether a node's arg names no field: by its number, or by an owner code.
 fn arg_names_nothing(fields: usize, node: Node) -> bool
     ensures { λ r. ⌜ r ≡ any (leb fields) (fieldsNamed (nodeOf (recordOf node))) ⌝ }
 {
+    let kind = node.kind;
     let arg = node.arg;
-    let how = naming_of(node.kind);
-    if how == 1 {
-        return fields <= arg;
+    if kind == REVEAL {
+        return is_final_code(arg) & (fields <= final_number(arg));
     }
-    if how != 2 {
-        return false;
-    }
-    if !is_final_code(arg) {
-        return false;
-    }
-    fields <= final_number(arg)
+    let by_number = (kind == FIELD)
+        | (kind == ENTRY)
+        | (kind == FIELD_TAKES)
+        | (kind == ENTRY_TAKES);
+    by_number & (fields <= arg)
 }
 
 // Whether some child's number is not below n.
@@ -75,30 +41,15 @@ fn child_not_below(n: usize, node: Node) -> bool
     ensures { λ r. ⌜ r ≡ any (leb n) (children (nodeOf (recordOf node))) ⌝ }
 {
     let count = child_count(node.kind);
-    if count < 1 {
+    if count == 0 {
         return false;
     }
-    if n <= node.first {
-        return true;
-    }
-    if count < 2 {
-        return false;
-    }
-    if n <= node.second {
-        return true;
-    }
-    if count < 3 {
-        return false;
-    }
-    n <= node.third
+    (n <= node.first) | (1 < count) & ((n <= node.second) | (2 < count) & (n <= node.third))
 }
 
 // "4. A field number, in owner codes too, names nothing, .. or a child's number isn't below its parent's.": of the node n.
 pub fn node_names_nothing(fields: usize, n: usize, node: Node) -> bool
     ensures { λ r. ⌜ r ≡ nodeNamesNothing fields n (recordOf node) ⌝ }
 {
-    if arg_names_nothing(fields, node) {
-        return true;
-    }
-    child_not_below(n, node)
+    arg_names_nothing(fields, node) | child_not_below(n, node)
 }

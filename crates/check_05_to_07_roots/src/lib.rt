@@ -3,7 +3,6 @@
 use check_05_uses::count_use;
 use check_06_depth::depth_of;
 use check_07_sorts::has_sort;
-use file_children::either;
 use file_decoded::number_from;
 ghost use Rattle.kit.specs.Names.{_≡_, _||_, List, [], _∷_, map, ℕ, _/_, length};
 ghost use Rattle.definitions.specs.Basics.{any, firstThatHolds};
@@ -39,8 +38,8 @@ pub fn look_at_roots(
     while 0 < left {
         let root = number_from(functions, at + 2);
         count_use(counts, root);
-        deep = either(deep, 64 < depth_of(depths, root));
-        wrong = either(wrong, !has_sort(nodes, false, root));
+        deep = deep | (64 < depth_of(depths, root));
+        wrong = wrong | !has_sort(nodes, false, root);
         at += 3;
         left -= 1;
     }

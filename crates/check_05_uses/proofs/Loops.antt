@@ -1,16 +1,13 @@
 -- The loops that count uses: what is left to count leads to the same counts.
-use Rattle.kit.specs.Names.{_≡_, refl, ap, sym, _∙_, Bool, true, false, not, _||_, List, [], _∷_, _++_, map, ℕ, zero, suc, _+_, _*_, _-_}
-use Rattle.kit.specs.Names.{_<_, _≤_, arith, add-one, eqb, length, getD, take, replicate, getD-replicate, eq-eqb, ne-eqb}
+use Rattle.kit.specs.Names.{_≡_, refl, ap, sym, _∙_, Bool, not, _||_, or-assoc, or-false, List, [], _∷_, _++_, map, ℕ, zero, suc, _+_, _*_, _-_}
+use Rattle.kit.specs.Names.{_<_, _≤_, arith, add-one, eqb, length, getD, take, replicate, getD-replicate}
 use Rattle.definitions.specs.Basics.{anyNumbered, countIf, flatMap}
 use Rattle.definitions.specs.ContractFile.{NodeRecord, Sections, nodeOf, children}
 use Rattle.definitions.specs.Numbers.{usesOf, usedOtherThanOnce}
 use Rattle.theory_laws.proofs.Lists.{count-append}
-use Rattle.file_bytes.specs.declared.Node.{Node}
-use Rattle.file_bytes.specs.Node.{recordOf}
 use Rattle.file_children.specs.Children.{childCount}
 use Rattle.file_children.proofs.Children.{children-are}
 use Rattle.file_decoded.specs.Slices.{numberAt, functionsFrom, nodeFrom, nodesFrom}
-use Rattle.file_decoded.specs.Node.{IsDecoded}
 use Rattle.file_decoded.proofs.Records.{functions-step, functions-end, nodes-step, nodes-end}
 use Rattle.check_05_uses.specs.Counting.{Room, Counted, rootOf, childrenOf, otherThanOne, anyFrom}
 use Rattle.check_05_uses.proofs.UseCounts.{counted-none, counted-more, room-after}
@@ -22,10 +19,10 @@ pub record Leads (start current rest all : List ℕ) : Type 0 where
 pub leads-all : (start all : List ℕ) → Leads start start all all
 leads-all start all = record { to = λ final c. c }
 
-leads-done : (start current rest all : List ℕ) → Leads start current rest all → rest ≡ [] → Counted start current all
+pub leads-done : (start current rest all : List ℕ) → Leads start current rest all → rest ≡ [] → Counted start current all
 leads-done start current rest all inv e = inv .to current (rw e (counted-none current))
 
-leads-next : (start current next rest first later all : List ℕ) → Leads start current rest all → rest ≡ first ++ later → Counted current next first
+pub leads-next : (start current next rest first later all : List ℕ) → Leads start current rest all → rest ≡ first ++ later → Counted current next first
     → Leads start next later all
 leads-next start current next rest first later all inv e c =
     record { to = λ final d. inv .to final (rw e (counted-more current next final first later c d)) }
@@ -46,15 +43,12 @@ module _ (start current all : List ℕ) (left : ℕ) (nodes : List ℕ) (at : �
   unfolding flatMap
   nodes-done h = leads-done start current _ all inv (ap (flatMap childrenOf) (nodes-end nodes at left h))
 
-  pub nodes-next : 0 < left → (node : Node) → IsDecoded (nodeFrom nodes at) node → (counts : List ℕ)
-      → Counted current counts (children (nodeOf (recordOf node))) → Leads start counts
-      (flatMap childrenOf (nodesFrom (left - 1) nodes (at + 5))) all
+  pub nodes-next : 0 < left → (counts : List ℕ) → Counted current counts (childrenOf (nodeFrom nodes at))
+      → Leads start counts (flatMap childrenOf (nodesFrom (left - 1) nodes (at + 5))) all
   unfolding flatMap
-  nodes-next h node is counts c =
-      leads-next start current counts _ (childrenOf (recordOf node)) (flatMap childrenOf (nodesFrom (left - 1) nodes (at + 5))) all inv
-      (ap (flatMap childrenOf) (nodes-step nodes at left h)
-      ∙ ap (λ (r : NodeRecord). childrenOf r ++ flatMap childrenOf (nodesFrom (left - 1) nodes (at + 5))) (sym (is .same)))
-      c
+  nodes-next h counts c =
+      leads-next start current counts _ (childrenOf (nodeFrom nodes at)) (flatMap childrenOf (nodesFrom (left - 1) nodes (at + 5))) all inv
+      (ap (flatMap childrenOf) (nodes-step nodes at left h)) c
 
 take-few : {A : Type 0} (n : ℕ) (a b c : A) → length (take n (a ∷ b ∷ c ∷ [])) ≤ 3
 take-few zero a b c = omega arith
@@ -72,27 +66,18 @@ room-after-node r a b left more h c room =
     (take-few (childCount (r .kind)) (r .first) (r .second) (r .third)) in omega arith)
 
 -- The loop over the counts.
-from-step : (test : ℕ → Bool) (n left : ℕ) → 0 < left → anyFrom test n left ≡ (test n || anyFrom test (n + 1) (left - 1))
+pub from-next : (test : ℕ → Bool) (n left : ℕ) (noted goal : Bool) → noted || anyFrom test n left ≡ goal → 0 < left
+    → (noted || test n) || anyFrom test (n + 1) (left - 1) ≡ goal
 unfolding anyFrom
-from-step test n zero h = absurd (omega arith)
-from-step test n (suc left) h =
+from-next test n zero noted goal inv h = absurd (omega arith)
+from-next test n (suc left) noted goal inv h =
     let e : suc left - 1 ≡ left = omega arith in
-    rw (e, add-one)
+    rw (e, add-one) (or-assoc noted (test n) (anyFrom test (suc n) left) ∙ inv)
 
-module _ (counts : List ℕ) (n left : ℕ) (goal : Bool) (inv : anyFrom (otherThanOne counts) n left ≡ goal) where
-  pub from-next : 0 < left → getD counts n 0 ≡ 1 → anyFrom (otherThanOne counts) (n + 1) (left - 1) ≡ goal
-  from-next h e = rw (from-step (otherThanOne counts) n left h, eq-eqb (getD counts n 0) 1 e) at inv
-
-  pub from-found : 0 < left → (getD counts n 0 ≡ 1 → ⊥) → true ≡ goal
-  from-found h e = rw (from-step (otherThanOne counts) n left h, ne-eqb (getD counts n 0) 1 e) at inv
-
-from-end : (test : ℕ → Bool) (n left : ℕ) → left ≤ 0 → anyFrom test n left ≡ false
+pub from-done : (test : ℕ → Bool) (n left : ℕ) (noted goal : Bool) → noted || anyFrom test n left ≡ goal → left ≤ 0 → noted ≡ goal
 unfolding anyFrom
-from-end test n zero h = refl
-from-end test n (suc left) h = absurd (omega arith)
-
-pub from-done : (test : ℕ → Bool) (n left : ℕ) (goal : Bool) → anyFrom test n left ≡ goal → left ≤ 0 → false ≡ goal
-from-done test n left goal inv h = sym (from-end test n left h) ∙ inv
+from-done test n zero noted goal inv h = sym (or-false noted) ∙ inv
+from-done test n (suc left) noted goal inv h = absurd (omega arith)
 
 -- Number 5 in the counts.
 numbered-from : {A : Type 0} (test : ℕ → Bool) (n : ℕ) (xs : List A) → anyNumbered (λ k x. test k) n xs ≡ anyFrom test n (length xs)

@@ -2,10 +2,7 @@
 use Rattle.kit.specs.Names.{_≡_, refl, _∙_, Bool, true, false, cond, List, [], _∷_, _++_, ℕ, _+_, _<_, _≤_, arith, eqb, length, getD, set}
 use Rattle.kit.specs.Names.{length-set, getD-set-same, getD-set-other, eqb-true, eqb-false}
 use Rattle.definitions.specs.Basics.{countIf}
-use Rattle.definitions.specs.ContractFile.{NodeRecord, nodeOf, children}
 use Rattle.theory_laws.proofs.Lists.{count-append, count-length}
-use Rattle.file_children.specs.Children.{childCount}
-use Rattle.file_children.proofs.ByCount.{no-children, one-child, two-children, three-children}
 use Rattle.check_05_uses.specs.Counting.{Room, Counted}
 
 pub counted-none : (counts : List ℕ) → Counted counts counts []
@@ -52,23 +49,3 @@ use-past counts n k false h l e = omega arith
 pub counted-past : (counts : List ℕ) (n : ℕ) → 512 ≤ n → Counted counts counts (n ∷ [])
 unfolding countIf
 counted-past counts n h = record { each = λ k l. use-past counts n k (eqb k n) h l refl; long = refl }
-
--- The uses of a node's children, one after another.
-module _ (r : NodeRecord) (count : ℕ) (is : count ≡ childCount (r .kind)) (start : List ℕ) where
-  pub counted-no-child : count < 1 → Counted start start (children (nodeOf r))
-  counted-no-child h = rw (no-children r count is h) (counted-none start)
-
-  module _ (g : 1 ≤ count) (one : List ℕ) (a : Counted start one (r .first ∷ [])) where
-    pub counted-one-child : count < 2 → Counted start one (children (nodeOf r))
-    counted-one-child h = rw (one-child r count is g h) a
-
-    module _ (h : 2 ≤ count) (two : List ℕ) (b : Counted one two (r .second ∷ [])) where
-      counted-two : Counted start two (r .first ∷ r .second ∷ [])
-      counted-two = counted-more start one two (r .first ∷ []) (r .second ∷ []) a b
-
-      pub counted-two-children : count < 3 → Counted start two (children (nodeOf r))
-      counted-two-children k = rw (two-children r count is h k) counted-two
-
-      pub counted-three-children : 3 ≤ count → (three : List ℕ) → Counted two three (r .third ∷ []) → Counted start three (children (nodeOf r))
-      counted-three-children k three d =
-          rw (three-children r count is k) (counted-more start two three (r .first ∷ r .second ∷ []) (r .third ∷ []) counted-two d)

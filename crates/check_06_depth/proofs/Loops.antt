@@ -1,53 +1,27 @@
--- A node's chain by how many children it has, and the loop that notes depths.
-use Rattle.kit.specs.Names.{_≡_, refl, ap, sym, _∙_, Bool, true, false, List, [], _∷_, map, ℕ, suc, _+_, _*_, _<_, _≤_, max, arith, leb}
+-- The loop that notes depths, and number 6 in what it has noted.
+use Rattle.kit.specs.Names.{_≡_, refl, ap, sym, _∙_, Bool, true, false, List, [], _∷_, map, ℕ, suc, _+_, _*_, _<_, _≤_, arith, add-one, leb}
 use Rattle.kit.specs.Names.{ltb, length, set, replicate, length-map, List·getD-eq-default, lt-leb, ltb-true, ltb-false}
 use Rattle.definitions.specs.Basics.{all, any, largest}
-use Rattle.definitions.specs.ContractFile.{NodeRecord, FunctionRecord, Sections, Node as Form, unknownNode, nodeOf, nodeAt, children, expressionParts, statementParts, chainLength}
+use Rattle.definitions.specs.ContractFile.{FunctionRecord, Sections, Node as Form, unknownNode, nodeOf, children, expressionParts, statementParts, chainLength}
 use Rattle.definitions.specs.Numbers.{namesNothing, tooDeep}
 use Rattle.theory_laws.proofs.Lists.{zeros-at}
 use Rattle.theory_laws.proofs.TruthValues.{and-left, and-right}
 use Rattle.theory_trees.proofs.Falls.{nodes-fall}
-use Rattle.file_bytes.specs.declared.Node.{Node}
-use Rattle.file_bytes.specs.Node.{recordOf}
-use Rattle.file_children.specs.Children.{childCount}
-use Rattle.file_children.proofs.ByCount.{no-children, one-child, two-children, three-children}
 use Rattle.file_decoded.specs.Slices.{nodeFrom, nodesFrom}
-use Rattle.file_decoded.specs.Node.{IsDecoded}
 use Rattle.file_decoded.proofs.Records.{node-within}
 use Rattle.check_06_depth.specs.Chains.{ChildrenBelow, Chains, depthIn, rootTooDeep}
 use Rattle.check_06_depth.proofs.ChainLevels.{note}
 
-module _ (depths : List ℕ) (r : NodeRecord) (count : ℕ) (is : count ≡ childCount (r .kind)) where
-  pub chain-none : count < 1 → 1 ≡ suc (largest (map (depthIn depths) (children (nodeOf r))))
-  unfolding largest
-  chain-none h = rw (no-children r count is h)
-
-  module _ (first : ℕ) (a : first ≡ depthIn depths (r .first)) (g : 1 ≤ count) where
-    pub chain-one : count < 2 → first + 1 ≡ suc (largest (map (depthIn depths) (children (nodeOf r))))
-    unfolding largest
-    chain-one h = rw (one-child r count is g h) (omega arith)
-
-    module _ (second both : ℕ) (b : second ≡ depthIn depths (r .second)) (m : both ≡ max first second) (h : 2 ≤ count) where
-      pub chain-two : count < 3 → both + 1 ≡ suc (largest (map (depthIn depths) (children (nodeOf r))))
-      unfolding largest
-      chain-two k = rw (two-children r count is h k) (omega arith)
-
-      pub chain-three : 3 ≤ count → (third all : ℕ) → third ≡ depthIn depths (r .third) → all ≡ max both third
-          → all + 1 ≡ suc (largest (map (depthIn depths) (children (nodeOf r))))
-      unfolding largest
-      chain-three k third all d n = rw (three-children r count is k) (omega arith)
-
 -- The loop that notes depths.
-pub chains-next : (count : ℕ) (nodes : List ℕ) (n at : ℕ) (node : Node) (depths : List ℕ) (chain : ℕ)
+pub chains-next : (count : ℕ) (nodes : List ℕ) (n at : ℕ) (depths : List ℕ) (deepest : ℕ)
     → ChildrenBelow (map nodeOf (nodesFrom count nodes 0)) → Chains (map nodeOf (nodesFrom count nodes 0)) n depths → n < count → count ≤ 512
-    → at ≡ 5 * n → IsDecoded (nodeFrom nodes at) node → chain ≡ suc (largest (map (depthIn depths) (children (nodeOf (recordOf node)))))
-    → Chains (map nodeOf (nodesFrom count nodes 0)) (n + 1) (set depths n chain)
-chains-next count nodes n at node depths chain below c h few e is made =
+    → at ≡ 5 * n → deepest ≡ largest (map (depthIn depths) (children (nodeOf (nodeFrom nodes at))))
+    → Chains (map nodeOf (nodesFrom count nodes 0)) (n + 1) (set depths n (deepest + 1))
+chains-next count nodes n at depths deepest below c h few e made =
     let there : at ≡ 0 + 5 * n = omega arith in
-    let same : nodeOf (recordOf node) ≡ nodeAt (map nodeOf (nodesFrom count nodes 0)) n =
-    ap nodeOf (is .same) ∙ ap (λ (m : ℕ). nodeOf (nodeFrom nodes m)) there ∙ sym (node-within count nodes 0 n h) in
-    note (map nodeOf (nodesFrom count nodes 0)) below n depths chain (omega arith) c
-    (made ∙ ap (λ m. suc (largest (map (depthIn depths) (children m)))) same)
+    let same = ap (λ (m : ℕ). nodeOf (nodeFrom nodes m)) there ∙ sym (node-within count nodes 0 n h) in
+    note (map nodeOf (nodesFrom count nodes 0)) below n depths (deepest + 1) (omega arith) c
+    (rw (add-one) (ap suc (made ∙ ap (λ m. largest (map (depthIn depths) (children m))) same)))
 
 pub chains-done : (nodes : List Form) (n count : ℕ) (depths : List ℕ) → Chains nodes n depths → n ≤ count → count ≤ n → Chains nodes count depths
 chains-done nodes n count depths c g h =

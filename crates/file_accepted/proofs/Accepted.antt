@@ -1,10 +1,11 @@
 -- What code may rely on holds of a file of which numbers 2, 3, 4 and 7 say nothing, at each of its functions.
 use Rattle.kit.specs.Names.{_≡_, refl, ap, sym, _∙_, Bool, true, false, _||_, not, List, [], _∷_, map, ℕ, zero, suc, _+_, _*_, _<_, _≤_}
-use Rattle.kit.specs.Names.{arith, leb, ltb, length, getD, length-map, List·getD-eq-default, ltb-true, ltb-false, leb-false, not-false}
-use Rattle.definitions.specs.Basics.{all, any, anyNumbered, isZero}
-use Rattle.definitions.specs.ContractFile.{FieldRecord, FunctionRecord, NodeRecord, byteAt, fieldCount, functionCount, functionsAt, functionEnd, functionsEnd, nodesAt, nodeCount, fieldRecords, parameterRecords, functionRecord, functionRecords, nodeRecord, sectionsOf, fieldOf, Node, unknownNode, nodeOf, nodeAt, children, expressionParts, statementParts, isExpression, isStatement, fieldsNamed}
+use Rattle.kit.specs.Names.{arith, leb, ltb, length, getD, length-map, List·getD-map, List·getD-eq-default, ltb-true, ltb-false, leb-false, not-false}
+use Rattle.definitions.specs.Basics.{all, any, isZero}
+use Rattle.definitions.specs.ContractFile.{FieldRecord, FunctionRecord, NodeRecord, node, byteAt, fieldCount, functionCount, functionsAt, functionEnd, functionsEnd, nodesAt, nodeCount, fieldRecords, parameterRecords, functionRecord, functionRecords, nodeRecord, sectionsOf, fieldOf, Node, unknownNode, nodeOf, nodeAt, expressionParts, statementParts, isExpression, isStatement}
 use Rattle.definitions.specs.Reading.{functionsPassed, functionsRead}
 use Rattle.definitions.specs.Numbers.{countOffLimits, fieldInTables, parameterInTables, nodeInTables, outsideTables, fieldOfDeclaredOwner, namesNothing, wrongSort}
+use Rattle.theory_laws.proofs.Lists.{getD-inside}
 use Rattle.theory_laws.proofs.Records.{field-record, fields-length, force-is, functions-length, parameters-length}
 use Rattle.theory_laws.proofs.TruthValues.{or-left, or-right}
 use Rattle.theory_trees.specs.Trees.{Falling}
@@ -18,7 +19,11 @@ none-at test [] h i d l = absurd (omega arith)
 none-at test (x ∷ xs) h zero d l = or-left (test x) (any test xs) h
 none-at test (x ∷ xs) h (suc i) d l = none-at test xs (or-right (test x) (any test xs) h) i d (omega arith)
 
--- None at or above k: all below k. None that fails a test: all pass it.
+-- Inside a list, an element's image; outside, what stands for none.
+pub mapped-at : {A B : Type 0} (f : A → B) (xs : List A) (i : ℕ) (none : B) (other : A) → i < length xs → getD (map f xs) i none ≡ f (getD xs i other)
+mapped-at f xs i none other h = getD-inside (map f xs) i none (f other) (omega (arith, length-map xs f)) ∙ List·getD-map f xs i other
+
+-- None that fails a test: all pass it.
 none-fails : (test : ℕ → Bool) (xs : List ℕ) → any (λ x. not (test x)) xs ≡ false → all test xs ≡ true
 unfolding any all
 none-fails test [] h = refl
@@ -49,43 +54,34 @@ functions-near (suc k) file at (suc f) h l =
     let near = functions-near k file (functionEnd file at) f (rw (force-is (functionEnd file at) (functionRecords k file)) at later) (omega arith) in
     rw (force-is (functionEnd file at) (functionsEnd f file)) (omega arith)
 
--- A record of no kind, which reads as a node that is not there.
-abbrev noRecord : NodeRecord
-noRecord = record { kind = 0; arg = 0; first = 0; second = 0; third = 0 }
+-- What a disjunction that fails tells.
+three-false : (a b c : Bool) → a || b || c ≡ false → (a ≡ false) × (b ≡ false) × (c ≡ false)
+three-false a b c h = let ab = or-left (a || b) c h in (or-left a b ab, or-right a b ab, or-right (a || b) c h)
 
-node-past : (file : List ℕ) (n : ℕ) → length ((sectionsOf file) .nodes) ≤ n → nodeAt (nodesIn file) n ≡ unknownNode
-unfolding nodesIn
-node-past file n h = List·getD-eq-default (map nodeOf ((sectionsOf file) .nodes)) unknownNode (omega (arith, length-map ((sectionsOf file) .nodes) nodeOf))
+five-false : (a b c d e : Bool) → a || b || c || d || e ≡ false → (a ≡ false) × (c ≡ false) × (d ≡ false) × (e ≡ false)
+five-false a b c d e h =
+    let (abc, d-false, e-false) = three-false (a || b || c) d e h in let (a-false, _, c-false) = three-false a b c abc in (a-false, c-false, d-false, e-false)
 
 -- Numbers 2, 3, 4 and 7, as far as code relies on them.
 module _ (file : List ℕ) (counts : countOffLimits file ≡ false) where
   abbrev parametersOff : Bool
   parametersOff = any manyParameters ((sectionsOf file) .functions)
 
-  off-four : ltb 64 (fieldCount file) || isZero (functionCount file) || ltb 16 (functionCount file) || parametersOff ≡ false
+  none-off : (ltb 64 (fieldCount file) ≡ false) × (ltb 16 (functionCount file) ≡ false) × (parametersOff ≡ false) × (ltb 512 (nodeCount file) ≡ false)
   unfolding countOffLimits
-  off-four = or-left (ltb 64 (fieldCount file) || isZero (functionCount file) || ltb 16 (functionCount file) || parametersOff) (ltb 512 (nodeCount file)) counts
-
-  off-three : ltb 64 (fieldCount file) || isZero (functionCount file) || ltb 16 (functionCount file) ≡ false
-  off-three = or-left (ltb 64 (fieldCount file) || isZero (functionCount file) || ltb 16 (functionCount file)) parametersOff off-four
+  none-off = five-false (ltb 64 (fieldCount file)) (isZero (functionCount file)) (ltb 16 (functionCount file)) parametersOff (ltb 512 (nodeCount file)) counts
 
   pub few-nodes : nodeCount file ≤ 512
-  unfolding countOffLimits
-  few-nodes =
-      ltb-false 512 (nodeCount file)
-      (or-right (ltb 64 (fieldCount file) || isZero (functionCount file) || ltb 16 (functionCount file) || parametersOff) (ltb 512 (nodeCount file)) counts)
+  few-nodes = ltb-false 512 (nodeCount file) (none-off .3)
 
   pub few-functions : functionCount file ≤ 16
-  few-functions = ltb-false 16 (functionCount file) (or-right (ltb 64 (fieldCount file) || isZero (functionCount file)) (ltb 16 (functionCount file)) off-three)
+  few-functions = ltb-false 16 (functionCount file) (none-off .1)
 
   pub few-fields : fieldCount file ≤ 64
-  few-fields =
-      ltb-false 64 (fieldCount file)
-      (or-left (ltb 64 (fieldCount file)) (isZero (functionCount file)) (or-left (ltb 64 (fieldCount file) || isZero (functionCount file)) (ltb 16 (functionCount file)) off-three))
+  few-fields = ltb-false 64 (fieldCount file) (none-off .0)
 
   no-parameters-off : any manyParameters (functionRecords (functionCount file) file (functionsAt file + 1)) ≡ false
-  no-parameters-off =
-      ap (any manyParameters) (sym (functions-are file)) ∙ or-right (ltb 64 (fieldCount file) || isZero (functionCount file) || ltb 16 (functionCount file)) parametersOff off-four
+  no-parameters-off = ap (any manyParameters) (sym (functions-are file)) ∙ none-off .2
 
   near : (f : ℕ) → f ≤ functionCount file → functionsEnd f file (functionsAt file + 1) ≤ 200000
   near f h = omega (arith, functions-near (functionCount file) file (functionsAt file + 1) f no-parameters-off h, few-fields, few-functions)
@@ -99,28 +95,24 @@ module _ (file : List ℕ) (counts : countOffLimits file ≡ false) where
       ∙ none-at manyParameters (functionRecords (functionCount file) file (functionsAt file + 1)) no-parameters-off f other (omega arith))
 
 module _ (file : List ℕ) (tables : outsideTables (sectionsOf file) ≡ false) where
-  abbrev fieldsOutside : Bool
-  fieldsOutside = any (λ r. not (fieldInTables r)) ((sectionsOf file) .fields)
-
-  abbrev parametersOutside : Bool
-  parametersOutside = any (λ r. any (λ p. not (parameterInTables p)) (r .parameters)) ((sectionsOf file) .functions)
-
-  pub nodes-listed : (n : ℕ) → n < nodeCount file → nodeInTables (nodeRecord file (nodesAt file + 2 + 8 * n)) ≡ true
+  none-outside : (any (λ r. not (fieldInTables r)) ((sectionsOf file) .fields) ≡ false)
+      × (any (λ r. any (λ p. not (parameterInTables p)) (r .parameters)) ((sectionsOf file) .functions) ≡ false)
+      × (any (λ r. not (nodeInTables r)) ((sectionsOf file) .nodes) ≡ false)
   unfolding outsideTables
+  none-outside = three-false (any (λ r. not (fieldInTables r)) ((sectionsOf file) .fields))
+      (any (λ r. any (λ p. not (parameterInTables p)) (r .parameters)) ((sectionsOf file) .functions)) _ tables
+
+  nodes-listed : (n : ℕ) → n < nodeCount file → nodeInTables (nodeRecord file (nodesAt file + 2 + 8 * n)) ≡ true
   nodes-listed n h =
-      let outside = or-right (fieldsOutside || parametersOutside) (any (λ r. not (nodeInTables r)) ((sectionsOf file) .nodes)) tables in
-      let counted = count-of-nodes file in
-      ap (λ (r : NodeRecord). nodeInTables r) (sym (node-of file n noRecord h))
-      ∙ not-false (nodeInTables (getD ((sectionsOf file) .nodes) n noRecord)) (none-at (λ r. not (nodeInTables r)) ((sectionsOf file) .nodes) outside n noRecord (omega arith))
+      ap (λ (r : NodeRecord). nodeInTables r) (sym (node-of file n (node 0 0 0 0 0) h))
+      ∙ not-false _ (none-at (λ r. not (nodeInTables r)) ((sectionsOf file) .nodes) (none-outside .2) n (node 0 0 0 0 0) (omega (arith, count-of-nodes file)))
 
   pub fields-listed : (f : ℕ) → f < fieldCount file → fieldInTables (fieldRecordAt file f) ≡ true
-  unfolding outsideTables
   fields-listed f h =
-      let outside = or-left fieldsOutside parametersOutside (or-left (fieldsOutside || parametersOutside) (any (λ r. not (nodeInTables r)) ((sectionsOf file) .nodes)) tables) in
       let other : FieldRecord = record { shape = 0; type = 0; owner = 0 } in
-      let counted = fields-length (fieldCount file) file 1 in
-      let here = none-at (λ r. not (fieldInTables r)) (fieldRecords (fieldCount file) file 1) (ap (any (λ r. not (fieldInTables r))) (sym (fields-are file)) ∙ outside) f other (omega arith) in
-      ap fieldInTables (sym (field-record (fieldCount file) file 1 f other h)) ∙ not-false (fieldInTables (getD (fieldRecords (fieldCount file) file 1) f other)) here
+      let outside = ap (any (λ r. not (fieldInTables r))) (sym (fields-are file)) ∙ none-outside .0 in
+      ap fieldInTables (sym (field-record (fieldCount file) file 1 f other h))
+      ∙ not-false _ (none-at (λ r. not (fieldInTables r)) (fieldRecords (fieldCount file) file 1) outside f other (omega (arith, fields-length (fieldCount file) file 1)))
 
 module _ (file : List ℕ) (names : namesNothing (sectionsOf file) ≡ false) where
   abbrev ownersOff : Bool
@@ -129,19 +121,16 @@ module _ (file : List ℕ) (names : namesNothing (sectionsOf file) ≡ false) wh
   abbrev rootsOff : Bool
   rootsOff = any (λ r. leb (length ((sectionsOf file) .nodes)) (r .root)) ((sectionsOf file) .functions)
 
-  abbrev nodeOff : ℕ → NodeRecord → Bool
-  nodeOff n r = any (leb (length ((sectionsOf file) .fields))) (fieldsNamed (nodeOf r)) || any (leb n) (children (nodeOf r))
-
   falling : Falling (nodesIn file)
   unfolding nodesIn
   falling = nodes-fall (sectionsOf file) names
 
-  pub root-inside : (f : ℕ) (other : FunctionRecord) → f < length ((sectionsOf file) .functions) → (getD ((sectionsOf file) .functions) f other) .root < length ((sectionsOf file) .nodes)
+  pub root-inside : (f : ℕ) (other : FunctionRecord) → f < length ((sectionsOf file) .functions)
+      → (getD ((sectionsOf file) .functions) f other) .root < length ((sectionsOf file) .nodes)
   unfolding namesNothing
   root-inside f other h =
       leb-false (length ((sectionsOf file) .nodes)) _
-      (none-at (λ r. leb (length ((sectionsOf file) .nodes)) (r .root)) ((sectionsOf file) .functions)
-      (or-right ownersOff rootsOff (or-left (ownersOff || rootsOff) (anyNumbered nodeOff 0 ((sectionsOf file) .nodes)) names)) f other h)
+      (none-at (λ r. leb (length ((sectionsOf file) .nodes)) (r .root)) ((sectionsOf file) .functions) (three-false ownersOff rootsOff _ names .1) f other h)
 
 module _ (file : List ℕ) (sorts : wrongSort (sectionsOf file) ≡ false) where
   abbrev notExpression : ℕ → Bool
@@ -162,15 +151,14 @@ module _ (file : List ℕ) (sorts : wrongSort (sectionsOf file) ≡ false) where
   parts-fit n true e = none-at partsOff (nodesIn file) no-parts-off n unknownNode (ltb-true n (length (nodesIn file)) e)
   parts-fit n false e = rw (List·getD-eq-default (nodesIn file) unknownNode (ltb-false n (length (nodesIn file)) e))
 
-  pub expressions-due : (n : ℕ) → all (λ child. isExpression (nodeAt (nodesIn file) child)) (expressionParts (nodeAt (nodesIn file) n)) ≡ true
-  expressions-due n =
-      none-fails (λ child. isExpression (nodeAt (nodesIn file) child)) (expressionParts (nodeAt (nodesIn file) n))
-      (or-left (any notExpression (expressionParts (nodeAt (nodesIn file) n))) (any notStatement (statementParts (nodeAt (nodesIn file) n))) (parts-fit n (ltb n (length (nodesIn file))) refl))
-
-  pub statements-due : (n : ℕ) → all (λ child. isStatement (nodeAt (nodesIn file) child)) (statementParts (nodeAt (nodesIn file) n)) ≡ true
-  statements-due n =
-      none-fails (λ child. isStatement (nodeAt (nodesIn file) child)) (statementParts (nodeAt (nodesIn file) n))
-      (or-right (any notExpression (expressionParts (nodeAt (nodesIn file) n))) (any notStatement (statementParts (nodeAt (nodesIn file) n))) (parts-fit n (ltb n (length (nodesIn file))) refl))
+  parts-due : (n : ℕ) → (all (λ child. isExpression (nodeAt (nodesIn file) child)) (expressionParts (nodeAt (nodesIn file) n)) ≡ true)
+      × (all (λ child. isStatement (nodeAt (nodesIn file) child)) (statementParts (nodeAt (nodesIn file) n)) ≡ true)
+  parts-due n =
+      let fit = parts-fit n (ltb n (length (nodesIn file))) refl in
+      let expressions = any notExpression (expressionParts (nodeAt (nodesIn file) n)) in (
+        none-fails (λ child. isExpression (nodeAt (nodesIn file) child)) _ (or-left expressions _ fit),
+        none-fails (λ child. isStatement (nodeAt (nodesIn file) child)) _ (or-right expressions _ fit),
+      )
 
 -- The context of function f, which begins where the functions before it end.
 pub known-of : (file : List ℕ) (f : ℕ) → countOffLimits file ≡ false → outsideTables (sectionsOf file) ≡ false → namesNothing (sectionsOf file) ≡ false
@@ -184,6 +172,6 @@ known-of file f counts tables names sorts h =
       fieldListed = fields-listed file tables;
       nodeListed = nodes-listed file tables;
       falling = falling file names;
-      expressionsDue = expressions-due file sorts;
-      statementsDue = statements-due file sorts;
+      expressionsDue = λ n. parts-due file sorts n .0;
+      statementsDue = λ n. parts-due file sorts n .1;
     }

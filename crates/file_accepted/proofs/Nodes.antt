@@ -1,26 +1,20 @@
 -- The nodes of a file by number, and that a decoded record is a node's.
-use Rattle.kit.specs.Names.{_≡_, refl, ap, sym, subst, _∙_, Bool, true, false, List, map, ℕ, _+_, _*_, _<_, _≤_, arith, ltb, getD}
-use Rattle.kit.specs.Names.{length-map, List·getD-map, List·getD-eq-default, length, ltb-true, ltb-false}
-use Rattle.definitions.specs.ContractFile.{Expression, Statement, NodeRecord, nodesAt, nodeCount, nodeRecord, sectionsOf, Kind, kindOf, unknownNode, nodeOfKind, nodeOf, nodeAt}
+use Rattle.kit.specs.Names.{_≡_, refl, ap, sym, subst, _∙_, Bool, true, false, List, ℕ, _+_, _*_, _<_, _≤_, arith, ltb}
+use Rattle.kit.specs.Names.{length-map, List·getD-eq-default, length, ltb-true, ltb-false}
+use Rattle.definitions.specs.ContractFile.{Expression, Statement, NodeRecord, node, nodesAt, nodeCount, nodeRecord, sectionsOf, Kind, kindOf, unknownNode, nodeOf, nodeAt}
 use Rattle.definitions.specs.Numbers.{kindInTables}
 use Rattle.theory_trees.specs.Trees.{Keeps, Reads}
 use Rattle.theory_trees.proofs.Kept.{unknown-keeps}
 use Rattle.file_bytes.proofs.Sections.{node-of, count-of-nodes}
 use Rattle.file_decoded.specs.Slices.{recordAt}
 use Rattle.file_accepted.specs.Context.{nodesIn, Context}
-
-nothingAt : NodeRecord
-nothingAt = record { kind = 0; arg = 0; first = 0; second = 0; third = 0 }
-
-nothing-unknown : nodeOf nothingAt ≡ unknownNode
-unfolding nothingAt kindOf nodeOfKind
-nothing-unknown = refl
+use Rattle.file_accepted.proofs.Accepted.{mapped-at}
 
 pub node-read : (file : List ℕ) (n : ℕ) → n < nodeCount file → nodeAt (nodesIn file) n ≡ nodeOf (nodeRecord file (nodesAt file + 2 + 8 * n))
 unfolding nodesIn
 node-read file n inside =
-    ap (getD (map nodeOf ((sectionsOf file) .nodes)) n) (sym nothing-unknown) ∙ List·getD-map nodeOf ((sectionsOf file) .nodes) n nothingAt
-    ∙ ap nodeOf (node-of file n nothingAt inside)
+    mapped-at nodeOf ((sectionsOf file) .nodes) n unknownNode (node 0 0 0 0 0) (omega (arith, count-of-nodes file))
+    ∙ ap (λ (r : NodeRecord). nodeOf r) (node-of file n (node 0 0 0 0 0) inside)
 
 pub nodes-counted : (file : List ℕ) → length (nodesIn file) ≡ nodeCount file
 unfolding nodesIn

@@ -4,16 +4,13 @@ use Rattle.definitions.specs.ContractFile.{NodeRecord, byteAt, functionEnd, fun
 use Rattle.definitions.specs.Reading.{functionsPassed, nodesRead}
 use Rattle.theory_laws.proofs.Records.{force-is}
 
-functionsEnd-step : (k : ℕ) (file : List ℕ) (at : ℕ) → 0 < k → functionsEnd k file at ≡ functionsEnd (k - 1) file (functionEnd file at)
-unfolding functionsPassed
-functionsEnd-step zero file at h = absurd (omega arith)
-functionsEnd-step (suc k) file at h =
-    let e : suc k - 1 ≡ k = omega arith in
-    rw e (force-is (functionEnd file at) (functionsEnd k file))
-
 pub functionsEnd-next : (k : ℕ) (file : List ℕ) (at next goal : ℕ) → 0 < k → next ≡ functionEnd file at → functionsEnd k file at ≡ goal
     → functionsEnd (k - 1) file next ≡ goal
-functionsEnd-next k file at next goal h e inv = rw e (sym (functionsEnd-step k file at h) ∙ inv)
+unfolding functionsPassed
+functionsEnd-next zero file at next goal h e inv = absurd (omega arith)
+functionsEnd-next (suc k) file at next goal h e inv =
+    let less : suc k - 1 ≡ k = omega arith in
+    rw (less, e) (sym (force-is (functionEnd file at) (functionsEnd k file)) ∙ inv)
 
 pub functionsEnd-done : (k : ℕ) (file : List ℕ) (at goal : ℕ) → k ≤ 0 → functionsEnd k file at ≡ goal → at ≡ goal
 unfolding functionsPassed

@@ -1,6 +1,5 @@
 pub mod Truth
 pub mod Loops
 pub mod Children
-pub mod Parts
 pub mod ByCount
 pub mod Tests

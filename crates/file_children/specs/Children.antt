@@ -1,42 +1,16 @@
 -- 01, The contract file, "Kinds": how many parts of a node are children, and of which sort a kind is.
-use Rattle.kit.specs.Names.{Bool, _&&_, List, [], _∷_, ℕ, leb}
-use Rattle.definitions.specs.ContractFile.{NodeRecord, Kind, constantKind, meKind, fieldKind, entryKind, parameterKind, operatorKind}
-use Rattle.definitions.specs.ContractFile.{negationKind, revealKind, skipKind, sequenceKind, assignFieldKind, assignEntryKind, requireKind}
-use Rattle.definitions.specs.ContractFile.{conditionalKind, noKind, kindOf}
+use Rattle.kit.specs.Names.{Bool, _&&_, List, [], _∷_, ℕ, leb, length}
+use Rattle.definitions.specs.ContractFile.{NodeRecord, node, Node, Kind, kindOf, nodeOfKind, expressionParts, children}
+
+-- Some node of a kind: how many children it has, and its sort, do not depend on its parts.
+abbrev pub nodeOfSame : Kind → Node
+nodeOfSame kind = nodeOfKind kind (node 0 0 0 0 0)
 
 abbrev pub childrenOfKind : Kind → ℕ
-childrenOfKind constantKind = 0
-childrenOfKind meKind = 0
-childrenOfKind fieldKind = 0
-childrenOfKind entryKind = 1
-childrenOfKind parameterKind = 0
-childrenOfKind operatorKind = 2
-childrenOfKind negationKind = 1
-childrenOfKind revealKind = 1
-childrenOfKind skipKind = 0
-childrenOfKind sequenceKind = 2
-childrenOfKind assignFieldKind = 1
-childrenOfKind assignEntryKind = 2
-childrenOfKind requireKind = 1
-childrenOfKind conditionalKind = 3
-childrenOfKind noKind = 0
+childrenOfKind kind = length (children (nodeOfSame kind))
 
 abbrev pub expressionsOfKind : Kind → ℕ
-expressionsOfKind constantKind = 0
-expressionsOfKind meKind = 0
-expressionsOfKind fieldKind = 0
-expressionsOfKind entryKind = 1
-expressionsOfKind parameterKind = 0
-expressionsOfKind operatorKind = 2
-expressionsOfKind negationKind = 1
-expressionsOfKind revealKind = 1
-expressionsOfKind skipKind = 0
-expressionsOfKind sequenceKind = 0
-expressionsOfKind assignFieldKind = 1
-expressionsOfKind assignEntryKind = 2
-expressionsOfKind requireKind = 1
-expressionsOfKind conditionalKind = 1
-expressionsOfKind noKind = 0
+expressionsOfKind kind = length (expressionParts (nodeOfSame kind))
 
 unfoldable pub childCount : ℕ → ℕ
 childCount kind = childrenOfKind (kindOf kind)

@@ -28,31 +28,6 @@ const CHILDREN: [usize; 22] = [
     3, // if
 ];
 
-const EXPRESSIONS: [usize; 22] = [
-    0,
-    0, // constant
-    0, // me
-    0, // field
-    1, // entry
-    0, // parameter
-    2, // operator
-    1, // not
-    1, // reveal
-    0,
-    0,
-    0,
-    0,
-    0,
-    0,
-    0,
-    0, // skip
-    0, // sequence
-    1, // field takes
-    2, // entry takes
-    1, // require
-    1, // if
-];
-
 // How many children a node of a kind has. They are its first parts.
 pub fn child_count(kind: usize) -> usize
     ensures { λ r. ⌜ r ≡ childCount kind ⌝ }
@@ -60,11 +35,18 @@ pub fn child_count(kind: usize) -> usize
     if kind < 22 { CHILDREN[kind] } else { 0 }
 }
 
-// How many of the children, the first ones, are due to be expressions; the others are due to be statements.
+// How many of the children, the first ones, are due to be expressions: all but those of a sequence and the two behind an if's condition,
+// which are due to be statements.
 pub fn expression_count(kind: usize) -> usize
     ensures { λ r. ⌜ r ≡ expressionCount kind ⌝ }
 {
-    if kind < 22 { EXPRESSIONS[kind] } else { 0 }
+    if kind == SEQUENCE {
+        0
+    } else if kind == IF {
+        1
+    } else {
+        child_count(kind)
+    }
 }
 
 // Kinds 1 to 8: numbers 3 and 7 both ask for the sort of a kind.

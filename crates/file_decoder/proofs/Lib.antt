@@ -1,3 +1,2 @@
-pub mod Steps
-pub mod Functions
+pub mod Loops
 pub mod Sections

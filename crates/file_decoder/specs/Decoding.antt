@@ -1,11 +1,30 @@
--- What decoding functions and whole files leaves in the slices.
-use Rattle.kit.specs.Names.{_≡_, List, ℕ, _+_, _*_, _/_, _≤_, length}
-use Rattle.definitions.specs.ContractFile.{byteAt, functionEnd, functionsEnd, functionRecord, functionRecords}
-use Rattle.definitions.specs.ContractFile.{fileEnd, sectionsOf}
+-- The numbers that the decoder makes of a file's sections, and what decoding a whole file leaves in the slices.
+use Rattle.kit.specs.Names.{_≡_, List, [], _∷_, _++_, ℕ, zero, suc, _+_, _*_, _/_, _≤_, length}
+use Rattle.definitions.specs.ContractFile.{byteAt, functionEnd, functionsEnd, functionRecord, fileEnd, sectionsOf}
 use Rattle.file_bytes.specs.declared.Layout.{Layout}
 use Rattle.file_bytes.specs.Layout.{IsLayout}
-use Rattle.file_decoded.specs.Slices.{numberAt, functionFrom, functionsFrom, sectionsFrom, ParametersInside, Narrow}
-use Rattle.file_node_decoder.specs.Steps.{SameBefore}
+use Rattle.file_decoded.specs.Slices.{sectionsFrom, ParametersInside, Narrow}
+use Rattle.file_node_decoder.specs.Numbers.{bytesAt, nodeNumbers}
+
+unfoldable pub nodesNumbers : ℕ → List ℕ → ℕ → List ℕ
+nodesNumbers zero file at = []
+nodesNumbers (suc count) file at = nodeNumbers file at ++ nodesNumbers count file (at + 8)
+
+-- A function whose parameters begin at a place of their slice.
+abbrev pub functionNumbers : List ℕ → ℕ → ℕ → List ℕ
+functionNumbers file at first = first ∷ byteAt file at ∷ functionRecord file at .root ∷ []
+
+abbrev pub ownNumbers : List ℕ → ℕ → List ℕ
+ownNumbers file at = bytesAt file (at + 1) (2 * byteAt file at)
+
+unfoldable pub functionsNumbers : ℕ → List ℕ → ℕ → ℕ → List ℕ
+functionsNumbers zero file at first = []
+functionsNumbers (suc count) file at first =
+    functionNumbers file at first ++ functionsNumbers count file (functionEnd file at) (first + 2 * byteAt file at)
+
+unfoldable pub parametersNumbers : ℕ → List ℕ → ℕ → List ℕ
+parametersNumbers zero file at = []
+parametersNumbers (suc count) file at = ownNumbers file at ++ parametersNumbers count file (functionEnd file at)
 
 -- The function's bytes are there, and so is room for its numbers and those of its parameters.
 pub record FunctionRoom (file : List ℕ) (from : ℕ) (functions : List ℕ) (at : ℕ) (parameters : List ℕ) (first : ℕ) : Type 0 where
@@ -14,26 +33,11 @@ pub record FunctionRoom (file : List ℕ) (from : ℕ) (functions : List ℕ) (a
   pub forParameters : first + 2 * byteAt file from ≤ length parameters
   pub small : first ≤ 65535
 
-pub record DecodedFunction (file : List ℕ) (from : ℕ) (functions functions′ : List ℕ) (at : ℕ)
-    (parameters parameters′ : List ℕ) (first : ℕ) : Type 0 where
-  pub is : functionFrom parameters′ functions′ at ≡ functionRecord file from
-  pub start : numberAt functions′ at ≡ first
-  pub count : numberAt functions′ (at + 1) ≡ byteAt file from
-  pub keptFunctions : SameBefore functions functions′ at
-  pub keptParameters : SameBefore parameters parameters′ first
-
 -- The functions' bytes are there, and the slice for parameters is as long as they are all together.
 pub record FunctionsRoom (file : List ℕ) (from : ℕ) (functions parameters : List ℕ) : Type 0 where
   pub there : functionsEnd (length functions / 3) file from ≤ length file
   pub exact : from + 3 * (length functions / 3) + length parameters ≡ functionsEnd (length functions / 3) file from
-  pub near : functionsEnd (length functions / 3) file from ≤ 200000
   pub small : length parameters ≤ 65535
-
-pub record DecodedFunctions (file : List ℕ) (from : ℕ) (functions functions′ parameters parameters′ : List ℕ) : Type 0 where
-  pub are : functionsFrom parameters′ (length functions′ / 3) functions′ 0 ≡ functionRecords (length functions / 3) file from
-  pub inside : ParametersInside functions′ parameters′
-  pub longFunctions : length functions′ ≡ length functions
-  pub longParameters : length parameters′ ≡ length parameters
 
 -- A file of right counts, and slices as long as they say.
 pub record Decodable (file : List ℕ) (l : Layout) (fields functions parameters nodes : List ℕ) : Type 0 where

@@ -3,13 +3,13 @@ use file_bytes::Layout;
 use file_node_decoder::byte_in;
 use file_node_decoder::copy_bytes;
 use file_node_decoder::decode_node;
-use file_node_decoder::put;
 use file_node_decoder::two_bytes_in;
 ghost use Rattle.kit.specs.Names.{_≡_, _+_, _*_, _/_, _≤_, length};
 ghost use Rattle.definitions.specs.ContractFile.{byteAt, nodeRecords};
+ghost use Rattle.memory_buffer.specs.Buffer.{stored};
 ghost use Rattle.file_decoded.specs.Slices.{nodesFrom, Narrow};
-ghost use Rattle.file_decoder.specs.Decoding.{DecodedFunction, FunctionRoom};
-ghost use Rattle.file_decoder.specs.Decoding.{FunctionsRoom, DecodedFunctions, Decodable, Decoded};
+ghost use Rattle.file_decoder.specs.Decoding.{functionNumbers, ownNumbers, functionsNumbers, parametersNumbers};
+ghost use Rattle.file_decoder.specs.Decoding.{FunctionRoom, FunctionsRoom, Decodable, Decoded};
 
 // The nodes, as many as the slice has room for.
 pub fn decode_nodes(file: &[u8], from: usize, nodes: &mut [u16])
@@ -19,11 +19,14 @@ pub fn decode_nodes(file: &[u8], from: usize, nodes: &mut [u16])
         × (length (now (nodes .exit)) ≡ length (now (nodes .entry))) ⌝ }
     ensures { λ _. ⌜ Narrow (now (nodes .exit)) ⌝ }
 {
-    let count = nodes.len() / 5;
-    let mut n = 0;
-    while n < count {
-        decode_node(file, from + 8 * n, nodes, 5 * n);
-        n += 1;
+    let mut left = nodes.len() / 5;
+    let mut place = from;
+    let mut at = 0;
+    while 0 < left {
+        decode_node(file, place, nodes, at);
+        place += 8;
+        at += 5;
+        left -= 1;
     }
 }
 
@@ -39,31 +42,35 @@ fn decode_function(
 ) -> usize
     requires { ⌜ FunctionRoom (now file) from (now functions) at (now parameters) first ⌝ }
     ensures { λ r. ⌜ (r ≡ byteAt (now (file .entry)) from) × (r ≤ 255) ⌝ }
-    ensures { λ _. ⌜ DecodedFunction (now (file .entry)) from (now (functions .entry)) (now (functions .exit)) at
-        (now (parameters .entry)) (now (parameters .exit)) first ⌝ }
+    ensures { λ _. ⌜ (now (functions .exit) ≡ stored (now (functions .entry)) at (functionNumbers (now (file .entry)) from first))
+        × (now (parameters .exit) ≡ stored (now (parameters .entry)) first (ownNumbers (now (file .entry)) from)) ⌝ }
 {
     let count = byte_in(file, from);
-    put(functions, at, first);
-    put(functions, at + 1, count);
-    put(functions, at + 2, two_bytes_in(file, from + 1 + 2 * count));
-    copy_bytes(file, from + 1, 2 * count, parameters, first);
-    count
+    let bytes = 2 * (count as usize);
+    functions[at] = first as u16;
+    functions[at + 1] = count;
+    functions[at + 2] = two_bytes_in(file, from + 1 + bytes);
+    copy_bytes(file, from + 1, bytes, parameters, first);
+    count as usize
 }
 
 fn decode_functions(file: &[u8], from: usize, functions: &mut [u16], parameters: &mut [u16])
     requires { ⌜ FunctionsRoom (now file) from (now functions) (now parameters) ⌝ }
-    ensures { λ _. ⌜ DecodedFunctions (now (file .entry)) from (now (functions .entry)) (now (functions .exit))
-        (now (parameters .entry)) (now (parameters .exit)) ⌝ }
+    ensures { λ _. ⌜ (now (functions .exit)
+        ≡ stored (now (functions .entry)) 0 (functionsNumbers (length (now (functions .entry)) / 3) (now (file .entry)) from 0))
+        × (now (parameters .exit)
+        ≡ stored (now (parameters .entry)) 0 (parametersNumbers (length (now (functions .entry)) / 3) (now (file .entry)) from)) ⌝ }
 {
-    let count = functions.len() / 3;
+    let mut left = functions.len() / 3;
     let mut place = from;
+    let mut at = 0;
     let mut first = 0;
-    let mut f = 0;
-    while f < count {
-        let own = decode_function(file, place, functions, 3 * f, parameters, first);
+    while 0 < left {
+        let own = decode_function(file, place, functions, at, parameters, first);
         place += 1 + 2 * own + 2;
+        at += 3;
         first += 2 * own;
-        f += 1;
+        left -= 1;
     }
 }
 

@@ -5,7 +5,7 @@ use rules_faults::least;
 use rules_links::class_room;
 use rules_links::copy_classes;
 use rules_meet::behind;
-ghost use Rattle.kit.specs.Names.{_≡_, false, _||_, _≤_, min, length, take};
+ghost use Rattle.kit.specs.Names.{_≡_, _||_, _≤_, min, length, take};
 ghost use Rattle.rules_links.specs.Classes.{Classed};
 ghost use Rattle.rules_meet.specs.Branches.{Behind};
 
@@ -28,7 +28,10 @@ pub fn outcome(fault: u8, added: bool) -> Checked
 pub fn in_turn(one: Checked, two: Checked) -> Checked
     ensures { λ r. ⌜ (r .fault ≡ min (one .fault) (two .fault)) × (r .added ≡ (one .added || two .added)) ⌝ }
 {
-    outcome(least(one.fault, two.fault), either(one.added, two.added))
+    Checked {
+        fault: least(one.fault, two.fault),
+        added: either(one.added, two.added),
+    }
 }
 
 // The classes before an if, for the else-branch and for what is behind it.
@@ -63,5 +66,8 @@ pub fn branched(
     let all = classes.len();
     let grown = either(condition.added, yes.added);
     let added = behind(classes, &before[..all], &other[..all], grown, no.added);
-    outcome(least(least(condition.fault, yes.fault), no.fault), added)
+    Checked {
+        fault: least(least(condition.fault, yes.fault), no.fault),
+        added: added,
+    }
 }

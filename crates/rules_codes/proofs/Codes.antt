@@ -1,69 +1,35 @@
 -- Rules told of numbers are the rules that the definitions tell of data types and owners.
-use Rattle.kit.specs.Names.{_≡_, refl, sym, Bool, true, false, not, cond, _&&_, _||_, List, none, some, ℕ, zero, suc, _+_, _-_, _≤_, _<_}
-use Rattle.kit.specs.Names.{arith, eqb, getD, eqb-false, ne-eqb, le-ltb}
-use Rattle.definitions.specs.ContractFile.{DataType, meName, everyone, ownedBy, toEveryone, toKey, toFinal, Operator, dataTypeCode, isDivision, isEveryone, operatorOf, operandsFit, resultType, Field}
-use Rattle.definitions.specs.Owners.{isReader, placeOwner, ownerOfParts}
+use Rattle.kit.specs.Names.{_≡_, refl, sym, _∙_, Bool, true, false, not, cond, _&&_, List, none, some, ℕ, zero, suc, _+_, _-_, _≤_, _<_}
+use Rattle.kit.specs.Names.{arith, eqb, getD, eqb-false, ne-eqb, le-ltb, List·getD-eq-default}
+use Rattle.definitions.specs.ContractFile.{meName, Owner, everyone, ownedBy, toEveryone, toKey, toFinal, operatorCode, isEveryone, operatorOf, Field}
+use Rattle.definitions.specs.Owners.{Links, isReader, placeOwner, ownerOfParts}
 use Rattle.definitions.specs.Numbers.{isTagged, isNone, mayBePut, fault}
 use Rattle.rules_faults.specs.Faults.{leastFault}
-use Rattle.rules_faults.proofs.Faults.{least-none, least-one, counted-11, counted-15}
+use Rattle.rules_faults.proofs.Faults.{least-one, counted-11, counted-15}
 use Rattle.rules_owners.specs.Numbering.{nameNumbered, nameWith, ownerWith, declaredOwner}
 use Rattle.rules_owners.proofs.Numbering.{above-eqb}
 use Rattle.rules_scopes.specs.Scopes.{IsField}
 use Rattle.rules_scopes.specs.declared.Declared.{Declared}
 use Rattle.rules_links.specs.Classes.{linkedBy}
 use Rattle.rules_links.proofs.Joining.{linked-numbers}
-use Rattle.rules_codes.specs.Codes.{HasClass, fitCodes, placeNumber, partsNumber}
+use Rattle.rules_codes.specs.Codes.{HasClass, placeNumber, partsNumber}
 
-pub fit-codes : (o : Operator) (left right : DataType) → operandsFit o left right ≡ fitCodes o (dataTypeCode left) (dataTypeCode right)
-fit-codes o left right = refl
+pub operator-listed : (code : ℕ) → code ≤ 10 → code ≡ operatorCode (operatorOf code)
+operator-listed zero h = refl
+operator-listed (suc zero) h = refl
+operator-listed (suc (suc zero)) h = refl
+operator-listed (suc (suc (suc zero))) h = refl
+operator-listed (suc (suc (suc (suc zero)))) h = refl
+operator-listed (suc (suc (suc (suc (suc zero))))) h = refl
+operator-listed (suc (suc (suc (suc (suc (suc zero)))))) h = refl
+operator-listed (suc (suc (suc (suc (suc (suc (suc zero))))))) h = refl
+operator-listed (suc (suc (suc (suc (suc (suc (suc (suc zero)))))))) h = refl
+operator-listed (suc (suc (suc (suc (suc (suc (suc (suc (suc zero))))))))) h = refl
+operator-listed (suc (suc (suc (suc (suc (suc (suc (suc (suc (suc zero)))))))))) h = refl
+operator-listed (suc (suc (suc (suc (suc (suc (suc (suc (suc (suc (suc n))))))))))) h = absurd (omega arith)
 
-pub fit-rest : (code left right : ℕ) → (code ≡ 7 → ⊥) → (code ≡ 8 → ⊥) → (code ≡ 9 → ⊥) → (code ≡ 10 → ⊥)
-    → fitCodes (operatorOf code) left right ≡ (eqb left 1 && eqb right 1)
-fit-rest zero l r a b c d = refl
-fit-rest (suc zero) l r a b c d = refl
-fit-rest (suc (suc zero)) l r a b c d = refl
-fit-rest (suc (suc (suc zero))) l r a b c d = refl
-fit-rest (suc (suc (suc (suc zero)))) l r a b c d = refl
-fit-rest (suc (suc (suc (suc (suc zero))))) l r a b c d = refl
-fit-rest (suc (suc (suc (suc (suc (suc zero)))))) l r a b c d = refl
-fit-rest (suc (suc (suc (suc (suc (suc (suc zero))))))) l r a b c d = absurd (a refl)
-fit-rest (suc (suc (suc (suc (suc (suc (suc (suc zero)))))))) l r a b c d = absurd (b refl)
-fit-rest (suc (suc (suc (suc (suc (suc (suc (suc (suc zero))))))))) l r a b c d = absurd (c refl)
-fit-rest (suc (suc (suc (suc (suc (suc (suc (suc (suc (suc zero)))))))))) l r a b c d = absurd (d refl)
-fit-rest (suc (suc (suc (suc (suc (suc (suc (suc (suc (suc (suc n))))))))))) l r a b c d = refl
-
-pub result-rest : (code : ℕ) → (code ≡ 5 → ⊥) → (code ≡ 6 → ⊥) → (code ≡ 7 → ⊥) → (code ≡ 8 → ⊥) → (code ≡ 9 → ⊥) → (code ≡ 10 → ⊥)
-    → dataTypeCode (resultType (operatorOf code)) ≡ 1
-result-rest zero a b c d e f = refl
-result-rest (suc zero) a b c d e f = refl
-result-rest (suc (suc zero)) a b c d e f = refl
-result-rest (suc (suc (suc zero))) a b c d e f = refl
-result-rest (suc (suc (suc (suc zero)))) a b c d e f = refl
-result-rest (suc (suc (suc (suc (suc zero))))) a b c d e f = absurd (a refl)
-result-rest (suc (suc (suc (suc (suc (suc zero)))))) a b c d e f = absurd (b refl)
-result-rest (suc (suc (suc (suc (suc (suc (suc zero))))))) a b c d e f = absurd (c refl)
-result-rest (suc (suc (suc (suc (suc (suc (suc (suc zero)))))))) a b c d e f = absurd (d refl)
-result-rest (suc (suc (suc (suc (suc (suc (suc (suc (suc zero))))))))) a b c d e f = absurd (e refl)
-result-rest (suc (suc (suc (suc (suc (suc (suc (suc (suc (suc zero)))))))))) a b c d e f = absurd (f refl)
-result-rest (suc (suc (suc (suc (suc (suc (suc (suc (suc (suc (suc n))))))))))) a b c d e f = refl
-
-division-rest : (code : ℕ) → 11 ≤ code → (eqb code 3 || eqb code 4) ≡ false
-division-rest code h = rw (above-eqb code 3 (omega arith), above-eqb code 4 (omega arith))
-
-pub division-code : (code : ℕ) → (eqb code 3 || eqb code 4) ≡ isDivision (operatorOf code)
-division-code zero = refl
-division-code (suc zero) = refl
-division-code (suc (suc zero)) = refl
-division-code (suc (suc (suc zero))) = refl
-division-code (suc (suc (suc (suc zero)))) = refl
-division-code (suc (suc (suc (suc (suc zero))))) = refl
-division-code (suc (suc (suc (suc (suc (suc zero)))))) = refl
-division-code (suc (suc (suc (suc (suc (suc (suc zero))))))) = refl
-division-code (suc (suc (suc (suc (suc (suc (suc (suc zero)))))))) = refl
-division-code (suc (suc (suc (suc (suc (suc (suc (suc (suc zero))))))))) = refl
-division-code (suc (suc (suc (suc (suc (suc (suc (suc (suc (suc zero)))))))))) = refl
-division-code (suc (suc (suc (suc (suc (suc (suc (suc (suc (suc (suc n))))))))))) = division-rest
-    (suc (suc (suc (suc (suc (suc (suc (suc (suc (suc (suc n))))))))))) (omega arith)
+pub operator-unlisted : (code : ℕ) → 10 < code → 0 ≡ operatorCode (operatorOf code)
+operator-unlisted code h = rw List·getD-eq-default
 
 pub public-code : (owner : ℕ) → isEveryone (ownerWith owner) ≡ eqb owner 0
 public-code owner = go (eqb owner 0)
@@ -101,17 +67,16 @@ pub caller-code : (private : Bool) → cond private (ownedBy meName) everyone �
 caller-code true = refl
 caller-code false = refl
 
-module _ (count : ℕ) (enough : 10 ≤ count) where
-  pub caller-listed : (private : Bool) → cond private 1 0 < count
-  caller-listed true = omega arith
-  caller-listed false = omega arith
+module _ (count : ℕ) where
+  either-listed : (b : Bool) (m n : ℕ) → m < count → n < count → cond b m n < count
+  either-listed true m n h k = h
+  either-listed false m n h k = k
 
-  pub parts-listed : (left right : ℕ) → partsNumber left right < count
-  parts-listed left right = go (eqb left 0 && eqb right 0)
-    where
-      go : (b : Bool) → cond b 0 1 < count
-      go true = omega arith
-      go false = omega arith
+  pub caller-listed : 10 ≤ count → (private : Bool) → cond private 1 0 < count
+  caller-listed enough private = either-listed private 1 0 (omega arith) (omega arith)
+
+  pub parts-listed : 10 ≤ count → (left right : ℕ) → partsNumber left right < count
+  parts-listed enough left right = either-listed (eqb left 0 && eqb right 0) 0 1 (omega arith) (omega arith)
 
 module _ (fields : ℕ) (d : Field) (r : Declared) (name : ℕ) (i : IsField fields d r) where
   pub place-owner : placeOwner (d .owner) (nameWith name) ≡ ownerWith (placeNumber r name)
@@ -134,41 +99,25 @@ module _ (fields : ℕ) (d : Field) (r : Declared) (name : ℕ) (i : IsField fie
       go false = own (eqb (r .owner) 0) refl
 
   pub place-listed : (count : ℕ) → 10 + fields ≤ count → name < count → placeNumber r name < count
-  place-listed count h k = go (r .tagged) (eqb name 0)
-    where
-      go : (tagged b : Bool) → cond tagged (cond b 1 name) (r .owner) < count
-      go true true = omega arith
-      go true false = k
-      go false b = let l = i .listed in omega arith
+  place-listed count h k =
+      let l = i .listed in
+      either-listed count (r .tagged) (cond (eqb name 0) 1 name) (r .owner) (either-listed count (eqb name 0) 1 name (omega arith) k) (omega arith)
 
--- "a name linked to me is the caller"
-module _ (classes : List ℕ) (owner : ℕ) where
-  pub read-by-all : owner ≡ 0 → 16 ≡ leastFault (fault (not (isReader (linkedBy classes) (ownerWith owner))) 11)
-  read-by-all e = rw e (sym least-none)
+-- "a name linked to me is the caller": what the caller's place may take.
+reader-code : (linked : Links) (owner : Owner) → isReader linked owner ≡ mayBePut linked owner (ownedBy meName)
+reader-code linked everyone = refl
+reader-code linked (ownedBy n) = refl
 
-  reader-code : HasClass classes owner → (owner ≡ 0 → ⊥)
-      → isReader (linkedBy classes) (ownerWith owner) ≡ eqb (getD classes owner 0) (getD classes 1 0)
-  reader-code h n =
-      let enough = h .enough in
-      rw (ne-eqb owner 0 n) (linked-numbers classes owner 1 enough (h .there) (omega arith) n (λ (e : _≡_ {A = ℕ} 1 0). omega arith))
+module _ (classes : List ℕ) (value place : ℕ) (may : Bool) where
+  pub put-linked : HasClass classes value → HasClass classes place → (value ≡ 0 → ⊥) → (place ≡ 0 → ⊥)
+      → may ≡ eqb (getD classes value 0) (getD classes place 0) → may ≡ mayBePut (linkedBy classes) (ownerWith value) (ownerWith place)
+  put-linked h k n m e =
+      rw (ne-eqb value 0 n, ne-eqb place 0 m) (e ∙ sym (linked-numbers classes value place (h .enough) (h .there) (k .there) n m))
 
-  pub read-by-caller : (same : Bool) → HasClass classes owner → (owner ≡ 0 → ⊥) → same ≡ eqb (getD classes owner 0) (getD classes 1 0)
-      → cond (not same) 11 16 ≡ leastFault (fault (not (isReader (linkedBy classes) (ownerWith owner))) 11)
-  read-by-caller same h n e = rw (e, ← reader-code h n) (sym (least-one (not (isReader (linkedBy classes) (ownerWith owner))) 11 counted-11))
+  pub put-fault : may ≡ mayBePut (linkedBy classes) (ownerWith value) (ownerWith place)
+      → cond (not may) 15 16 ≡ leastFault (fault (not (mayBePut (linkedBy classes) (ownerWith value) (ownerWith place))) 15)
+  put-fault e = rw (← e) (sym (least-one (not may) 15 counted-15))
 
-module _ (classes : List ℕ) (value place : ℕ) where
-  put-code : HasClass classes value → HasClass classes place → (value ≡ 0 → ⊥) → (place ≡ 0 → ⊥)
-      → mayBePut (linkedBy classes) (ownerWith value) (ownerWith place) ≡ eqb (getD classes value 0) (getD classes place 0)
-  put-code h k n m = rw (ne-eqb value 0 n, ne-eqb place 0 m) (linked-numbers classes value place (h .enough) (h .there) (k .there) n m)
-
-  pub put-by-all : value ≡ 0 → 16 ≡ leastFault (fault (not (mayBePut (linkedBy classes) (ownerWith value) (ownerWith place))) 15)
-  put-by-all e = rw e (sym least-none)
-
-  pub put-for-all : (value ≡ 0 → ⊥) → place ≡ 0 → 15 ≡ leastFault (fault (not (mayBePut (linkedBy classes) (ownerWith value) (ownerWith place))) 15)
-  put-for-all n e = rw (ne-eqb value 0 n, e) (sym counted-15)
-
-  pub put-linked : (same : Bool) → HasClass classes value → HasClass classes place → (value ≡ 0 → ⊥) → (place ≡ 0 → ⊥)
-      → same ≡ eqb (getD classes value 0) (getD classes place 0)
-      → cond (not same) 15 16 ≡ leastFault (fault (not (mayBePut (linkedBy classes) (ownerWith value) (ownerWith place))) 15)
-  put-linked same h k n m e = rw (e, ← put-code h k n m)
-      (sym (least-one (not (mayBePut (linkedBy classes) (ownerWith value) (ownerWith place))) 15 counted-15))
+  pub read-fault : may ≡ mayBePut (linkedBy classes) (ownerWith value) (ownerWith 1)
+      → cond (not may) 11 16 ≡ leastFault (fault (not (isReader (linkedBy classes) (ownerWith value))) 11)
+  read-fault e = rw (reader-code (linkedBy classes) (ownerWith value), ← e) (sym (least-one (not may) 11 counted-11))

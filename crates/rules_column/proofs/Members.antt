@@ -1,38 +1,20 @@
--- Members of lists: of lists one behind another, of a list whose tests all hold, and how often they are counted.
-use Rattle.kit.specs.Names.{_≡_, refl, Bool, true, false, List, [], _∷_, List·Memᴰ, List·Memᴰ·head, List·Memᴰ·tail, List·Memᴰ·not-nil}
-use Rattle.kit.specs.Names.{List·Memᴰ·append-cases, Memᴰ·append-left, Memᴰ·append-right, _⊎_, inl, inr, ℕ, zero, suc, _<_, _≤_, arith, eqb}
-use Rattle.kit.specs.Names.{length, getD, eq-eqb}
-use Rattle.definitions.specs.Basics.{all, any, countIf, flatMap}
-use Rattle.theory_laws.proofs.TruthValues.{and-left, and-right, or-left, or-right}
+-- Members of lists: of lists one behind another, and how often they are counted.
+use Rattle.kit.specs.Names.{_≡_, refl, ap, List, [], _∷_, List·Memᴰ, List·Memᴰ·head, List·Memᴰ·tail, List·Memᴰ·not-nil, List·Memᴰ·append-cases}
+use Rattle.kit.specs.Names.{Memᴰ·append-left, Memᴰ·append-right, ⊎-elim, ℕ, zero, suc, _<_, _≤_, arith, eqb, length, getD, eq-eqb}
+use Rattle.definitions.specs.Basics.{countIf, flatMap}
 use Rattle.theory_laws.proofs.Lists.{count-append}
 
 -- What is under one of several numbers is under all of them, and back.
-pub under-all : (under : ℕ → List ℕ) (x m : ℕ) (ms : List ℕ) → List·Memᴰ m ms → List·Memᴰ x (under m) → List·Memᴰ x (flatMap under ms)
+pub under-all : {A : Type 0} (under : A → List ℕ) (x : ℕ) (m : A) (ms : List A) → List·Memᴰ m ms → List·Memᴰ x (under m) → List·Memᴰ x (flatMap under ms)
 unfolding flatMap
 under-all under x m (n ∷ ns) (List·Memᴰ·head e) d = Memᴰ·append-left (flatMap under ns) (rw e at d)
 under-all under x m (n ∷ ns) (List·Memᴰ·tail h) d = Memᴰ·append-right (under n) (under-all under x m ns h d)
 
-pub under-one : (under : ℕ → List ℕ) (x : ℕ) (ms : List ℕ) → List·Memᴰ x (flatMap under ms) → (m : ℕ) × List·Memᴰ m ms × List·Memᴰ x (under m)
+pub under-one : {A : Type 0} (under : A → List ℕ) (x : ℕ) (ms : List A) → List·Memᴰ x (flatMap under ms) → (m : A) × List·Memᴰ m ms × List·Memᴰ x (under m)
 unfolding flatMap
 under-one under x [] d = absurd (List·Memᴰ·not-nil d)
-under-one under x (n ∷ ns) d = go (under-one under x ns) (List·Memᴰ·append-cases (under n) d)
-  where
-    go : (List·Memᴰ x (flatMap under ns) → (m : ℕ) × List·Memᴰ m ns × List·Memᴰ x (under m)) → List·Memᴰ x (under n) ⊎ List·Memᴰ x (flatMap under ns)
-        → (m : ℕ) × List·Memᴰ m (n ∷ ns) × List·Memᴰ x (under m)
-    go later (inl h) = (n, List·Memᴰ·head refl, h)
-    go later (inr h) = let t = later h in (t .0, List·Memᴰ·tail (t .1), t .2)
-
--- A test that all pass, at a member; and one that none passes, at the entry of a number.
-pub all-at : (test : ℕ → Bool) (m : ℕ) (xs : List ℕ) → all test xs ≡ true → List·Memᴰ m xs → test m ≡ true
-unfolding all
-all-at test m (x ∷ xs) h (List·Memᴰ·head e) = rw e (and-left (test x) (all test xs) h)
-all-at test m (x ∷ xs) h (List·Memᴰ·tail d) = all-at test m xs (and-right (test x) (all test xs) h) d
-
-pub none-at : {A : Type 0} (test : A → Bool) (xs : List A) → any test xs ≡ false → (i : ℕ) (other : A) → i < length xs → test (getD xs i other) ≡ false
-unfolding any
-none-at test [] h i other l = absurd (omega arith)
-none-at test (x ∷ xs) h zero other l = or-left (test x) (any test xs) h
-none-at test (x ∷ xs) h (suc i) other l = none-at test xs (or-right (test x) (any test xs) h) i other (omega arith)
+under-one under x (n ∷ ns) d =
+    ⊎-elim (λ h. (n, List·Memᴰ·head refl, h)) (λ h. let t = under-one under x ns h in (t .0, List·Memᴰ·tail (t .1), t .2)) (List·Memᴰ·append-cases (under n) d)
 
 -- A member is counted.
 pub counted : (m : ℕ) (xs : List ℕ) → List·Memᴰ m xs → 1 ≤ countIf (eqb m) xs
@@ -54,14 +36,8 @@ module _ {A : Type 0} (uses : A → List ℕ) (m : ℕ) where
   one-user [] i j other h a b d e = absurd (omega arith)
   one-user (x ∷ xs) zero zero other h a b d e = refl
   one-user (x ∷ xs) zero (suc j) other h a b d e =
-      let here = counted m (uses x) d in
-      let later = used xs j other (omega arith) e in
-      omega (arith, count-append (eqb m) (uses x) (flatMap uses xs))
+      omega (arith, counted m (uses x) d, used xs j other (omega arith) e, count-append (eqb m) (uses x) (flatMap uses xs))
   one-user (x ∷ xs) (suc i) zero other h a b d e =
-      let here = counted m (uses x) e in
-      let later = used xs i other (omega arith) d in
-      omega (arith, count-append (eqb m) (uses x) (flatMap uses xs))
+      omega (arith, counted m (uses x) e, used xs i other (omega arith) d, count-append (eqb m) (uses x) (flatMap uses xs))
   one-user (x ∷ xs) (suc i) (suc j) other h a b d e =
-      let sum = count-append (eqb m) (uses x) (flatMap uses xs) in
-      let later : i ≡ j = one-user xs i j other (omega arith) (omega arith) (omega arith) d e in
-      omega arith
+      ap suc (one-user xs i j other (omega (arith, count-append (eqb m) (uses x) (flatMap uses xs))) (omega arith) (omega arith) d e)

@@ -1,53 +1,34 @@
--- A column that holds the owners of all nodes under a node holds those of the nodes under its parts.
-use Rattle.kit.specs.Names.{_≡_, refl, List, [], _∷_, _++_, List·Memᴰ, List·Memᴰ·head, Memᴰ·append-left, Memᴰ·append-right, ℕ, getD}
+-- A column that holds the owners of all nodes at a place holds those of the nodes at its parts.
+use mathlib.Core.List.{Memᴰ·map}
+use Rattle.kit.specs.Names.{_≡_, refl, List, _++_, map, List·Memᴰ, List·Memᴰ·head, Memᴰ·append-left, Memᴰ·append-right, ℕ, getD}
 use Rattle.definitions.specs.Basics.{flatMap}
-use Rattle.definitions.specs.ContractFile.{Node, nodeAt}
+use Rattle.definitions.specs.ContractFile.{Node, nodeAt, statementParts}
 use Rattle.theory_trees.specs.Trees.{Falling}
-use Rattle.rules_marks.specs.Marks.{partsOfExpression, expressionsOfStatement, statementsOfStatement, expressionsUnder, statementsUnder}
-use Rattle.rules_marks.proofs.Marking.{expressions-unfold, statements-unfold}
+use Rattle.rules_marks.specs.Marks.{partsOfExpression, expressionsOfStatement, Place, expression, statement, partsAt, ownAt, numbersUnder, expressionsUnder, statementsUnder}
+use Rattle.rules_marks.proofs.Marking.{numbers-unfold}
 use Rattle.rules_column.specs.Columns.{Holds}
 use Rattle.rules_column.proofs.Members.{under-all}
 
--- The first of two lists, the second, and one of several.
-module _ (owner : ℕ → ℕ) (column : List ℕ) where
-  holds-first : (a b : List ℕ) → Holds owner (a ++ b) column → Holds owner a column
-  holds-first a b h = record { at = λ m d. h .at m (Memᴰ·append-left b d) }
+module _ (nodes : List Node) (falling : Falling nodes) (owner : ℕ → ℕ) (column : List ℕ) where
+  unfolded : (p : Place) → Holds owner (numbersUnder nodes p) column → Holds owner (flatMap (numbersUnder nodes) (partsAt nodes p) ++ ownAt p) column
+  unfolded p h = rw (numbers-unfold nodes falling p) at h
 
-  holds-second : (a b : List ℕ) → Holds owner (a ++ b) column → Holds owner b column
-  holds-second a b h = record { at = λ m d. h .at m (Memᴰ·append-right a d) }
+  holds-at : (p q : Place) → List·Memᴰ q (partsAt nodes p) → Holds owner (numbersUnder nodes p) column → Holds owner (numbersUnder nodes q) column
+  holds-at p q d h = record { at = λ m e. (unfolded p h) .at m (Memᴰ·append-left (ownAt p) (under-all (numbersUnder nodes) m q (partsAt nodes p) d e)) }
 
-  holds-one : (under : ℕ → List ℕ) (ms : List ℕ) (m : ℕ) → List·Memᴰ m ms → Holds owner (flatMap under ms) column → Holds owner (under m) column
-  holds-one under ms m d h = record { at = λ x e. h .at x (under-all under x m ms d e) }
+  module _ (n : ℕ) where
+    pub holds-own : Holds owner (expressionsUnder nodes n) column → getD column n 0 ≡ owner n
+    holds-own h = (unfolded (expression n) h) .at n (Memᴰ·append-right (flatMap (numbersUnder nodes) (partsAt nodes (expression n))) (List·Memᴰ·head refl))
 
-module _ (nodes : List Node) (falling : Falling nodes) (owner : ℕ → ℕ) (column : List ℕ) (n : ℕ) where
-  module _ (h : Holds owner (expressionsUnder nodes n) column) where
-    abbrev parts : List ℕ
-    parts = flatMap (expressionsUnder nodes) (partsOfExpression (nodeAt nodes n))
+    pub holds-part : Holds owner (expressionsUnder nodes n) column → (m : ℕ) → List·Memᴰ m (partsOfExpression (nodeAt nodes n)) → Holds owner (expressionsUnder nodes m) column
+    unfolding partsAt
+    holds-part h m d = holds-at (expression n) (expression m) (Memᴰ·map expression d) h
 
-    unfolded : Holds owner (parts ++ (n ∷ [])) column
-    unfolded = rw (expressions-unfold nodes falling n) at h
+    pub holds-expression : Holds owner (statementsUnder nodes n) column → (m : ℕ) → List·Memᴰ m (expressionsOfStatement (nodeAt nodes n))
+        → Holds owner (expressionsUnder nodes m) column
+    unfolding partsAt
+    holds-expression h m d = holds-at (statement n) (expression m) (Memᴰ·append-left _ (Memᴰ·map expression d)) h
 
-    pub holds-own : getD column n 0 ≡ owner n
-    holds-own = (holds-second owner column parts (n ∷ []) unfolded) .at n (List·Memᴰ·head refl)
-
-    pub holds-part : (m : ℕ) → List·Memᴰ m (partsOfExpression (nodeAt nodes n)) → Holds owner (expressionsUnder nodes m) column
-    holds-part m d =
-        holds-one owner column (expressionsUnder nodes) (partsOfExpression (nodeAt nodes n)) m d (holds-first owner column parts (n ∷ []) unfolded)
-
-  module _ (h : Holds owner (statementsUnder nodes n) column) where
-    abbrev expressions : List ℕ
-    expressions = flatMap (expressionsUnder nodes) (expressionsOfStatement (nodeAt nodes n))
-
-    abbrev statements : List ℕ
-    statements = flatMap (statementsUnder nodes) (statementsOfStatement (nodeAt nodes n))
-
-    split : Holds owner (expressions ++ statements) column
-    split = rw (statements-unfold nodes falling n) at h
-
-    pub holds-expression : (m : ℕ) → List·Memᴰ m (expressionsOfStatement (nodeAt nodes n)) → Holds owner (expressionsUnder nodes m) column
-    holds-expression m d =
-        holds-one owner column (expressionsUnder nodes) (expressionsOfStatement (nodeAt nodes n)) m d (holds-first owner column expressions statements split)
-
-    pub holds-statement : (m : ℕ) → List·Memᴰ m (statementsOfStatement (nodeAt nodes n)) → Holds owner (statementsUnder nodes m) column
-    holds-statement m d =
-        holds-one owner column (statementsUnder nodes) (statementsOfStatement (nodeAt nodes n)) m d (holds-second owner column expressions statements split)
+    pub holds-statement : Holds owner (statementsUnder nodes n) column → (m : ℕ) → List·Memᴰ m (statementParts (nodeAt nodes n)) → Holds owner (statementsUnder nodes m) column
+    unfolding partsAt
+    holds-statement h m d = holds-at (statement n) (statement m) (Memᴰ·append-right (map expression (expressionsOfStatement (nodeAt nodes n))) (Memᴰ·map statement d)) h

@@ -1,66 +1,31 @@
 -- A node is under the root of one function only: from a node go up to what uses it, which number 5 leaves no choice of.
-use Rattle.kit.specs.Names.{_≡_, refl, ap, false, not, _||_, List, [], _∷_, _++_, map, List·Memᴰ, List·Memᴰ·head, List·Memᴰ·not-nil}
-use Rattle.kit.specs.Names.{List·Memᴰ·append-cases, List·Memᴰ·eq-of-singleton, Memᴰ·append-left, Memᴰ·append-right, _⊎_, inl, inr, ℕ, zero}
-use Rattle.kit.specs.Names.{suc, _+_, _<_, arith, eqb, leb, ltb, length, getD, length-map, ltb-true, leb-false, eqb-true, not-false}
+use Rattle.kit.specs.Names.{_≡_, refl, ap, false, not, List, [], _∷_, _++_, map, List·Memᴰ, List·Memᴰ·head, List·Memᴰ·not-nil}
+use Rattle.kit.specs.Names.{List·Memᴰ·append-cases, List·Memᴰ·eq-of-singleton, ⊎-elim, ℕ, zero}
+use Rattle.kit.specs.Names.{suc, _+_, _<_, arith, eqb, leb, length, getD, length-map, leb-false, eqb-true, not-false}
 use Rattle.definitions.specs.Basics.{any, countIf, flatMap}
-use Rattle.definitions.specs.ContractFile.{FunctionRecord, NodeRecord, Sections, node, Node, expressionNode, statementNode, unknownNode, fieldOf, nodeOf, nodeAt, children, expressionParts, statementParts}
+use Rattle.definitions.specs.ContractFile.{FunctionRecord, NodeRecord, Sections, node, Node, unknownNode, fieldOf, nodeOf, nodeAt, children, expressionParts, statementParts}
 use Rattle.definitions.specs.Numbers.{namesNothing, usesOf, usedOtherThanOnce, fieldOfDeclaredOwner}
-use Rattle.theory_laws.proofs.TruthValues.{or-left, or-right}
 use Rattle.theory_laws.proofs.Lists.{count-append, none-numbered}
 use Rattle.theory_trees.proofs.Falls.{nodes-fall}
-use Rattle.rules_marks.specs.Marks.{partsOfExpression, expressionsOfStatement, statementsOfStatement, expressionNumbers, statementNumbers}
+use Rattle.rules_marks.specs.Marks.{Place, expression, statement, numberOf, partsAt, ownAt, numbersAt}
+use Rattle.rules_marks.proofs.Marking.{part-child, child-below}
+use Rattle.rules_contract.proofs.Passing.{any-numbered, none-of-three}
 use Rattle.rules_column.specs.Columns.{NoneTwice, Under, top, child}
-use Rattle.rules_column.proofs.Members.{under-one, all-at, none-at, used, one-user}
+use Rattle.rules_column.proofs.Members.{under-one, used, one-user}
 
--- The parts of a node, as an expression or as a statement, are children.
-part-child : (x : Node) (m : ℕ) → List·Memᴰ m (partsOfExpression x) → List·Memᴰ m (children x)
-unfolding partsOfExpression expressionParts statementParts
-part-child (expressionNode fields expressions make) m d = Memᴰ·append-left [] d
-part-child (statementNode fields expressions statements make) m d = absurd (List·Memᴰ·not-nil d)
-part-child unknownNode m d = d
-
-expression-child : (x : Node) (m : ℕ) → List·Memᴰ m (expressionsOfStatement x) → List·Memᴰ m (children x)
-unfolding expressionsOfStatement expressionParts statementParts
-expression-child (expressionNode fields expressions make) m d = absurd (List·Memᴰ·not-nil d)
-expression-child (statementNode fields expressions statements make) m d = Memᴰ·append-left statements d
-expression-child unknownNode m d = d
-
-statement-child : (x : Node) (m : ℕ) → List·Memᴰ m (statementsOfStatement x) → List·Memᴰ m (children x)
-unfolding statementsOfStatement expressionParts statementParts
-statement-child (expressionNode fields expressions make) m d = absurd (List·Memᴰ·not-nil d)
-statement-child (statementNode fields expressions statements make) m d = Memᴰ·append-right expressions d
-statement-child unknownNode m d = d
-
--- What is gathered from a node under a root is under that root.
+-- What is gathered from a place under a root is under that root.
 module _ (nodes : List Node) (root : ℕ) where
-  expressions-under : (levels n m : ℕ) → Under nodes root n → List·Memᴰ m (expressionNumbers levels nodes n) → Under nodes root m
-  unfolding expressionNumbers
-  expressions-under zero n m u d = absurd (List·Memᴰ·not-nil d)
-  expressions-under (suc levels) n m u d =
-      go (expressions-under levels) (List·Memᴰ·append-cases (flatMap (expressionNumbers levels nodes) (partsOfExpression (nodeAt nodes n))) d)
-    where
-      go : ((c k : ℕ) → Under nodes root c → List·Memᴰ k (expressionNumbers levels nodes c) → Under nodes root k)
-          → List·Memᴰ m (flatMap (expressionNumbers levels nodes) (partsOfExpression (nodeAt nodes n))) ⊎ List·Memᴰ m (n ∷ []) → Under nodes root m
-      go below (inl h) =
-          let t = under-one (expressionNumbers levels nodes) m (partsOfExpression (nodeAt nodes n)) h in
-          below (t .0) m (child u (part-child (nodeAt nodes n) (t .0) (t .1))) (t .2)
-      go below (inr h) = rw (List·Memᴰ·eq-of-singleton h) u
+  own-under : (m : ℕ) (p : Place) → Under nodes root (numberOf p) → List·Memᴰ m (ownAt p) → Under nodes root m
+  own-under m (expression n) u d = rw (List·Memᴰ·eq-of-singleton d) u
+  own-under m (statement n) u d = absurd (List·Memᴰ·not-nil d)
 
-  pub statements-under : (levels n m : ℕ) → Under nodes root n → List·Memᴰ m (statementNumbers levels nodes n) → Under nodes root m
-  unfolding statementNumbers
-  statements-under zero n m u d = absurd (List·Memᴰ·not-nil d)
-  statements-under (suc levels) n m u d =
-      go (statements-under levels) (List·Memᴰ·append-cases (flatMap (expressionNumbers levels nodes) (expressionsOfStatement (nodeAt nodes n))) d)
-    where
-      go : ((c k : ℕ) → Under nodes root c → List·Memᴰ k (statementNumbers levels nodes c) → Under nodes root k)
-          → List·Memᴰ m (flatMap (expressionNumbers levels nodes) (expressionsOfStatement (nodeAt nodes n)))
-          ⊎ List·Memᴰ m (flatMap (statementNumbers levels nodes) (statementsOfStatement (nodeAt nodes n))) → Under nodes root m
-      go below (inl h) =
-          let t = under-one (expressionNumbers levels nodes) m (expressionsOfStatement (nodeAt nodes n)) h in
-          expressions-under levels (t .0) m (child u (expression-child (nodeAt nodes n) (t .0) (t .1))) (t .2)
-      go below (inr h) =
-          let t = under-one (statementNumbers levels nodes) m (statementsOfStatement (nodeAt nodes n)) h in
-          below (t .0) m (child u (statement-child (nodeAt nodes n) (t .0) (t .1))) (t .2)
+  pub numbers-under : (levels : ℕ) (p : Place) (m : ℕ) → Under nodes root (numberOf p) → List·Memᴰ m (numbersAt levels nodes p) → Under nodes root m
+  unfolding numbersAt
+  numbers-under zero p m u d = absurd (List·Memᴰ·not-nil d)
+  numbers-under (suc levels) p m u d =
+      ⊎-elim (λ h. let t = under-one (numbersAt levels nodes) m (partsAt nodes p) h in
+      numbers-under levels (t .0) m (child u (part-child nodes p (t .0) (t .1))) (t .2))
+      (own-under m p u) (List·Memᴰ·append-cases (flatMap (numbersAt levels nodes) (partsAt nodes p)) d)
 
 -- The uses, as the roots of the functions and the children of the nodes.
 roots-each : (rs : List FunctionRecord) → map (λ r. r .root) rs ≡ flatMap (λ r. r .root ∷ []) rs
@@ -96,8 +61,7 @@ module _ (s : Sections) where
   unfolding namesNothing
   root-inside h f other l =
       let owners = any (λ r. any (leb (length (s .fields))) (fieldOfDeclaredOwner ((fieldOf r) .owner))) (s .fields) in
-      let roots = any (λ r. leb (length (s .nodes)) (r .root)) (s .functions) in
-      leb-false _ _ (none-at (λ r. leb (length (s .nodes)) (r .root)) (s .functions) (or-right owners roots (or-left (owners || roots) _ h)) f other l)
+      leb-false _ _ (none-numbered (λ n r. leb (length (s .nodes)) (r .root)) 0 (s .functions) (any-numbered _ 0 _ ((none-of-three owners _ _ h) .1)) f other l)
 
   -- The nodes, and a function's one root as a list of numbers that it uses.
   abbrev nodesOf : List Node
@@ -121,9 +85,7 @@ module _ (s : Sections) where
     parent-node : (n m : ℕ) → List·Memᴰ m (children (nodeAt nodesOf n)) → (n < length nodesOf) × (m < length (s .nodes))
     parent-node n m d =
         let inside = parent-inside nodesOf n m d in
-        let below = ltb-true m n (all-at (λ child. ltb child n) m (children (nodeAt nodesOf n)) ((nodes-fall s named) .below n) d) in
-        let same = length-map (s .nodes) nodeOf in
-        (inside, omega arith)
+        (inside, omega (arith, inside, child-below nodesOf (nodes-fall s named) n m d, length-map (s .nodes) nodeOf))
 
     pub under-inside : (f m : ℕ) → f < length (s .functions) → UnderRoot f m → m < length (s .nodes)
     under-inside f m l (top e) = let h = root-inside named f other l in omega arith
@@ -134,23 +96,18 @@ module _ (s : Sections) where
       no-child : (f n m : ℕ) → f < length (s .functions) → m ≡ (getD (s .functions) f other) .root → List·Memᴰ m (children (nodeAt nodesOf n)) → ⊥
       no-child f n m inside e d =
           let here = parent-node n m d in
-          let root = used rootOf m (s .functions) f other inside (List·Memᴰ·head e) in
-          let part = used children m nodesOf n unknownNode (here .0) d in
-          let most = none .uses m (here .1) in
-          omega (arith, uses-split m)
+          omega (arith, uses-split m, none .uses m (here .1), used rootOf m (s .functions) f other inside (List·Memᴰ·head e), used children m nodesOf n unknownNode (here .0) d)
 
       -- Two functions have two roots, and a child has one parent, which is then under both functions' roots.
       module _ (f g : ℕ) (inside : f < length (s .functions)) (within : g < length (s .functions)) where
         pub one-function : (m : ℕ) → UnderRoot f m → UnderRoot g m → f ≡ g
         one-function m (top e) (top d) =
-            let h = root-inside named f other inside in
-            let most = none .uses m (omega arith) in
-            one-user rootOf m (s .functions) f g other (omega (arith, uses-split m)) inside within (List·Memᴰ·head e) (List·Memᴰ·head d)
+            let most = none .uses m (omega (arith, e, root-inside named f other inside)) in
+            one-user rootOf m (s .functions) f g other (omega (arith, uses-split m, most)) inside within (List·Memᴰ·head e) (List·Memᴰ·head d)
         one-function m (top e) (child {n = n} v d) = absurd (no-child f n m inside e d)
         one-function m (child {n = n} u e) (top d) = absurd (no-child g n m within d e)
         one-function m (child {n = n} u e) (child {n = k} v d) =
             let here = parent-node n m e in
             let there = parent-node k m d in
-            let most = none .uses m (here .1) in
-            let same : n ≡ k = one-user children m nodesOf n k unknownNode (omega (arith, uses-split m)) (here .0) (there .0) e d in
+            let same : n ≡ k = one-user children m nodesOf n k unknownNode (omega (arith, uses-split m, none .uses m (here .1))) (here .0) (there .0) e d in
             one-function n u (rw same v)

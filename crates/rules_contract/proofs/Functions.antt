@@ -1,46 +1,32 @@
 -- The functions of a contract one after another: the least fault so far, and the column so far, with those of the functions ahead.
 use Rattle.kit.specs.Names.{_≡_, refl, ap, sym, _∙_, false, not, List, [], _∷_, map, ℕ, zero, suc, _+_, _*_, _-_, _/_, _<_, _≤_, min, arith}
-use Rattle.kit.specs.Names.{length, take, drop, length-drop, getD-take, getD-drop, length-take-le, ne-eqb}
+use Rattle.kit.specs.Names.{length, take, drop, length-drop, getD-take, getD-drop, length-take-le}
 use Rattle.definitions.specs.Basics.{any, flatMap, firstThatHolds}
 use Rattle.definitions.specs.ContractFile.{FunctionRecord, functionOf, contractOf}
 use Rattle.definitions.specs.Numbers.{functionFaults, fieldFaults, parameterInTables, contractFaults, contractSentences}
-use Rattle.file_decoded.specs.Slices.{numberAt, parametersFrom, functionFrom, functionsFrom, sectionsFrom}
+use Rattle.theory_laws.proofs.TruthValues.{not-false-true}
+use Rattle.file_decoded.specs.Slices.{numberAt, parameterFrom, parametersFrom, functionFrom, functionsFrom, sectionsFrom}
 use Rattle.file_decoded.proofs.Records.{functions-step, functions-end}
 use Rattle.rules_faults.specs.Faults.{leastFault, numberOf}
 use Rattle.rules_faults.proofs.Faults.{least-append, least-sentence}
 use Rattle.rules_scopes.specs.Trees.{nodesIn}
 use Rattle.rules_scopes.specs.Scopes.{ParametersReady}
-use Rattle.definitions.specs.Owners.{noLinks}
-use Rattle.rules_links.specs.Classes.{linkedBy}
-use Rattle.rules_statements.specs.Checking.{JudgedStatement}
-use Rattle.rules_branches.specs.declared.Checked.{Checked}
 use Rattle.rules_marks.proofs.Marking.{marked-length}
 use Rattle.rules_fields.specs.Fields.{fieldsIn, allFieldsFault}
 use Rattle.rules_contract.specs.Sections.{functionsMarked, contractMarked, FunctionJudged, FunctionsJudged}
 use Rattle.rules_fields.proofs.Fields.{flat-cons, flat-none, fault-start}
-use Rattle.rules_contract.proofs.Passing.{parameters-each, not-not}
+use Rattle.rules_contract.proofs.Passing.{each-record, any-numbered}
 
 -- A function's own parameters, in a slice of their own and where they stand among all.
-parameters-same : (count : ℕ) (own all : List ℕ) (at from : ℕ) → ((i : ℕ) → i < 2 * count → numberAt own (at + i) ≡ numberAt all (from + i))
-    → parametersFrom count own at ≡ parametersFrom count all from
+parameters-same : (own all : List ℕ) (from long : ℕ) → ((i : ℕ) → i < long → numberAt own i ≡ numberAt all (from + i)) → (count at : ℕ) → at + 2 * count ≤ long
+    → parametersFrom count own at ≡ parametersFrom count all (from + at)
 unfolding parametersFrom
-parameters-same zero own all at from same = refl
-parameters-same (suc count) own all at from same =
-    let z : at + 0 ≡ at = omega arith in
-    let y : from + 0 ≡ from = omega arith in
-    let type : numberAt own at ≡ numberAt all from = rw (z, y) at (same 0 (omega arith)) in
-    let later : parametersFrom count own (at + 2) ≡ parametersFrom count all (from + 2) =
-    parameters-same count own all (at + 2) (from + 2) (λ i h.
-    let a : at + (2 + i) ≡ at + 2 + i = omega arith in
-    let b : from + (2 + i) ≡ from + 2 + i = omega arith in
-    rw (a, b) at (same (2 + i) (omega arith))) in
-    λ i. record { type = type i; owner = same 1 (omega arith) i } ∷ later i
-
--- A function judged in classes that stand for no links.
-pub function-judged : (fields parameters nodes : List ℕ) (root : ℕ) (links classes classes′ before after : List ℕ) (r : Checked) → classes ≡ links → linkedBy links ≡ noLinks
-    → JudgedStatement fields parameters nodes root classes classes′ before after r → FunctionJudged fields parameters nodes root before after (r .fault)
-function-judged fields parameters nodes root links classes classes′ before after r e none h =
-    record { fault = rw (e, none) at (h .checked .fault); column = h .column }
+parameters-same own all from long same zero at h = refl
+parameters-same own all from long same (suc count) at h =
+    let one : from + (at + 1) ≡ from + at + 1 = omega arith in
+    let two : from + (at + 2) ≡ from + at + 2 = omega arith in
+    λ i. record { type = same at (omega arith) i; owner = (same (at + 1) (omega arith) ∙ ap (numberAt all) one) i }
+    ∷ (parameters-same own all from long same count (at + 2) (omega arith) ∙ ap (parametersFrom count all) two) i
 
 module _ (parameters : List ℕ) (from count : ℕ) (inside : from + 2 * count ≤ length parameters) where
   abbrev own : List ℕ
@@ -54,19 +40,19 @@ module _ (parameters : List ℕ) (from count : ℕ) (inside : from + 2 * count �
   pub own-parameters : parametersFrom (length own / 2) own 0 ≡ parametersFrom count parameters from
   own-parameters =
       let e : length own / 2 ≡ count = let h = own-length in omega arith in
-      rw e
-      (parameters-same count own parameters 0 from (λ i h.
-      let z : 0 + i ≡ i = omega arith in
-      rw z (getD-take (from + 2 * count - from) (drop from parameters) i 0 (omega arith) ∙ getD-drop from parameters i 0)))
+      let z : from + 0 ≡ from = omega arith in
+      rw e (parameters-same own parameters from (2 * count) (λ i h.
+      getD-take (from + 2 * count - from) (drop from parameters) i 0 (omega arith) ∙ getD-drop from parameters i 0) count 0 (omega arith) ∙ ap (parametersFrom count parameters) z)
 
   pub own-ready : count ≤ 8 → any (λ p. not (parameterInTables p)) (parametersFrom count parameters from) ≡ false → ParametersReady own
+  unfolding parametersFrom
   own-ready few listed =
       let h = own-length in
       record {
         few = omega arith;
-        listed = λ k l.
-            let z : 0 + 2 * k ≡ 2 * k = omega arith in
-            not-not _ (rw z at (parameters-each (λ p. not (parameterInTables p)) (length own / 2) own 0 (rw own-parameters listed) k l));
+        listed = λ k l. not-false-true _
+            (each-record (parameterFrom own) (λ count. parametersFrom count own) 2 (λ i. 2 * i) (omega arith) (λ i. omega arith) (λ count at. refl)
+            (λ n p. not (parameterInTables p)) (length own / 2) (any-numbered (λ p. not (parameterInTables p)) 0 _ (rw own-parameters listed)) k l);
       }
 
 module _ (fields functions parameters nodes : List ℕ) where
@@ -120,14 +106,10 @@ module _ (fields functions parameters nodes : List ℕ) where
         ∙ ap (λ x. min x (faultsOf (ahead (f + 1)))) one) in
         record {
           few = omega (arith, so .few);
-          least = shift (faultsOf (ahead f)) (faultsOf (ahead (f + 1))) split (so .least);
+          least = omega (arith, split, so .least, e);
           column = rw (judged .column, same) (ap (λ rs. functionsMarked (fieldsIn fields) (nodesIn nodes) rs owners) (sym step) ∙ so .column);
           long = ap length (judged .column) ∙ (marked-length _ _ owners ∙ so .long);
         }
-      where
-        shift : (now later : ℕ) → now ≡ min r later → min fault now ≡ faultsOf (functionsFrom parameters (length functions / 3) functions 0)
-            → min next later ≡ faultsOf (functionsFrom parameters (length functions / 3) functions 0)
-        shift now later s t = omega arith
 
     pub functions-done : length functions / 3 ≤ f → FunctionsJudged fields functions parameters nodes before owners fault
     unfolding functionsMarked
@@ -149,9 +131,3 @@ module _ (fields functions parameters nodes : List ℕ) where
       h ∙ (ap numberOf (both ∙ sym (least-append (flatMap (fieldFaults (fieldsIn fields)) (fieldsIn fields))
       (flatMap (functionFaults (fieldsIn fields)) (map (functionOf (nodesIn nodes)) (functionsFrom parameters (length functions / 3) functions 0)))))
       ∙ sym (least-sentence (contractOf (sectionsFrom fields functions parameters nodes))))
-
-pub number-none : (fault : ℕ) → fault ≡ 16 → 0 ≡ numberOf fault
-number-none fault e = rw e
-
-pub number-some : (fault : ℕ) → (fault ≡ 16 → ⊥) → fault ≡ numberOf fault
-number-some fault n = rw (ne-eqb fault 16 n)

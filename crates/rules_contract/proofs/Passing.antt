@@ -1,72 +1,43 @@
 -- What numbers 2, 3 and 4 leave, record by record: all that judging relies on.
-use Rattle.kit.specs.Names.{_≡_, refl, sym, Bool, true, false, not, _||_, List, ℕ, zero, suc, _+_, _*_, _/_, _<_, _≤_, arith, leb, ltb}
+use Rattle.kit.specs.Names.{_≡_, refl, Bool, false, not, _||_, List, [], _∷_, ℕ, zero, suc, _+_, _*_, _/_, _<_, _≤_, arith, leb, ltb}
 use Rattle.kit.specs.Names.{length, ltb-false, leb-false}
 use Rattle.definitions.specs.Basics.{any, anyNumbered}
-use Rattle.definitions.specs.ContractFile.{FieldRecord, ParameterRecord, FunctionRecord, NodeRecord, fieldOf, nodeOf, fieldsNamed, children}
+use Rattle.definitions.specs.ContractFile.{FieldRecord, FunctionRecord, NodeRecord, fieldOf, nodeOf, fieldsNamed, children}
 use Rattle.definitions.specs.Numbers.{fieldInTables, parameterInTables, nodeInTables, fieldOfDeclaredOwner, outsideTables, namesNothing}
-use Rattle.theory_laws.proofs.TruthValues.{or-left, or-right}
-use Rattle.file_decoded.specs.Slices.{numberAt, fieldFrom, fieldsFrom, parameterFrom, parametersFrom, functionFrom, functionsFrom, nodeFrom, nodesFrom}
+use Rattle.theory_laws.proofs.TruthValues.{or-left, or-right, not-false-true}
+use Rattle.file_decoded.specs.Slices.{numberAt, fieldFrom, fieldsFrom, functionFrom, functionsFrom, nodeFrom, nodesFrom}
 use Rattle.file_decoded.proofs.Records.{fields-length, parameters-length, nodes-length}
 use Rattle.rules_scopes.specs.Scopes.{FieldsReady, NodesReady}
-use Rattle.rules_contract.specs.Sections.{Passed, FunctionsReady}
+use Rattle.rules_contract.specs.Sections.{Passed}
 
--- A test that no record passes, at the record of a number.
-pub fields-each : (test : FieldRecord → Bool) (count : ℕ) (numbers : List ℕ) (at : ℕ) → any test (fieldsFrom count numbers at) ≡ false
-    → (f : ℕ) → f < count → test (fieldFrom numbers (at + 3 * f)) ≡ false
-unfolding any fieldsFrom
-fields-each test zero numbers at h f k = absurd (omega arith)
-fields-each test (suc count) numbers at h zero k =
-    let e : at + 3 * 0 ≡ at = omega arith in
-    rw e (or-left (test (fieldFrom numbers at)) _ h)
-fields-each test (suc count) numbers at h (suc f) k =
-    let e : at + 3 * suc f ≡ at + 3 + 3 * f = omega arith in
-    rw e (fields-each test count numbers (at + 3) (or-right (test (fieldFrom numbers at)) _ h) f (omega arith))
+-- A numbered test that no record passes, at the record of a number. Records stand one behind another, record i so many numbers ahead.
+module _ {A : Type 0} (read : ℕ → A) (from : ℕ → ℕ → List A) (width : ℕ) (ahead : ℕ → ℕ) (none : ahead 0 ≡ 0) (more : (i : ℕ) → ahead (suc i) ≡ width + ahead i)
+    (next : (count at : ℕ) → from (suc count) at ≡ read at ∷ from count (at + width)) where
+  each-from : (test : ℕ → A → Bool) (count k at : ℕ) → anyNumbered test k (from count at) ≡ false → (i : ℕ) → i < count → test (k + i) (read (at + ahead i)) ≡ false
+  unfolding anyNumbered
+  each-from test zero k at h i l = absurd (omega arith)
+  each-from test (suc count) k at h zero l =
+      let e : at + ahead 0 ≡ at = omega (arith, none) in
+      let d : k + 0 ≡ k = omega arith in
+      rw (e, d) (or-left (test k (read at)) _ (rw (next count at) at h))
+  each-from test (suc count) k at h (suc i) l =
+      let e : at + ahead (suc i) ≡ at + width + ahead i = omega (arith, more i) in
+      let d : k + suc i ≡ suc k + i = omega arith in
+      rw (e, d) (each-from test count (suc k) (at + width) (or-right (test k (read at)) _ (rw (next count at) at h)) i (omega arith))
 
-pub parameters-each : (test : ParameterRecord → Bool) (count : ℕ) (numbers : List ℕ) (at : ℕ) → any test (parametersFrom count numbers at) ≡ false
-    → (k : ℕ) → k < count → test (parameterFrom numbers (at + 2 * k)) ≡ false
-unfolding any parametersFrom
-parameters-each test zero numbers at h k l = absurd (omega arith)
-parameters-each test (suc count) numbers at h zero l =
-    let e : at + 2 * 0 ≡ at = omega arith in
-    rw e (or-left (test (parameterFrom numbers at)) _ h)
-parameters-each test (suc count) numbers at h (suc k) l =
-    let e : at + 2 * suc k ≡ at + 2 + 2 * k = omega arith in
-    rw e (parameters-each test count numbers (at + 2) (or-right (test (parameterFrom numbers at)) _ h) k (omega arith))
+  pub each-record : (test : ℕ → A → Bool) (count : ℕ) → anyNumbered test 0 (from count 0) ≡ false → (i : ℕ) → i < count → test i (read (ahead i)) ≡ false
+  each-record test count h i l =
+      let e : 0 + ahead i ≡ ahead i = omega arith in
+      let d : 0 + i ≡ i = omega arith in
+      rw (e, d) at (each-from test count 0 0 h i l)
 
-pub functions-each : (test : FunctionRecord → Bool) (parameters : List ℕ) (count : ℕ) (numbers : List ℕ) (at : ℕ)
-    → any test (functionsFrom parameters count numbers at) ≡ false → (f : ℕ) → f < count → test (functionFrom parameters numbers (at + 3 * f)) ≡ false
-unfolding any functionsFrom
-functions-each test parameters zero numbers at h f k = absurd (omega arith)
-functions-each test parameters (suc count) numbers at h zero k =
-    let e : at + 3 * 0 ≡ at = omega arith in
-    rw e (or-left (test (functionFrom parameters numbers at)) _ h)
-functions-each test parameters (suc count) numbers at h (suc f) k =
-    let e : at + 3 * suc f ≡ at + 3 + 3 * f = omega arith in
-    rw e (functions-each test parameters count numbers (at + 3) (or-right (test (functionFrom parameters numbers at)) _ h) f (omega arith))
+pub any-numbered : {A : Type 0} (test : A → Bool) (k : ℕ) (xs : List A) → any test xs ≡ false → anyNumbered (λ n. test) k xs ≡ false
+unfolding any anyNumbered
+any-numbered test k [] h = refl
+any-numbered test k (x ∷ xs) h = rw (or-left (test x) _ h) (any-numbered test (suc k) xs (or-right (test x) _ h))
 
-pub nodes-each : (test : ℕ → NodeRecord → Bool) (count : ℕ) (numbers : List ℕ) (from at : ℕ) → anyNumbered test from (nodesFrom count numbers at) ≡ false
-    → (n : ℕ) → n < count → test (from + n) (nodeFrom numbers (at + 5 * n)) ≡ false
-unfolding anyNumbered nodesFrom
-nodes-each test zero numbers from at h n k = absurd (omega arith)
-nodes-each test (suc count) numbers from at h zero k =
-    let e : at + 5 * 0 ≡ at = omega arith in
-    let d : from + 0 ≡ from = omega arith in
-    rw (e, d) (or-left (test from (nodeFrom numbers at)) _ h)
-nodes-each test (suc count) numbers from at h (suc n) k =
-    let e : at + 5 * suc n ≡ at + 5 + 5 * n = omega arith in
-    let d : from + suc n ≡ suc from + n = omega arith in
-    rw (e, d) (nodes-each test count numbers (suc from) (at + 5) (or-right (test from (nodeFrom numbers at)) _ h) n (omega arith))
-
-any-numbered : (test : NodeRecord → Bool) (count : ℕ) (numbers : List ℕ) (from at : ℕ) → any test (nodesFrom count numbers at) ≡ false
-    → anyNumbered (λ n r. test r) from (nodesFrom count numbers at) ≡ false
-unfolding any anyNumbered nodesFrom
-any-numbered test zero numbers from at h = refl
-any-numbered test (suc count) numbers from at h =
-    rw (or-left (test (nodeFrom numbers at)) _ h) (any-numbered test count numbers (suc from) (at + 5) (or-right (test (nodeFrom numbers at)) _ h))
-
-pub not-not : (b : Bool) → not b ≡ false → b ≡ true
-not-not true h = refl
-not-not false h = sym h
+pub none-of-three : (a b c : Bool) → (a || b || c) ≡ false → (a ≡ false) × (b ≡ false) × (c ≡ false)
+none-of-three a b c h = (or-left a b (or-left (a || b) c h), or-right a b (or-left (a || b) c h), or-right (a || b) c h)
 
 module _ (fields functions parameters nodes : List ℕ) (p : Passed fields functions parameters nodes) where
   abbrev fieldsHere : List FieldRecord
@@ -79,57 +50,33 @@ module _ (fields functions parameters nodes : List ℕ) (p : Passed fields funct
   nodesHere = nodesFrom (length nodes / 5) nodes 0
 
   field-at : (test : FieldRecord → Bool) → any test fieldsHere ≡ false → (f : ℕ) → f < length fields / 3 → test (fieldFrom fields (3 * f)) ≡ false
-  field-at test h f k =
-      let e : 0 + 3 * f ≡ 3 * f = omega arith in
-      rw e at (fields-each test (length fields / 3) fields 0 h f k)
+  unfolding fieldsFrom
+  field-at test h =
+      each-record (fieldFrom fields) (λ count. fieldsFrom count fields) 3 (λ f. 3 * f) (omega arith) (λ f. omega arith) (λ count at. refl)
+      (λ n. test) (length fields / 3) (any-numbered test 0 fieldsHere h)
 
   function-at : (test : FunctionRecord → Bool) → any test functionsHere ≡ false → (f : ℕ) → f < length functions / 3
       → test (functionFrom parameters functions (3 * f)) ≡ false
-  function-at test h f k =
-      let e : 0 + 3 * f ≡ 3 * f = omega arith in
-      rw e at (functions-each test parameters (length functions / 3) functions 0 h f k)
+  unfolding functionsFrom
+  function-at test h =
+      each-record (functionFrom parameters functions) (λ count. functionsFrom parameters count functions) 3 (λ f. 3 * f) (omega arith) (λ f. omega arith)
+      (λ count at. refl) (λ n. test) (length functions / 3) (any-numbered test 0 functionsHere h)
 
   node-at : (test : ℕ → NodeRecord → Bool) → anyNumbered test 0 nodesHere ≡ false → (n : ℕ) → n < length nodes / 5 → test n (nodeFrom nodes (5 * n)) ≡ false
-  node-at test h n k =
-      let e : 0 + 5 * n ≡ 5 * n = omega arith in
-      let d : 0 + n ≡ n = omega arith in
-      rw (e, d) at (nodes-each test (length nodes / 5) nodes 0 0 h n k)
+  unfolding nodesFrom
+  node-at test h =
+      each-record (nodeFrom nodes) (λ count. nodesFrom count nodes) 5 (λ n. 5 * n) (omega arith) (λ n. omega arith) (λ count at. refl) test (length nodes / 5) h
 
-  abbrev outsideField : FieldRecord → Bool
-  outsideField r = not (fieldInTables r)
-
-  abbrev outsideFunction : FunctionRecord → Bool
-  outsideFunction r = any (λ x. not (parameterInTables x)) (r .parameters)
-
-  abbrev outsideNode : NodeRecord → Bool
-  outsideNode r = not (nodeInTables r)
-
-  tables : (any outsideField fieldsHere ≡ false) × (any outsideFunction functionsHere ≡ false) × (any outsideNode nodesHere ≡ false)
+  tables : (any (λ r. not (fieldInTables r)) fieldsHere ≡ false) × (any (λ r. any (λ x. not (parameterInTables x)) (r .parameters)) functionsHere ≡ false)
+      × (any (λ r. not (nodeInTables r)) nodesHere ≡ false)
   unfolding outsideTables
-  tables =
-      let both = or-left (any outsideField fieldsHere || any outsideFunction functionsHere) (any outsideNode nodesHere) (p .tables) in (
-        or-left (any outsideField fieldsHere) (any outsideFunction functionsHere) both,
-        or-right (any outsideField fieldsHere) (any outsideFunction functionsHere) both,
-        or-right (any outsideField fieldsHere || any outsideFunction functionsHere) (any outsideNode nodesHere) (p .tables),
-      )
+  tables = none-of-three _ _ _ (p .tables)
 
-  abbrev unnamedOwner : FieldRecord → Bool
-  unnamedOwner r = any (leb (length fieldsHere)) (fieldOfDeclaredOwner ((fieldOf r) .owner))
-
-  abbrev noRoot : FunctionRecord → Bool
-  noRoot r = leb (length nodesHere) (r .root)
-
-  abbrev unsettled : ℕ → NodeRecord → Bool
-  unsettled n r = any (leb (length fieldsHere)) (fieldsNamed (nodeOf r)) || any (leb n) (children (nodeOf r))
-
-  names : (any unnamedOwner fieldsHere ≡ false) × (any noRoot functionsHere ≡ false) × (anyNumbered unsettled 0 nodesHere ≡ false)
+  names : (any (λ r. any (leb (length fieldsHere)) (fieldOfDeclaredOwner ((fieldOf r) .owner))) fieldsHere ≡ false)
+      × (any (λ r. leb (length nodesHere) (r .root)) functionsHere ≡ false)
+      × (anyNumbered (λ n r. any (leb (length fieldsHere)) (fieldsNamed (nodeOf r)) || any (leb n) (children (nodeOf r))) 0 nodesHere ≡ false)
   unfolding namesNothing
-  names =
-      let both = or-left (any unnamedOwner fieldsHere || any noRoot functionsHere) (anyNumbered unsettled 0 nodesHere) (p .numbers) in (
-        or-left (any unnamedOwner fieldsHere) (any noRoot functionsHere) both,
-        or-right (any unnamedOwner fieldsHere) (any noRoot functionsHere) both,
-        or-right (any unnamedOwner fieldsHere || any noRoot functionsHere) (anyNumbered unsettled 0 nodesHere) (p .numbers),
-      )
+  names = none-of-three _ _ _ (p .numbers)
 
   few-fields : length fieldsHere ≡ length fields / 3
   few-fields = fields-length (length fields / 3) fields 0
@@ -138,36 +85,28 @@ module _ (fields functions parameters nodes : List ℕ) (p : Passed fields funct
   fields-ready =
       record {
         few = p .fewFields;
-        listed = λ f h. not-not (fieldInTables (fieldFrom fields (3 * f))) (field-at outsideField (tables .0) f h);
-        named = λ f h. rw few-fields at (field-at unnamedOwner (names .0) f h);
+        listed = λ f h. not-false-true _ (field-at _ (tables .0) f h);
+        named = λ f h. rw few-fields at (field-at _ (names .0) f h);
       }
 
   pub nodes-ready : NodesReady fields nodes
   nodes-ready =
       record {
         few = p .shaped .fewNodes;
-        listed = λ n h. not-not (nodeInTables (nodeFrom nodes (5 * n)))
-            (node-at (λ m r. outsideNode r) (any-numbered outsideNode (length nodes / 5) nodes 0 0 (tables .2)) n h);
-        named = λ n h. rw few-fields at (or-left (any (leb (length fieldsHere)) (fieldsNamed (nodeOf (nodeFrom nodes (5 * n)))))
-            (any (leb n) (children (nodeOf (nodeFrom nodes (5 * n))))) (node-at unsettled (names .2) n h));
-        falling = λ n h. or-right (any (leb (length fieldsHere)) (fieldsNamed (nodeOf (nodeFrom nodes (5 * n)))))
-            (any (leb n) (children (nodeOf (nodeFrom nodes (5 * n))))) (node-at unsettled (names .2) n h);
+        listed = λ n h. not-false-true _ (node-at _ (any-numbered _ 0 nodesHere (tables .2)) n h);
+        named = λ n h. rw (← few-fields) (or-left _ _ (node-at _ (names .2) n h));
+        falling = λ n h. or-right (any (leb (length fieldsHere)) (fieldsNamed (nodeOf (nodeFrom nodes (5 * n))))) _ (node-at _ (names .2) n h);
       }
 
-  pub functions-ready : (owners : List ℕ) → length nodes / 5 ≤ length owners → FunctionsReady fields functions parameters nodes owners
-  functions-ready owners room =
-      record {
-        declared = fields-ready;
-        inside = p .inside;
-        few = p .shaped .fewFunctions;
-        fewParameters = λ f h.
-            let many = parametersFrom (numberAt functions (3 * f + 1)) parameters (numberAt functions (3 * f)) in
-            let counted : length many ≡ numberAt functions (3 * f + 1) = parameters-length _ parameters _ in
-            let few : length many ≤ 8 = ltb-false 8 (length many) (function-at (λ r. ltb 8 (length (r .parameters))) (p .fewParameters) f h) in
-            omega arith;
-        listed = λ f h. function-at outsideFunction (tables .1) f h;
-        roots = λ f h. rw (nodes-length (length nodes / 5) nodes 0) at
-            (leb-false (length nodesHere) (numberAt functions (3 * f + 2)) (function-at noRoot (names .1) f h));
-        bodies = nodes-ready;
-        column = room;
-      }
+  -- A function's parameters are few and in the tables, its root is a node.
+  module _ (f : ℕ) (inside : f < length functions / 3) where
+    pub few-parameters : numberAt functions (3 * f + 1) ≤ 8
+    few-parameters =
+        let few = ltb-false 8 (length ((functionFrom parameters functions (3 * f)) .parameters)) (function-at (λ r. ltb 8 (length (r .parameters))) (p .fewParameters) f inside) in
+        omega (arith, few, parameters-length (numberAt functions (3 * f + 1)) parameters (numberAt functions (3 * f)))
+
+    pub parameters-listed : any (λ x. not (parameterInTables x)) ((functionFrom parameters functions (3 * f)) .parameters) ≡ false
+    parameters-listed = function-at _ (tables .1) f inside
+
+    pub root-there : numberAt functions (3 * f + 2) < length nodes / 5
+    root-there = rw (← nodes-length (length nodes / 5) nodes 0) (leb-false _ _ (function-at _ (names .1) f inside))

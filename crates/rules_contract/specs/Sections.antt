@@ -1,14 +1,14 @@
 -- The least faults of a contract's functions, and the column of owners, as the decoded slices give them.
-use Rattle.kit.specs.Names.{_≡_, false, not, List, [], _∷_, map, ℕ, _+_, _*_, _/_, _<_, _≤_, ltb, length}
+use Rattle.kit.specs.Names.{_≡_, false, List, [], _∷_, map, ℕ, _/_, _≤_, ltb, length}
 use Rattle.definitions.specs.Basics.{any, flatMap}
 use Rattle.definitions.specs.ContractFile.{Field, Scope, Node, FunctionRecord, parameterOf, functionOf}
 use Rattle.definitions.specs.Owners.{noLinks}
-use Rattle.definitions.specs.Numbers.{functionFaults, statementFaults, parameterInTables, outsideTables, namesNothing}
+use Rattle.definitions.specs.Numbers.{functionFaults, statementFaults, outsideTables, namesNothing}
 use Rattle.theory_trees.specs.Trees.{statementIn}
-use Rattle.file_decoded.specs.Slices.{numberAt, parametersFrom, functionsFrom, sectionsFrom, ParametersInside, Shaped}
+use Rattle.file_decoded.specs.Slices.{functionsFrom, sectionsFrom, ParametersInside, Shaped}
 use Rattle.rules_faults.specs.Faults.{leastFault}
 use Rattle.rules_scopes.specs.Trees.{nodesIn}
-use Rattle.rules_scopes.specs.Scopes.{scopeFrom, FieldsReady, NodesReady}
+use Rattle.rules_scopes.specs.Scopes.{scopeFrom}
 use Rattle.rules_fields.specs.Fields.{fieldsIn}
 use Rattle.rules_marks.specs.Marks.{marked, ownerAt, statementsUnder}
 
@@ -34,19 +34,6 @@ pub record FunctionsJudged (fields functions parameters nodes before after : Lis
   pub fault : r ≡ leastFault (flatMap (functionFaults (fieldsIn fields))
       (map (functionOf (nodesIn nodes)) (functionsFrom parameters (length functions / 3) functions 0)))
   pub column : after ≡ contractMarked fields functions parameters nodes before
-
--- What is known of each function: its parameters are few and in the tables, its root is a node.
-pub record FunctionsReady (fields functions parameters nodes owners : List ℕ) : Type 0 where
-  pub declared : FieldsReady fields
-  pub inside : ParametersInside functions parameters
-  pub few : length functions ≤ 48
-  pub fewParameters : (f : ℕ) → f < length functions / 3 → numberAt functions (3 * f + 1) ≤ 8
-  pub listed : (f : ℕ) → f < length functions / 3
-      → any (λ p. not (parameterInTables p))
-      (parametersFrom (numberAt functions (3 * f + 1)) parameters (numberAt functions (3 * f))) ≡ false
-  pub roots : (f : ℕ) → f < length functions / 3 → numberAt functions (3 * f + 2) < length nodes / 5
-  pub bodies : NodesReady fields nodes
-  pub column : length nodes / 5 ≤ length owners
 
 -- Numbers 2, 3 and 4 let the sections pass.
 pub record Passed (fields functions parameters nodes : List ℕ) : Type 0 where

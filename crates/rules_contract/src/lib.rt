@@ -11,8 +11,7 @@ ghost use Rattle.definitions.specs.ContractFile.{contractOf};
 ghost use Rattle.definitions.specs.Numbers.{contractSentences};
 ghost use Rattle.file_decoded.specs.Slices.{sectionsFrom};
 ghost use Rattle.rules_scopes.specs.Scopes.{FieldsReady, ParametersReady, NodesReady};
-ghost use Rattle.rules_contract.specs.Sections.{FunctionJudged, FunctionsReady, FunctionsJudged, Passed};
-ghost use Rattle.rules_contract.specs.Sections.{contractMarked};
+ghost use Rattle.rules_contract.specs.Sections.{FunctionJudged, FunctionsJudged, Passed, contractMarked};
 
 // One function, from its own parameters and its root, with no links at its start.
 fn function_fault(
@@ -28,16 +27,10 @@ fn function_fault(
         (now (owners .entry)) (now (owners .exit)) r ⌝ }
 {
     let count = 10 + fields.len() / 3;
-    let mut classes = class_room();
-    no_links(&mut classes[..count]);
-    let checked = judge_statement(
-        fields,
-        parameters,
-        nodes,
-        &mut classes[..count],
-        owners,
-        root,
-    );
+    let mut room = class_room();
+    let classes = &mut room[..count];
+    no_links(classes);
+    let checked = judge_statement(fields, parameters, nodes, classes, owners, root);
     checked.fault
 }
 
@@ -48,7 +41,7 @@ fn functions_fault(
     nodes: &[u16],
     owners: &mut [u16],
 ) -> u8
-    requires { ⌜ FunctionsReady (now fields) (now functions) (now parameters) (now nodes) (now owners) ⌝ }
+    requires { ⌜ (Passed (now fields) (now functions) (now parameters) (now nodes)) × (length (now nodes) / 5 ≤ length (now owners)) ⌝ }
     ensures { λ r. ⌜ FunctionsJudged (now (fields .entry)) (now (functions .entry)) (now (parameters .entry)) (now (nodes .entry))
         (now (owners .entry)) (now (owners .exit)) r ⌝ }
 {

@@ -6,21 +6,22 @@ use Rattle.definitions.specs.ContractFile.{Contract}
 use Rattle.theory_laws.proofs.Lists.{any-append}
 use Rattle.rules_faults.specs.Faults.{firstOf, leastFault, numberOf}
 
-first-above : (count n : ℕ) (test : ℕ → Bool) → n ≤ firstOf count n test
+first-within : (count n : ℕ) (test : ℕ → Bool) → (n ≤ firstOf count n test) × (firstOf count n test ≤ n + count)
 unfolding firstOf
-first-above zero n test = omega arith
-first-above (suc count) n test = go (test n) (first-above count (suc n) test)
+first-within zero n test = (omega arith, omega arith)
+first-within (suc count) n test = go (test n) (first-within count (suc n) test)
   where
-    go : (b : Bool) → suc n ≤ firstOf count (suc n) test → n ≤ cond b n (firstOf count (suc n) test)
-    go true h = omega arith
-    go false h = omega arith
+    go : (b : Bool) → (suc n ≤ firstOf count (suc n) test) × (firstOf count (suc n) test ≤ suc n + count)
+        → (n ≤ cond b n (firstOf count (suc n) test)) × (cond b n (firstOf count (suc n) test) ≤ n + suc count)
+    go true h = (omega arith, omega arith)
+    go false h = (omega arith, omega arith)
 
 first-either : (count n : ℕ) (one two both : ℕ → Bool) → ((m : ℕ) → both m ≡ (one m || two m)) → firstOf count n both ≡ min (firstOf count n one) (firstOf count n two)
 unfolding firstOf
 first-either zero n one two both h = omega arith
 first-either (suc count) n one two both h =
     rw (h n, first-either count (suc n) one two both h)
-    (go (one n) (two n) (firstOf count (suc n) one) (firstOf count (suc n) two) (first-above count (suc n) one) (first-above count (suc n) two))
+    (go (one n) (two n) _ _ (first-within count (suc n) one .0) (first-within count (suc n) two .0))
   where
     go : (a b : Bool) (x y : ℕ) → suc n ≤ x → suc n ≤ y → cond (a || b) n (min x y) ≡ min (cond a n x) (cond b n y)
     go true true x y p q = omega arith
@@ -44,38 +45,33 @@ least-one false n h = least-none
 abbrev pub Counted : ℕ → Type 0
 Counted n = leastFault (n ∷ []) ≡ n
 
-module _ where
-  pub counted-8 : Counted 8
-  unfolding leastFault firstOf any
-  counted-8 = refl
+counted : (Counted 8) × (Counted 9) × (Counted 10) × (Counted 11) × (Counted 12) × (Counted 13) × (Counted 14) × (Counted 15)
+unfolding leastFault firstOf any
+counted = (refl, refl, refl, refl, refl, refl, refl, refl)
 
-  pub counted-9 : Counted 9
-  unfolding leastFault firstOf any
-  counted-9 = refl
+pub counted-8 : Counted 8
+counted-8 = counted .0
 
-  pub counted-10 : Counted 10
-  unfolding leastFault firstOf any
-  counted-10 = refl
+pub counted-9 : Counted 9
+counted-9 = counted .1
 
-  pub counted-11 : Counted 11
-  unfolding leastFault firstOf any
-  counted-11 = refl
+pub counted-10 : Counted 10
+counted-10 = counted .2
 
-  pub counted-12 : Counted 12
-  unfolding leastFault firstOf any
-  counted-12 = refl
+pub counted-11 : Counted 11
+counted-11 = counted .3
 
-  pub counted-13 : Counted 13
-  unfolding leastFault firstOf any
-  counted-13 = refl
+pub counted-12 : Counted 12
+counted-12 = counted .4
 
-  pub counted-14 : Counted 14
-  unfolding leastFault firstOf any
-  counted-14 = refl
+pub counted-13 : Counted 13
+counted-13 = counted .5
 
-  pub counted-15 : Counted 15
-  unfolding leastFault firstOf any
-  counted-15 = refl
+pub counted-14 : Counted 14
+counted-14 = counted .6
+
+pub counted-15 : Counted 15
+counted-15 = counted .7
 
 first-sentence : (a b c d e f g h : Bool)
     → firstThatHolds 8 (a ∷ b ∷ c ∷ d ∷ e ∷ f ∷ g ∷ h ∷ [])
@@ -96,15 +92,6 @@ pub least-sentence : (contract : Contract) → firstThatHolds 8 (contractSentenc
 unfolding leastFault firstOf
 least-sentence contract = first-sentence _ _ _ _ _ _ _ _
 
-first-bounded : (count n : ℕ) (test : ℕ → Bool) → firstOf count n test ≤ n + count
-unfolding firstOf
-first-bounded zero n test = omega arith
-first-bounded (suc count) n test = go (test n) (first-bounded count (suc n) test)
-  where
-    go : (b : Bool) → firstOf count (suc n) test ≤ suc n + count → cond b n (firstOf count (suc n) test) ≤ n + suc count
-    go true h = omega arith
-    go false h = omega arith
-
 pub least-bounded : (faults : List ℕ) → leastFault faults ≤ 16
 unfolding leastFault
-least-bounded faults = first-bounded 8 8 (λ n. any (eqb n) faults)
+least-bounded faults = first-within 8 8 (λ n. any (eqb n) faults) .1

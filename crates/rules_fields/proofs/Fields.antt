@@ -1,11 +1,11 @@
 -- Faults of a list's elements one after another, and of a field's own owner code.
-use Rattle.kit.specs.Names.{_≡_, ap, sym, _∙_, Bool, true, false, not, cond, List, [], _∷_, _++_, ℕ, suc, _+_, _-_, _/_, _<_, _≤_, min}
+use Rattle.kit.specs.Names.{_≡_, ap, sym, _∙_, true, false, not, cond, List, [], _∷_, append-nil, ℕ, suc, _+_, _-_, _/_, _<_, _≤_, min}
 use Rattle.kit.specs.Names.{arith, add-one, eqb, length, getD, drop, length-map, drop-of-length-le, drop-cons, ne-eqb}
 use Rattle.definitions.specs.Basics.{flatMap}
 use Rattle.definitions.specs.ContractFile.{fieldOf}
 use Rattle.definitions.specs.Numbers.{fault}
 use Rattle.rules_faults.specs.Faults.{leastFault}
-use Rattle.rules_faults.proofs.Faults.{least-append, least-none, least-bounded, counted-8}
+use Rattle.rules_faults.proofs.Faults.{least-append, least-none, least-one, least-bounded, counted-8}
 use Rattle.file_decoded.specs.Slices.{fieldsFrom}
 use Rattle.file_decoded.proofs.Records.{fields-length}
 use Rattle.rules_scopes.specs.declared.Declared.{Declared}
@@ -41,10 +41,6 @@ pub count-fields : (fields : List ℕ) → length (fieldsIn fields) ≡ length f
 count-fields fields = length-map (fieldsFrom (length fields / 3) fields 0) fieldOf ∙ fields-length (length fields / 3) fields 0
 
 module _ (fields : List ℕ) (f : ℕ) (d : Declared) (is : IsField (length fields / 3) (fieldOn fields f) d) where
-  one-fault : (b : Bool) → leastFault (fault b 8 ++ []) ≡ cond b 8 16
-  one-fault true = counted-8
-  one-fault false = least-none
-
   pub owner-tagged : d .tagged ≡ true → 16 ≡ ownerFault fields f
   unfolding flatMap
   owner-tagged e = rw (is .owner, e) (sym least-none)
@@ -56,4 +52,6 @@ module _ (fields : List ℕ) (f : ℕ) (d : Declared) (is : IsField (length fiel
   pub owner-named : (named : Declared) (r : ℕ) → d .tagged ≡ false → (d .owner ≡ 0 → ⊥) → IsField (length fields / 3) (fieldOn fields (d .owner - 10)) named
       → r ≡ cond (not (eqb (named .shape) 1)) 8 16 → r ≡ ownerFault fields f
   unfolding flatMap
-  owner-named named r e o there h = rw (is .owner, e, ne-eqb (d .owner) 0 o, there .shape, one-fault (not (eqb (named .shape) 1))) h
+  owner-named named r e o there h =
+      let unfit = not (eqb (named .shape) 1) in
+      rw (is .owner, e, ne-eqb (d .owner) 0 o, there .shape, append-nil (fault unfit 8), least-one unfit 8 counted-8) h

@@ -1,9 +1,10 @@
 -- The judgement that code makes of each kind of expression is right if those of its parts are.
-use Rattle.kit.specs.Names.{_≡_, refl, sym, _∙_, Bool, true, false, not, cond, _&&_, _||_, _++_, none, some, ℕ, zero, suc, _+_, _≤_, _<_}
+use Rattle.kit.specs.Names.{_≡_, refl, _∙_, Bool, true, false, not, cond, _&&_, _||_, _++_, none, some, ℕ, _+_, _≤_, _<_}
 use Rattle.kit.specs.Names.{arith, eqb, leb, length, eqb-true}
-use Rattle.definitions.specs.ContractFile.{finalName, parameterName, Expression, constant, me, field, entry, parameter, Scope, fieldAt, parameterAt, dataTypeOf, dataTypeCode, typeOf}
+use Rattle.definitions.specs.ContractFile.{finalName, parameterName, Expression, constant, me, field, entry, parameter, Scope, fieldAt, parameterAt, dataTypeOf, typeOf}
 use Rattle.definitions.specs.Owners.{Links, ownerOf, nameOf, placeOwner}
 use Rattle.definitions.specs.Numbers.{expressionFaults, entryFaults, fault, readFault}
+use Rattle.theory_laws.proofs.Codes.{type-code}
 use Rattle.rules_faults.specs.Faults.{leastFault}
 use Rattle.rules_faults.proofs.Faults.{least-append, least-none, least-one, counted-8, counted-9, counted-10}
 use Rattle.rules_owners.specs.Numbering.{nameWith, ownerWith}
@@ -16,34 +17,22 @@ use Rattle.rules_codes.proofs.Codes.{public-code, no-name, tagged-code, place-o
 use Rattle.rules_judgements.specs.Judging.{JudgedAs, constantJudged, meJudged, fieldJudged, entryFault, entryJudged, parameterJudged}
 use Rattle.rules_judgements.specs.declared.Judged.{Judged}
 
-name-final : (f : ℕ) → nameWith (10 + f) ≡ some (finalName f)
-name-final f = rw (above-eqb (10 + f) 0 (omega arith), final-numbered f)
-
-name-argument : (k : ℕ) → k < 8 → nameWith (2 + k) ≡ some (parameterName k)
-name-argument k h = rw (above-eqb (2 + k) 0 (omega arith), argument-numbered k h)
-
-constant-type : (code : ℕ) → code ≤ 2 → dataTypeCode (dataTypeOf code) ≡ code
-constant-type zero h = refl
-constant-type (suc zero) h = refl
-constant-type (suc (suc zero)) h = refl
-constant-type (suc (suc (suc n))) h = absurd (omega arith)
+listed-if : (count : ℕ) → 0 < count → (b : Bool) (a : ℕ) → (b ≡ true → a < count) → cond b a 0 < count
+listed-if count room true a h = h refl
+listed-if count room false a h = room
 
 module _ (scope : Scope) (linked : Links) (count : ℕ) (enough : 10 ≤ count) where
   pub constant-is : (code value : ℕ) → code ≤ 2 → JudgedAs scope linked count (constant (dataTypeOf code) value) (constantJudged code)
   unfolding typeOf ownerOf nameOf expressionFaults
-  constant-is code value h = record { type = constant-type code h; owner = refl; name = refl; fault = least-none; ownerListed = omega arith; nameListed = omega arith }
+  constant-is code value h = record { type = type-code code h; owner = refl; name = refl; fault = least-none; ownerListed = omega arith; nameListed = omega arith }
 
   pub me-is : JudgedAs scope linked count me meJudged
   unfolding typeOf ownerOf nameOf expressionFaults
   me-is = record { type = refl; owner = refl; name = refl; fault = least-none; ownerListed = omega arith; nameListed = omega arith }
 
   field-name : (f : ℕ) (final : Bool) → cond final (some (finalName f)) none ≡ nameWith (cond final (10 + f) 0)
-  field-name f true = sym (name-final f)
+  field-name f true = rw (above-eqb (10 + f) 0 (omega arith), final-numbered f)
   field-name f false = refl
-
-  field-name-listed : (f : ℕ) → 10 + f < count → (final : Bool) → cond final (10 + f) 0 < count
-  field-name-listed f h true = h
-  field-name-listed f h false = omega arith
 
   pub field-is : (fields f : ℕ) (d : Declared) → 10 + fields ≤ count → 10 + f < count → IsField fields (fieldAt (scope .fields) f) d
       → JudgedAs scope linked count (field f) (fieldJudged linked f d)
@@ -56,7 +45,7 @@ module _ (scope : Scope) (linked : Links) (count : ℕ) (enough : 10 ≤ count) 
         name = rw (i .shape) (field-name f (eqb (d .shape) 1));
         fault = simp least-append (rw (i .shape, own, least-one (eqb (d .shape) 2) 8 counted-8));
         ownerListed = place-listed fields (fieldAt (scope .fields) f) d 0 i count room (omega arith);
-        nameListed = field-name-listed f h (eqb (d .shape) 1);
+        nameListed = listed-if count (omega arith) (eqb (d .shape) 1) (10 + f) (λ e. h);
       }
 
   pub entry-fault-is : (fields f : ℕ) (d : Declared) (e : Expression) (key : Judged) → IsField fields (fieldAt (scope .fields) f) d → JudgedAs scope linked count e key
@@ -97,16 +86,12 @@ module _ (scope : Scope) (linked : Links) (count : ℕ) (enough : 10 ≤ count) 
         fault = simp least-append
             (rw (l, i .private, caller-code (not (eqb (p .owner) 0)), least-one (leb present k) 8 counted-8));
         ownerListed = caller-listed count enough (not (eqb (p .owner) 0));
-        nameListed = listed (eqb (p .owner) 0) refl (eqb (p .kind) 2);
+        nameListed = listed-if count (omega arith) (eqb (p .owner) 0) _ (λ e. let few = i .present (eqb-true (p .owner) 0 e) in
+            listed-if count (omega arith) (eqb (p .kind) 2) (2 + k) (λ d. omega (arith, few)));
       }
     where
       named : (a : Bool) → eqb (p .owner) 0 ≡ a → (b : Bool) → cond (b && not (not a)) (some (parameterName k)) none ≡ nameWith (cond a (cond b (2 + k) 0) 0)
-      named true e true = sym (name-argument k (i .present (eqb-true (p .owner) 0 e)))
+      named true e true = rw (above-eqb (2 + k) 0 (omega arith), argument-numbered k (i .present (eqb-true (p .owner) 0 e)))
       named true e false = refl
       named false e true = refl
       named false e false = refl
-
-      listed : (a : Bool) → eqb (p .owner) 0 ≡ a → (b : Bool) → cond a (cond b (2 + k) 0) 0 < count
-      listed true e true = let h = i .present (eqb-true (p .owner) 0 e) in omega arith
-      listed true e false = omega arith
-      listed false e b = omega arith

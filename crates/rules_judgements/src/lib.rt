@@ -67,16 +67,14 @@ pub fn field_judged(classes: &[u16], f: u16, d: Declared) -> Judged
     ensures { λ r. ⌜ r ≡ fieldJudged (linkedBy (now (classes .entry))) f d ⌝ }
 {
     let owner = place_owner(d, 0);
-    let name = final_name(f, d);
-    let fault = least(
-        number_if(d.shape == MAPPING_SHORT, 8),
-        unread(classes, owner),
-    );
     Judged {
         kind: d.kind,
         owner: owner,
-        name: name,
-        fault: fault,
+        name: final_name(f, d),
+        fault: least(
+            number_if(d.shape == MAPPING_SHORT, 8),
+            unread(classes, owner),
+        ),
     }
 }
 
@@ -98,12 +96,10 @@ pub fn parameter_judged(classes: &[u16], k: u16, count: usize, p: Given) -> Judg
     ensures { λ r. ⌜ r ≡ parameterJudged (linkedBy (now (classes .entry))) k count p ⌝ }
 {
     let owner = given_if(!(p.owner == EVERYONE_CODE_SHORT), CALLER);
-    let name = argument_name(k, p);
-    let fault = least(number_if(count <= (k as usize), 8), unread(classes, owner));
     Judged {
         kind: p.kind,
         owner: owner,
-        name: name,
-        fault: fault,
+        name: argument_name(k, p),
+        fault: least(number_if(count <= (k as usize), 8), unread(classes, owner)),
     }
 }

@@ -27,13 +27,10 @@ fn name_of(fields: &[u16], parameters: &[u16], nodes: &[u16], n: usize) -> u16
     let kind = node.kind;
     let arg = node.arg;
     match kind {
-        CONSTANT_SHORT => 0,
         FIELD_SHORT => final_name(arg, field_from(fields, arg)),
-        ENTRY_SHORT => 0,
         PARAMETER_SHORT => argument_name(arg, parameter_from(parameters, arg)),
-        OPERATOR_SHORT => 0,
-        NOT_SHORT => 0,
-        REVEAL_SHORT => 0,
+        CONSTANT_SHORT | OPERATOR_SHORT | REVEAL_SHORT => 0,
+        ENTRY_SHORT | NOT_SHORT => 0,
         _ => CALLER,
     }
 }

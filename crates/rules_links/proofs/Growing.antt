@@ -1,5 +1,5 @@
 -- Links learnt one after the other, and none learnt.
-use Rattle.kit.specs.Names.{_≡_, refl, _∙_, Bool, true, false, _||_, true≢false, List, ℕ, length}
+use Rattle.kit.specs.Names.{_≡_, refl, _∙_, Bool, true, _||_, true≢false, List, ℕ, length}
 use Rattle.definitions.specs.Owners.{Links}
 use Rattle.theory_laws.proofs.TruthValues.{or-left, or-right}
 use Rattle.rules_links.specs.Classes.{Classed, linkedBy, Learnt}

@@ -1,3 +1,4 @@
 pub mod Names
 pub mod Growing
+pub mod Places
 pub mod Joining

@@ -17,8 +17,3 @@ pub known-below : (count : ℕ) → 10 ≤ count → (name : Name) → known cou
 known-below count enough meName h = omega arith
 known-below count enough (finalName f) h = ltb-true (10 + f) count h
 known-below count enough (parameterName k) h = let x = ltb-true k 8 h in omega arith
-
-pub number-positive : (name : Name) → 0 < numberOfName name
-number-positive meName = omega arith
-number-positive (finalName f) = omega arith
-number-positive (parameterName k) = omega arith

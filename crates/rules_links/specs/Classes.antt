@@ -26,10 +26,6 @@ linkedBy classes a b =
 abbrev pub exchanged : ℕ → ℕ → ℕ → ℕ
 exchanged old new class = cond (eqb class old) new class
 
-pub record Exchanged (old new : ℕ) (before after : List ℕ) : Type 0 where
-  pub long : length after ≡ length before
-  pub each : (j : ℕ) → j < length before → getD after j 0 ≡ exchanged old new (getD before j 0)
-
 -- Links learnt on the way through a statement or a condition: the classes afterwards stand for them; where nothing was added, they are the
 -- classes before.
 pub record Learnt (before after : List ℕ) (added : Bool) (linked : Links) : Type 0 where

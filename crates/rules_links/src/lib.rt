@@ -4,7 +4,7 @@
 ghost use Rattle.kit.specs.Names.{_≡_, _<_, _≤_, eqb, length, getD};
 ghost use Rattle.definitions.specs.Owners.{noLinks, withLinkOf};
 ghost use Rattle.rules_owners.specs.Numbering.{nameWith};
-ghost use Rattle.rules_links.specs.Classes.{Classed, linkedBy, exchanged, Exchanged, Learnt};
+ghost use Rattle.rules_links.specs.Classes.{Classed, linkedBy, exchanged, Learnt};
 
 fn exchange(class: u16, old: u16, new: u16) -> u16
     ensures { λ r. ⌜ r ≡ exchanged old new class ⌝ }
@@ -36,19 +36,8 @@ pub fn same_class(classes: &[u16], a: u16, b: u16) -> bool
     classes[i] == classes[j]
 }
 
-// Each class number that is `old` becomes `new`.
-fn join(classes: &mut [u16], old: u16, new: u16)
-    ensures { λ _. ⌜ Exchanged old new (now (classes .entry)) (now (classes .exit)) ⌝ }
-{
-    let count = classes.len();
-    let mut i: usize = 0;
-    while i < count {
-        classes[i] = exchange(classes[i], old, new);
-        i += 1;
-    }
-}
-
-// The names of two numbers become linked; 0 is no name. The answer is whether there was something to link.
+// The names of two numbers become linked: the class of the one becomes that of the other. 0 is no name. The answer is whether there was
+// something to link.
 pub fn link(classes: &mut [u16], a: u16, b: u16) -> bool
     requires { ⌜ (Classed (now classes)) × (a < length (now classes)) × (b < length (now classes)) ⌝ }
     ensures { λ r. ⌜ Learnt (now (classes .entry)) (now (classes .exit)) r
@@ -64,7 +53,12 @@ pub fn link(classes: &mut [u16], a: u16, b: u16) -> bool
     let j = b as usize;
     let old = classes[i];
     let new = classes[j];
-    join(classes, old, new);
+    let count = classes.len();
+    let mut k: usize = 0;
+    while k < count {
+        classes[k] = exchange(classes[k], old, new);
+        k += 1;
+    }
     true
 }
 

@@ -1,11 +1,13 @@
--- Marking one list of nodes after another, and the nodes under a node: those under its parts, and then its own.
-use Rattle.kit.specs.Names.{_≡_, refl, ap, ap₂, _∙_, true, List, [], _∷_, _++_, ℕ, zero, suc, _<_, arith, ltb, length, set, length-set}
-use Rattle.kit.specs.Names.{ltb-true}
+-- Marking one list of nodes after another, and the nodes at a place: those of its parts, and then its own.
+use mathlib.Core.List.{Memᴰ·of-map}
+use Rattle.kit.specs.Names.{_≡_, refl, ap, ap₂, _∙_, Bool, true, false, cond, List, [], _∷_, _++_, List·Memᴰ, List·Memᴰ·head, List·Memᴰ·tail}
+use Rattle.kit.specs.Names.{List·Memᴰ·not-nil, List·Memᴰ·append-cases, Memᴰ·append-left, Memᴰ·append-right, ⊎-elim, map, ℕ, zero, suc, _<_}
+use Rattle.kit.specs.Names.{arith, ltb, length, set, length-set, ltb-true}
 use Rattle.definitions.specs.Basics.{all, flatMap}
-use Rattle.definitions.specs.ContractFile.{Node, expressionNode, statementNode, unknownNode, nodeAt, children, expressionParts, statementParts}
+use Rattle.definitions.specs.ContractFile.{Node, nodeAt, children, expressionParts, isExpression, isStatement}
 use Rattle.theory_laws.proofs.TruthValues.{and-left, and-right}
 use Rattle.theory_trees.specs.Trees.{Falling}
-use Rattle.rules_marks.specs.Marks.{partsOfExpression, expressionsOfStatement, statementsOfStatement, expressionNumbers, statementNumbers, expressionsUnder, statementsUnder, marked}
+use Rattle.rules_marks.specs.Marks.{expressionsOfStatement, Place, expression, statement, numberOf, partsAt, ownAt, numbersAt, numbersUnder, marked}
 
 pub marked-append : (owner : ℕ → ℕ) (a b column : List ℕ) → marked owner (a ++ b) column ≡ marked owner b (marked owner a column)
 unfolding marked
@@ -17,74 +19,48 @@ unfolding marked
 marked-length owner [] column = refl
 marked-length owner (n ∷ ns) column = marked-length owner ns (set column n (owner n)) ∙ length-set column n (owner n)
 
-flat-same : (n : ℕ) (f g : ℕ → List ℕ) (same : (m : ℕ) → m < n → f m ≡ g m) (xs : List ℕ) → all (λ x. ltb x n) xs ≡ true → flatMap f xs ≡ flatMap g xs
-unfolding all flatMap
-flat-same n f g same [] h = refl
-flat-same n f g same (x ∷ xs) h =
-    ap₂ (λ (a b : List ℕ). a ++ b) (same x (ltb-true x n (and-left (ltb x n) _ h))) (flat-same n f g same xs (and-right (ltb x n) _ h))
+flat-same : {A : Type 0} (f g : A → List ℕ) (xs : List A) → ((x : A) → List·Memᴰ x xs → f x ≡ g x) → flatMap f xs ≡ flatMap g xs
+unfolding flatMap
+flat-same f g [] same = refl
+flat-same f g (x ∷ xs) same = ap₂ (λ (a b : List ℕ). a ++ b) (same x (List·Memᴰ·head refl)) (flat-same f g xs (λ y d. same y (List·Memᴰ·tail d)))
 
-module _ (n : ℕ) where
-  all-first : (a b : List ℕ) → all (λ x. ltb x n) (a ++ b) ≡ true → all (λ x. ltb x n) a ≡ true
-  unfolding all
-  all-first [] b h = refl
-  all-first (x ∷ xs) b h = rw (and-left (ltb x n) _ h) (all-first xs b (and-right (ltb x n) _ h))
+all-at : (test : ℕ → Bool) (m : ℕ) (xs : List ℕ) → all test xs ≡ true → List·Memᴰ m xs → test m ≡ true
+unfolding all
+all-at test m (x ∷ xs) h (List·Memᴰ·head e) = rw e (and-left (test x) (all test xs) h)
+all-at test m (x ∷ xs) h (List·Memᴰ·tail d) = all-at test m xs (and-right (test x) (all test xs) h) d
 
-  all-second : (a b : List ℕ) → all (λ x. ltb x n) (a ++ b) ≡ true → all (λ x. ltb x n) b ≡ true
-  unfolding all
-  all-second [] b h = h
-  all-second (x ∷ xs) b h = all-second xs b (and-right (ltb x n) _ h)
+module _ (nodes : List Node) where
+  -- A part is one of the node's children.
+  some-of : (b : Bool) (make : ℕ → Place) (xs : List ℕ) (q : Place) → List·Memᴰ q (map make (cond b xs [])) → (m : ℕ) × List·Memᴰ m xs × (make m ≡ q)
+  some-of true make xs q d = Memᴰ·of-map make xs d
+  some-of false make xs q d = absurd (List·Memᴰ·not-nil d)
 
-  parts-below : (x : Node) → all (λ child. ltb child n) (children x) ≡ true → all (λ child. ltb child n) (partsOfExpression x) ≡ true
-  unfolding expressionParts statementParts partsOfExpression all
-  parts-below (expressionNode fields expressions make) h = all-first expressions [] h
-  parts-below (statementNode fields expressions statements make) h = refl
-  parts-below unknownNode h = refl
+  pub part-child : (p q : Place) → List·Memᴰ q (partsAt nodes p) → List·Memᴰ (numberOf q) (children (nodeAt nodes (numberOf p)))
+  unfolding partsAt
+  part-child (expression n) q d =
+      let t = some-of (isExpression (nodeAt nodes n)) expression _ q d in
+      rw (← (t .2)) (Memᴰ·append-left _ (t .1))
+  part-child (statement n) q d =
+      ⊎-elim (λ h. let t = some-of (isStatement (nodeAt nodes n)) expression _ q h in rw (← (t .2)) (Memᴰ·append-left _ (t .1)))
+      (λ h. let t = Memᴰ·of-map statement _ h in rw (← (t .2)) (Memᴰ·append-right (expressionParts (nodeAt nodes n)) (t .1)))
+      (List·Memᴰ·append-cases (map expression (expressionsOfStatement (nodeAt nodes n))) d)
 
-  expressions-below : (x : Node) → all (λ child. ltb child n) (children x) ≡ true → all (λ child. ltb child n) (expressionsOfStatement x) ≡ true
-  unfolding expressionParts statementParts expressionsOfStatement all
-  expressions-below (expressionNode fields expressions make) h = refl
-  expressions-below (statementNode fields expressions statements make) h = all-first expressions statements h
-  expressions-below unknownNode h = refl
+  module _ (falling : Falling nodes) where
+    pub child-below : (n m : ℕ) → List·Memᴰ m (children (nodeAt nodes n)) → m < n
+    child-below n m d = ltb-true m n (all-at (λ child. ltb child n) m (children (nodeAt nodes n)) (falling .below n) d)
 
-  statements-below : (x : Node) → all (λ child. ltb child n) (children x) ≡ true → all (λ child. ltb child n) (statementsOfStatement x) ≡ true
-  unfolding expressionParts statementParts statementsOfStatement all
-  statements-below (expressionNode fields expressions make) h = refl
-  statements-below (statementNode fields expressions statements make) h = all-second expressions statements h
-  statements-below unknownNode h = refl
+    -- More levels than a node's number change nothing.
+    levels : (k m : ℕ) (p : Place) → numberOf p < k → numberOf p < m → numbersAt k nodes p ≡ numbersAt m nodes p
+    unfolding numbersAt
+    levels zero m p a b = absurd (omega arith)
+    levels (suc k) zero p a b = absurd (omega arith)
+    levels (suc k) (suc m) p a b =
+        ap (λ (l : List ℕ). l ++ ownAt p) (flat-same _ _ (partsAt nodes p) (λ q d.
+        let h = child-below (numberOf p) (numberOf q) (part-child p q d) in
+        levels k m q (omega arith) (omega arith)))
 
--- More levels than a node's number change nothing.
-module _ (nodes : List Node) (falling : Falling nodes) where
-  expression-levels : (k m n : ℕ) → n < k → n < m → expressionNumbers k nodes n ≡ expressionNumbers m nodes n
-  unfolding expressionNumbers
-  expression-levels zero m n a b = absurd (omega arith)
-  expression-levels (suc k) zero n a b = absurd (omega arith)
-  expression-levels (suc k) (suc m) n a b =
-      ap (λ (l : List ℕ). l ++ (n ∷ [])) (flat-same n (expressionNumbers k nodes) (expressionNumbers m nodes)
-      (λ c h. expression-levels k m c (omega arith) (omega arith)) (partsOfExpression (nodeAt nodes n)) (parts-below n (nodeAt nodes n) (falling .below n)))
-
-  statement-levels : (k m n : ℕ) → n < k → n < m → statementNumbers k nodes n ≡ statementNumbers m nodes n
-  unfolding statementNumbers
-  statement-levels zero m n a b = absurd (omega arith)
-  statement-levels (suc k) zero n a b = absurd (omega arith)
-  statement-levels (suc k) (suc m) n a b =
-      ap₂ (λ (l t : List ℕ). l ++ t)
-      (flat-same n (expressionNumbers k nodes) (expressionNumbers m nodes) (λ c h. expression-levels k m c (omega arith) (omega arith))
-      (expressionsOfStatement (nodeAt nodes n)) (expressions-below n (nodeAt nodes n) (falling .below n)))
-      (flat-same n (statementNumbers k nodes) (statementNumbers m nodes) (λ c h. statement-levels k m c (omega arith) (omega arith))
-      (statementsOfStatement (nodeAt nodes n)) (statements-below n (nodeAt nodes n) (falling .below n)))
-
-  pub expressions-unfold : (n : ℕ) → expressionsUnder nodes n ≡ flatMap (expressionsUnder nodes) (partsOfExpression (nodeAt nodes n)) ++ (n ∷ [])
-  unfolding expressionNumbers
-  expressions-unfold n =
-      ap (λ (l : List ℕ). l ++ (n ∷ [])) (flat-same n (expressionNumbers n nodes) (expressionsUnder nodes)
-      (λ c h. expression-levels n (suc c) c h (omega arith)) (partsOfExpression (nodeAt nodes n)) (parts-below n (nodeAt nodes n) (falling .below n)))
-
-  pub statements-unfold : (n : ℕ) → statementsUnder nodes n
-      ≡ flatMap (expressionsUnder nodes) (expressionsOfStatement (nodeAt nodes n)) ++ flatMap (statementsUnder nodes) (statementsOfStatement (nodeAt nodes n))
-  unfolding statementNumbers
-  statements-unfold n =
-      ap₂ (λ (l t : List ℕ). l ++ t)
-      (flat-same n (expressionNumbers n nodes) (expressionsUnder nodes) (λ c h. expression-levels n (suc c) c h (omega arith))
-      (expressionsOfStatement (nodeAt nodes n)) (expressions-below n (nodeAt nodes n) (falling .below n)))
-      (flat-same n (statementNumbers n nodes) (statementsUnder nodes) (λ c h. statement-levels n (suc c) c h (omega arith))
-      (statementsOfStatement (nodeAt nodes n)) (statements-below n (nodeAt nodes n) (falling .below n)))
+    pub numbers-unfold : (p : Place) → numbersUnder nodes p ≡ flatMap (numbersUnder nodes) (partsAt nodes p) ++ ownAt p
+    unfolding numbersAt
+    numbers-unfold p =
+        ap (λ (l : List ℕ). l ++ ownAt p) (flat-same _ _ (partsAt nodes p) (λ q d.
+        levels (numberOf p) (suc (numberOf q)) q (child-below (numberOf p) (numberOf q) (part-child p q d)) (omega arith)))

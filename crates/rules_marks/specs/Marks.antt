@@ -1,44 +1,47 @@
 -- What judging leaves in the column of owners.
-use Rattle.kit.specs.Names.{List, [], _∷_, _++_, ℕ, zero, suc, set}
+use Rattle.kit.specs.Names.{cond, List, [], _∷_, _++_, map, ℕ, zero, suc, set}
 use Rattle.definitions.specs.Basics.{flatMap}
-use Rattle.definitions.specs.ContractFile.{Scope, Node, expressionNode, statementNode, unknownNode, nodeAt}
+use Rattle.definitions.specs.ContractFile.{Scope, Node, nodeAt, expressionParts, statementParts, isExpression, isStatement}
 use Rattle.definitions.specs.Owners.{ownerOf}
 use Rattle.theory_trees.specs.Trees.{expressionIn}
 use Rattle.rules_owners.specs.Numbering.{numberOfOwner}
 
--- The parts of a node that stands as an expression, and as a statement.
-unfoldable pub partsOfExpression : Node → List ℕ
-partsOfExpression (expressionNode _ expressions _) = expressions
-partsOfExpression (statementNode _ _ _ _) = []
-partsOfExpression unknownNode = []
+-- The expressions that are parts of a node which stands as an expression, and as a statement.
+abbrev pub partsOfExpression : Node → List ℕ
+partsOfExpression node = cond (isExpression node) (expressionParts node) []
 
-unfoldable pub expressionsOfStatement : Node → List ℕ
-expressionsOfStatement (expressionNode _ _ _) = []
-expressionsOfStatement (statementNode _ expressions _ _) = expressions
-expressionsOfStatement unknownNode = []
+abbrev pub expressionsOfStatement : Node → List ℕ
+expressionsOfStatement node = cond (isStatement node) (expressionParts node) []
 
-unfoldable pub statementsOfStatement : Node → List ℕ
-statementsOfStatement (expressionNode _ _ _) = []
-statementsOfStatement (statementNode _ _ statements _) = statements
-statementsOfStatement unknownNode = []
+-- A node's number where an expression is due, or a statement; the node, and its parts.
+pub data Place : Type 0 where
+  expression statement : ℕ → Place
 
--- The numbers of an expression's nodes, parts first; and of all expressions' nodes of a statement.
-unfoldable pub expressionNumbers : ℕ → List Node → ℕ → List ℕ
-expressionNumbers zero nodes n = []
-expressionNumbers (suc levels) nodes n = flatMap (expressionNumbers levels nodes) (partsOfExpression (nodeAt nodes n)) ++ (n ∷ [])
+abbrev pub numberOf : Place → ℕ
+numberOf = elim [ expression n ↦ n | statement n ↦ n ]
 
-unfoldable pub statementNumbers : ℕ → List Node → ℕ → List ℕ
-statementNumbers zero nodes n = []
-statementNumbers (suc levels) nodes n =
-    flatMap (expressionNumbers levels nodes) (expressionsOfStatement (nodeAt nodes n))
-    ++ flatMap (statementNumbers levels nodes) (statementsOfStatement (nodeAt nodes n))
+unfoldable pub partsAt : List Node → Place → List Place
+partsAt nodes (expression n) = map expression (partsOfExpression (nodeAt nodes n))
+partsAt nodes (statement n) =
+    map expression (expressionsOfStatement (nodeAt nodes n)) ++ map statement (statementParts (nodeAt nodes n))
+
+-- The numbers of the expressions' nodes at a place, parts first.
+abbrev pub ownAt : Place → List ℕ
+ownAt = elim [ expression n ↦ n ∷ [] | statement n ↦ [] ]
+
+unfoldable pub numbersAt : ℕ → List Node → Place → List ℕ
+numbersAt zero nodes place = []
+numbersAt (suc levels) nodes place = flatMap (numbersAt levels nodes) (partsAt nodes place) ++ ownAt place
 
 -- A child's number is below its parent's, so n + 1 levels hold all that is under node n.
+abbrev pub numbersUnder : List Node → Place → List ℕ
+numbersUnder nodes place = numbersAt (suc (numberOf place)) nodes place
+
 abbrev pub expressionsUnder : List Node → ℕ → List ℕ
-expressionsUnder nodes n = expressionNumbers (suc n) nodes n
+expressionsUnder nodes n = numbersUnder nodes (expression n)
 
 abbrev pub statementsUnder : List Node → ℕ → List ℕ
-statementsUnder nodes n = statementNumbers (suc n) nodes n
+statementsUnder nodes n = numbersUnder nodes (statement n)
 
 -- A column in which some nodes got their owners, one after the other.
 unfoldable pub marked : (ℕ → ℕ) → List ℕ → List ℕ → List ℕ

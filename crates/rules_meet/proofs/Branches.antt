@@ -1,4 +1,5 @@
 -- Where one branch has added no link, what both have is what was there before.
+use mathlib.Core.Bool.{and-false}
 use Rattle.kit.specs.Names.{_≡_, refl, sym, fun-ext, Bool, true, false, _&&_, List, ℕ}
 use Rattle.definitions.specs.Owners.{linkedInBoth}
 use Rattle.rules_links.specs.Classes.{Classed, linkedBy, Learnt}
@@ -11,8 +12,7 @@ both-of-less false more h = refl
 
 both-of-more : (few more : Bool) → (few ≡ true → more ≡ true) → few ≡ (more && few)
 both-of-more true more h = rw (h refl)
-both-of-more false true h = refl
-both-of-more false false h = refl
+both-of-more false more h = sym (and-false more)
 
 module _ (before one other : List ℕ) (a b : Bool) (inOne : GrownFrom before one a) (inOther : GrownFrom before other b) (whole : Classed before) where
   pub one-adds-nothing : a ≡ false → Learnt before one false (linkedInBoth (linkedBy one) (linkedBy other))

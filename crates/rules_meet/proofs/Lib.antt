@@ -1,3 +1,2 @@
 pub mod Meeting
-pub mod Room
 pub mod Branches

@@ -1,53 +1,36 @@
-// 02, Note 1: the links after an if. The numbers are visited class by class of the one branch; within such a class, those that are
-// of one class in the other branch too get one number. Each number and each class is visited once.
-use rules_chains::chained;
-use rules_chains::standing;
+// 02, Note 1: the links after an if.
 use rules_links::copy_classes;
-ghost use Rattle.kit.specs.Names.{_≡_, length, getD};
+ghost use Rattle.kit.specs.Names.{_≡_, _+_, _*_, length};
 ghost use Rattle.rules_links.specs.Classes.{Classed};
 ghost use Rattle.rules_meet.specs.Branches.{Met, Behind};
 
-// 02, Note 1: "After an if, a pair of names is linked when it was linked at the end of both branches."
-fn meet_into(one: &[u16], other: &[u16], both: &mut [u16])
-    requires { ⌜ (Classed (now one)) × (Classed (now other)) × (length (now other) ≡ length (now one))
-        × (length (now both) ≡ length (now one)) × (getD (now both) 0 0 ≡ 0) ⌝ }
-    ensures { λ _. ⌜ Met (now (one .entry)) (now (other .entry)) (now (both .exit)) ⌝ }
+// The place of a pair of classes, one of each branch, in a table of all such pairs.
+fn pair(one: u16, other: u16) -> usize
+    ensures { λ r. ⌜ r ≡ one * 74 + other ⌝ }
 {
-    let chains = chained(one);
-    // The number that stands for each class of the other branch. One that was held for an earlier class of the one branch is of
-    // that class, so nothing is cleared when a class is begun.
-    let mut held = [0u16; 74];
-    let count = one.len();
-    let mut begun: usize = 0;
-    let mut at: u16 = 0;
-    loop {
-        if at == 0 {
-            if begun == count {
-                return;
-            }
-            at = chains.last[begun];
-            begun += 1;
-            continue;
-        }
-        let i = at as usize;
-        let class = other[i] as usize;
-        let k = held[class] as usize;
-        let number = standing(held[class], one[k], at, one[i]);
-        both[i] = number;
-        held[class] = number;
-        at = chains.before[i];
-    }
+    one as usize * 74 + other as usize
 }
 
-// The same in place of the one branch's.
+// 02, Note 1: "After an if, a pair of names is linked when it was linked at the end of both branches.", in place of the one branch's
+// classes. Of the names of one pair of classes the last is the number of all.
 fn meet(classes: &mut [u16], other: &[u16])
     requires { ⌜ (Classed (now classes)) × (Classed (now other)) × (length (now other) ≡ length (now classes)) ⌝ }
     ensures { λ _. ⌜ Met (now (classes .entry)) (now (other .entry)) (now (classes .exit)) ⌝ }
 {
-    let mut both = [0u16; 74];
+    let mut last = [0u16; 5476];
     let count = classes.len();
-    meet_into(classes, other, &mut both[..count]);
-    copy_classes(&both[..count], classes);
+    let mut i: usize = 0;
+    while i < count {
+        let place = pair(classes[i], other[i]);
+        last[place] = i as u16;
+        i += 1;
+    }
+    i = 0;
+    while i < count {
+        let shared = pair(classes[i], other[i]);
+        classes[i] = last[shared];
+        i += 1;
+    }
 }
 
 // The links behind an if, in place of those at the end of the branch taken, by those before it and at the end of the other. Links only

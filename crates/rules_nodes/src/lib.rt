@@ -19,16 +19,11 @@ pub fn read_node(nodes: &[u16], n: usize) -> NodeNumbers
     ensures { λ r. ⌜ node (r .kind) (r .arg) (r .first) (r .second) (r .third) ≡ nodeFrom (now (nodes .entry)) (5 * n) ⌝ }
 {
     let at = 5 * n;
-    let kind = short_from(nodes, at);
-    let arg = short_from(nodes, at + 1);
-    let first = number_from(nodes, at + 2);
-    let second = number_from(nodes, at + 3);
-    let third = number_from(nodes, at + 4);
     NodeNumbers {
-        kind: kind,
-        arg: arg,
-        first: first,
-        second: second,
-        third: third,
+        kind: short_from(nodes, at),
+        arg: short_from(nodes, at + 1),
+        first: number_from(nodes, at + 2),
+        second: number_from(nodes, at + 3),
+        third: number_from(nodes, at + 4),
     }
 }

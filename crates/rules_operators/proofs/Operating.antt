@@ -6,7 +6,7 @@ use Rattle.definitions.specs.Numbers.{expressionFaults, fault, ownerFits}
 use Rattle.rules_faults.proofs.Faults.{least-append, least-one, counted-8, counted-9, counted-12, counted-13}
 use Rattle.rules_owners.specs.Numbering.{ownerWith}
 use Rattle.rules_codes.specs.Codes.{fitCodes}
-use Rattle.rules_codes.proofs.Codes.{fit-codes, public-code, parts-code, parts-listed}
+use Rattle.rules_codes.proofs.Codes.{public-code, parts-code, parts-listed}
 use Rattle.rules_judgements.specs.Judging.{JudgedAs}
 use Rattle.rules_judgements.specs.declared.Judged.{Judged}
 use Rattle.rules_operators.specs.Operating.{operatorJudged, negationJudged, revealJudged}
@@ -21,19 +21,11 @@ module _ (scope : Scope) (linked : Links) (count : ℕ) (enough : 10 ≤ count) 
         owner = rw (h .owner, k .owner) (parts-code (left .owner) (right .owner));
         name = refl;
         fault = simp least-append
+            (rw (h .type, k .type, h .owner, k .owner, h .fault, k .fault, public-code (left .owner), public-code (right .owner))
             (rw (
-              fit-codes (operatorOf code) (typeOf scope e) (typeOf scope f),
-              h .type,
-              k .type,
-              h .owner,
-              k .owner,
-              h .fault,
-              k .fault,
-              public-code (left .owner),
-              public-code (right .owner),
               least-one (not (fitCodes (operatorOf code) (left .kind) (right .kind))) 9 counted-9,
               least-one (isDivision (operatorOf code) && (not (eqb (left .owner) 0) || not (eqb (right .owner) 0))) 12 counted-12,
-            ));
+            )));
         ownerListed = parts-listed count enough (left .owner) (right .owner);
         nameListed = omega arith;
       }

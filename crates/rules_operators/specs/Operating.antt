@@ -7,21 +7,17 @@ use Rattle.rules_judgements.specs.Judging.{unreadFault}
 use Rattle.rules_judgements.specs.declared.Judged.{Judged}
 
 module _ (linked : Links) where
-  abbrev pub operatorFault : ℕ → Judged → Judged → ℕ
-  operatorFault code left right =
-      min (min (min (min (min (left .fault) (right .fault))
-      (cond (not (fitCodes (operatorOf code) (left .kind) (right .kind))) 9 16))
-      (unreadFault linked (left .owner)))
-      (unreadFault linked (right .owner)))
-      (cond (isDivision (operatorOf code) && (not (eqb (left .owner) 0) || not (eqb (right .owner) 0))) 12 16)
-
   abbrev pub operatorJudged : ℕ → Judged → Judged → Judged
   operatorJudged code left right =
       record {
         kind = dataTypeCode (resultType (operatorOf code));
         owner = partsNumber (left .owner) (right .owner);
         name = 0;
-        fault = operatorFault code left right;
+        fault = min (min (min (min (min (left .fault) (right .fault))
+            (cond (not (fitCodes (operatorOf code) (left .kind) (right .kind))) 9 16))
+            (unreadFault linked (left .owner)))
+            (unreadFault linked (right .owner)))
+            (cond (isDivision (operatorOf code) && (not (eqb (left .owner) 0) || not (eqb (right .owner) 0))) 12 16);
       }
 
   abbrev pub negationJudged : Judged → Judged

@@ -13,12 +13,12 @@ use rules_owners::EVERYONE;
 ghost use Rattle.kit.specs.Names.{_≡_};
 ghost use Rattle.rules_links.specs.Classes.{linkedBy};
 ghost use Rattle.rules_codes.specs.Codes.{HasClass};
-ghost use Rattle.rules_operators.specs.Operating.{operatorFault, operatorJudged};
+ghost use Rattle.rules_operators.specs.Operating.{operatorJudged};
 
-// "9. A data type doesn't fit"; "12. Operator 3 or 4 has a private operand."
-fn operator_fault(classes: &[u16], code: u16, left: Judged, right: Judged) -> u8
+// An operator on two judged operands: "9. A data type doesn't fit"; "12. Operator 3 or 4 has a private operand."
+pub fn operator_judged(classes: &[u16], code: u16, left: Judged, right: Judged) -> Judged
     requires { ⌜ (HasClass (now classes) (left .owner)) × (HasClass (now classes) (right .owner)) ⌝ }
-    ensures { λ r. ⌜ r ≡ operatorFault (linkedBy (now (classes .entry))) code left right ⌝ }
+    ensures { λ r. ⌜ r ≡ operatorJudged (linkedBy (now (classes .entry))) code left right ⌝ }
 {
     let kind = number_if(!operands_fit(code, left.kind, right.kind), 9);
     let private = either(!(left.owner == EVERYONE), !(right.owner == EVERYONE));
@@ -30,19 +30,10 @@ fn operator_fault(classes: &[u16], code: u16, left: Judged, right: Judged) -> u8
         ),
         unread(classes, right.owner),
     );
-    least(read, divisor)
-}
-
-// An operator on two judged operands.
-pub fn operator_judged(classes: &[u16], code: u16, left: Judged, right: Judged) -> Judged
-    requires { ⌜ (HasClass (now classes) (left .owner)) × (HasClass (now classes) (right .owner)) ⌝ }
-    ensures { λ r. ⌜ r ≡ operatorJudged (linkedBy (now (classes .entry))) code left right ⌝ }
-{
-    let fault = operator_fault(classes, code, left, right);
     Judged {
         kind: result_type(code),
         owner: parts_owner(left.owner, right.owner),
         name: 0,
-        fault: fault,
+        fault: least(read, divisor),
     }
 }

@@ -1,11 +1,11 @@
 -- Owners by number are the owners that the file's codes name.
-use Rattle.kit.specs.Names.{_≡_, refl, sym, Bool, true, false, cond, _&&_, _||_, false≢true, ℕ, zero, suc, _+_, _-_, _≤_, _<_, arith, eqb}
-use Rattle.kit.specs.Names.{leb, ltb, ltb-true, ltb-false, leb-true, leb-false, eqb-true, eqb-false, lt-ltb, le-ltb, le-leb, ne-eqb}
+use Rattle.kit.specs.Names.{_≡_, refl, sym, Bool, true, false, cond, _&&_, _||_, or-false, false≢true, ℕ, _+_, _-_, _≤_, _<_, arith, eqb, leb, ltb}
+use Rattle.kit.specs.Names.{ltb-true, ltb-false, leb-true, leb-false, eqb-true, eqb-false, lt-ltb, le-ltb, lt-leb, ne-eqb}
 use Rattle.definitions.specs.Basics.{isZero, any}
-use Rattle.definitions.specs.ContractFile.{finalName, parameterName, everyone, ownedBy, toFinal, isFinalCode}
-use Rattle.definitions.specs.ContractFile.{isParameterCode, ownerOfCode, fieldOwnerOfCode, fieldOfOwner, FieldRecord}
+use Rattle.definitions.specs.ContractFile.{meName, finalName, parameterName, Owner, everyone, ownedBy, isFinalCode, ownerOfCode, fieldOwnerOfCode}
+use Rattle.definitions.specs.ContractFile.{fieldOfOwner, FieldRecord}
 use Rattle.definitions.specs.Numbers.{targetInTables, fieldInTables, fieldOfDeclaredOwner}
-use Rattle.theory_laws.proofs.TruthValues.{and-parts, or-left}
+use Rattle.theory_laws.proofs.TruthValues.{and-left, and-parts, or-left}
 use Rattle.rules_owners.specs.Numbering.{nameNumbered, ownerWith, numberOfName, numberOfOwner, isFieldCode, declaredNumber, declaredOwner}
 
 pub below-eqb : (a b : ℕ) → a < b → eqb a b ≡ false
@@ -14,19 +14,14 @@ below-eqb a b h = ne-eqb a b (λ (e : a ≡ b). omega arith)
 pub above-eqb : (a b : ℕ) → b < a → eqb a b ≡ false
 above-eqb a b h = ne-eqb a b (λ (e : a ≡ b). omega arith)
 
+minus-back : (k n : ℕ) → k + n - k ≡ n
+minus-back k n = omega arith
+
 pub argument-numbered : (k : ℕ) → k < 8 → nameNumbered (2 + k) ≡ parameterName k
-argument-numbered k h =
-    let a : eqb (2 + k) 1 ≡ false = above-eqb (2 + k) 1 (omega arith) in
-    let b : ltb (2 + k) 10 ≡ true = lt-ltb (2 + k) 10 (omega arith) in
-    let c : 2 + k - 2 ≡ k = omega arith in
-    rw (a, b, c)
+argument-numbered k h = rw (above-eqb (2 + k) 1 (omega arith), lt-ltb (2 + k) 10 (omega arith), minus-back 2 k)
 
 pub final-numbered : (f : ℕ) → nameNumbered (10 + f) ≡ finalName f
-final-numbered f =
-    let a : eqb (10 + f) 1 ≡ false = above-eqb (10 + f) 1 (omega arith) in
-    let b : ltb (10 + f) 10 ≡ false = le-ltb (10 + f) 10 (omega arith) in
-    let c : 10 + f - 10 ≡ f = omega arith in
-    rw (a, b, c)
+final-numbered f = rw (above-eqb (10 + f) 1 (omega arith), le-ltb (10 + f) 10 (omega arith), minus-back 10 f)
 
 -- A number other than 0 is the caller's, a parameter's or a final's.
 pub data Numbered (n : ℕ) : Type 0 where
@@ -57,179 +52,86 @@ number-back n = go (eqb n 0) refl
     go true h = sym (eqb-true n 0 h)
     go false h = name-back n (eqb-false n 0 h)
 
--- A reveal's owner code.
-pub data Listed (code : ℕ) : Type 0 where
-  nobody : code ≡ 0 → Listed code
-  caller : code ≡ 1 → Listed code
-  final : (f : ℕ) → f < 64 → code ≡ 16 + f → Listed code
-  argument : (k : ℕ) → k < 8 → code ≡ 128 + k → Listed code
-
-pub listed : (code : ℕ) → targetInTables code ≡ true → Listed code
-listed code h = go (leb code 1) refl (isFinalCode code) refl (isParameterCode code) refl h
-  where
-    small : (n : ℕ) → n ≤ 1 → Listed n
-    small zero p = nobody refl
-    small (suc zero) p = caller refl
-    small (suc (suc n)) p = absurd (omega arith)
-
-    go : (a : Bool) → leb code 1 ≡ a → (b : Bool) → isFinalCode code ≡ b → (c : Bool) → isParameterCode code ≡ c → (a || b || c) ≡ true → Listed code
-    go true p b q c r t = small code (leb-true code 1 p)
-    go false p true q c r t =
-        let u = and-parts (leb 16 code) (ltb code 80) q in
-        let x = leb-true 16 code (u .0) in
-        let y = ltb-true code 80 (u .1) in
-        final (code - 16) (omega arith) (omega arith)
-    go false p false q true r t =
-        let u = and-parts (leb 128 code) (ltb code 136) r in
-        let x = leb-true 128 code (u .0) in
-        let y = ltb-true code 136 (u .1) in
-        argument (code - 128) (omega arith) (omega arith)
-    go false p false q false r t = absurd (false≢true t)
-
-pub owner-final : (f : ℕ) → f < 64 → ownerOfCode (16 + f) ≡ ownedBy (finalName f)
-owner-final f h =
-    let a : eqb (16 + f) 0 ≡ false = above-eqb (16 + f) 0 (omega arith) in
-    let b : eqb (16 + f) 1 ≡ false = above-eqb (16 + f) 1 (omega arith) in
-    let c : leb 16 (16 + f) ≡ true = le-leb 16 (16 + f) (omega arith) in
-    let d : ltb (16 + f) 80 ≡ true = lt-ltb (16 + f) 80 (omega arith) in
-    let e : 16 + f - 16 ≡ f = omega arith in
-    rw (a, b, c, d, e)
-
-pub owner-argument : (k : ℕ) → k < 8 → ownerOfCode (128 + k) ≡ ownedBy (parameterName k)
-owner-argument k h =
-    let a : eqb (128 + k) 0 ≡ false = above-eqb (128 + k) 0 (omega arith) in
-    let b : eqb (128 + k) 1 ≡ false = above-eqb (128 + k) 1 (omega arith) in
-    let c : leb 16 (128 + k) ≡ true = le-leb 16 (128 + k) (omega arith) in
-    let d : ltb (128 + k) 80 ≡ false = le-ltb (128 + k) 80 (omega arith) in
-    let e : 128 + k - 128 ≡ k = omega arith in
-    rw (a, b, c, d, e)
+-- What a reveal's owner code names.
+pub data Target (code : ℕ) : Owner → Type 0 where
+  nobody : code ≡ 0 → Target code everyone
+  caller : code ≡ 1 → Target code (ownedBy meName)
+  final : (f : ℕ) → f < 64 → code ≡ 16 + f → Target code (ownedBy (finalName f))
+  argument : (k : ℕ) → k < 8 → code ≡ 128 + k → Target code (ownedBy (parameterName k))
 
 module _ (code : ℕ) (h : targetInTables code ≡ true) where
-  pub target-owner : ownerWith (numberOfOwner (ownerOfCode code)) ≡ ownerOfCode code
-  target-owner = go (listed code h)
+  pub target : Target code (ownerOfCode code)
+  target = go (eqb code 0) refl (eqb code 1) refl (isFinalCode code) refl
     where
-      go : Listed code → ownerWith (numberOfOwner (ownerOfCode code)) ≡ ownerOfCode code
-      go (nobody e) = rw e
-      go (caller e) = rw e
-      go (final f p e) = rw (e, owner-final f p, above-eqb (10 + f) 0 (omega arith), final-numbered f)
-      go (argument k p e) = rw (e, owner-argument k p, above-eqb (2 + k) 0 (omega arith), argument-numbered k p)
+      go : (a : Bool) → eqb code 0 ≡ a → (b : Bool) → eqb code 1 ≡ b → (c : Bool) → isFinalCode code ≡ c → Target code
+          (cond a everyone (cond b (ownedBy meName) (cond c (ownedBy (finalName (code - 16))) (ownedBy (parameterName (code - 128))))))
+      go true p b q c r = nobody (eqb-true code 0 p)
+      go false p true q c r = caller (eqb-true code 1 q)
+      go false p false q true r =
+          let (x, y) = and-parts (leb 16 code) (ltb code 80) r in
+          let low = leb-true 16 code x in
+          final (code - 16) (omega (arith, ltb-true code 80 y)) (omega arith)
+      go false p false q false r =
+          let high = lt-leb code 1 (omega (arith, eqb-false code 0 p, eqb-false code 1 q)) in
+          let (x, y) = and-parts (leb 128 code) (ltb code 136) (rw (high, r) at h) in
+          let low = leb-true 128 code x in
+          argument (code - 128) (omega (arith, ltb-true code 136 y)) (omega arith)
+
+  pub target-owner : ownerWith (numberOfOwner (ownerOfCode code)) ≡ ownerOfCode code
+  target-owner = go target
+    where
+      go : {o : Owner} → Target code o → ownerWith (numberOfOwner o) ≡ o
+      go (nobody e) = refl
+      go (caller e) = refl
+      go (final f p e) = rw (above-eqb (10 + f) 0 (omega arith), final-numbered f)
+      go (argument k p e) = rw (above-eqb (2 + k) 0 (omega arith), argument-numbered k p)
 
   -- A target names no final that the contract has no field for.
   pub target-below : (fields : ℕ) → any (leb fields) (fieldOfOwner (ownerOfCode code)) ≡ false → numberOfOwner (ownerOfCode code) < 10 + fields
   unfolding any
-  target-below fields none = go (listed code h)
+  target-below fields = go target
     where
-      go : Listed code → numberOfOwner (ownerOfCode code) < 10 + fields
-      go (nobody e) = rw e (omega arith)
-      go (caller e) = rw e (omega arith)
-      go (final f p e) =
-          let x = leb-false fields f (or-left (leb fields f) false (rw (e, owner-final f p) at none)) in
-          rw (e, owner-final f p) (omega arith)
-      go (argument k p e) = rw (e, owner-argument k p) (omega arith)
-
--- A field's owner code.
-pub data Declared (code : ℕ) : Type 0 where
-  nobody : code ≡ 0 → Declared code
-  tag : code ≡ 2 → Declared code
-  final : (f : ℕ) → f < 64 → code ≡ 16 + f → Declared code
-
-pub declared : (code : ℕ) → isFieldCode code ≡ true → Declared code
-declared code h = go (isZero code) refl (isFinalCode code) refl (eqb code 2) refl h
-  where
-    none : (n : ℕ) → isZero n ≡ true → n ≡ 0
-    none n p = eqb-true n 0 p
-
-    go : (a : Bool) → isZero code ≡ a → (b : Bool) → isFinalCode code ≡ b → (c : Bool) → eqb code 2 ≡ c → (a || b || c) ≡ true → Declared code
-    go true p b q c r t = nobody (none code p)
-    go false p true q c r t =
-        let u = and-parts (leb 16 code) (ltb code 80) q in
-        let x = leb-true 16 code (u .0) in
-        let y = ltb-true code 80 (u .1) in
-        final (code - 16) (omega arith) (omega arith)
-    go false p false q true r t = tag (eqb-true code 2 r)
-    go false p false q false r t = absurd (false≢true t)
-
-field-owner-final : (f : ℕ) → fieldOwnerOfCode (16 + f) ≡ toFinal f
-field-owner-final f =
-    let a : eqb (16 + f) 0 ≡ false = above-eqb (16 + f) 0 (omega arith) in
-    let b : eqb (16 + f) 2 ≡ false = above-eqb (16 + f) 2 (omega arith) in
-    let c : 16 + f - 16 ≡ f = omega arith in
-    rw (a, b, c)
-
-declared-final : (f : ℕ) → declaredNumber (16 + f) ≡ 10 + f
-declared-final f =
-    let a : ltb (16 + f) 16 ≡ false = le-ltb (16 + f) 16 (omega arith) in
-    let b : 16 + f - 6 ≡ 10 + f = omega arith in
-    rw (a, b)
-
-module _ (code : ℕ) (h : isFieldCode code ≡ true) where
-  pub declared-owner : fieldOwnerOfCode code ≡ declaredOwner (declaredNumber code) (eqb code 2)
-  declared-owner = go (declared code h)
-    where
-      go : Declared code → fieldOwnerOfCode code ≡ declaredOwner (declaredNumber code) (eqb code 2)
-      go (nobody e) = rw e
-      go (tag e) = rw e
-      go (final f p e) =
-          let c : 10 + f - 10 ≡ f = omega arith in
-          rw (e, field-owner-final f, declared-final f, above-eqb (16 + f) 2 (omega arith), above-eqb (10 + f) 0 (omega arith), c)
-
-  -- A field's owner is no final that the contract has no field for.
-  pub declared-below : (fields : ℕ) → any (leb fields) (fieldOfDeclaredOwner (fieldOwnerOfCode code)) ≡ false → declaredNumber code < 10 + fields
-  unfolding any
-  declared-below fields none = go (declared code h)
-    where
-      go : Declared code → declaredNumber code < 10 + fields
-      go (nobody e) = rw e (omega arith)
-      go (tag e) = rw e (omega arith)
-      go (final f p e) =
-          let x = leb-false fields f (or-left (leb fields f) false (rw (e, field-owner-final f) at none)) in
-          rw (e, declared-final f) (omega arith)
-
--- A declared owner's number is none or a final's.
-pub declared-named : (code : ℕ) → 0 < declaredNumber code → 10 ≤ declaredNumber code
-declared-named code h = go (ltb code 16) refl h
-  where
-    go : (t : Bool) → ltb code 16 ≡ t → 0 < cond t 0 (code - 6) → 10 ≤ cond t 0 (code - 6)
-    go true p q = absurd (omega arith)
-    go false p q = let x = ltb-false code 16 p in omega arith
-
-pub field-code : (r : FieldRecord) → fieldInTables r ≡ true → isFieldCode (r .owner) ≡ true
-unfolding fieldInTables
-field-code r h = go (leb (r .shape) 2) (leb (r .type) 2) (isZero (r .owner)) (isFinalCode (r .owner)) (eqb (r .owner) 2) (eqb (r .shape) 2) _ h
-  where
-    go : (shape type a b c d last : Bool) → (shape && type && (a || b || (c && d)) && last) ≡ true → (a || b || c) ≡ true
-    go shape type true b c d last p = refl
-    go shape type false true c d last p = refl
-    go shape type false false true d last p = refl
-    go true true false false false d last p = p
-    go true false false false false d last p = p
-    go false type false false false d last p = p
+      go : {o : Owner} → Target code o → any (leb fields) (fieldOfOwner o) ≡ false → numberOfOwner o < 10 + fields
+      go (nobody e) none = omega arith
+      go (caller e) none = omega arith
+      go (final f p e) none = omega (arith, leb-false fields f (or-left (leb fields f) false none))
+      go (argument k p e) none = omega arith
 
 -- What the code reads off a reveal's code.
-pub target-low : (code : ℕ) → targetInTables code ≡ true → code < 2 → code ≡ numberOfOwner (ownerOfCode code)
-target-low code h low = go (listed code h)
-  where
-    go : Listed code → code ≡ numberOfOwner (ownerOfCode code)
-    go (nobody e) = rw e
-    go (caller e) = rw e
-    go (final f p e) = absurd (omega arith)
-    go (argument k p e) = absurd (omega arith)
+pub target-read : {code : ℕ} {o : Owner} → Target code o → (code < 2 → code ≡ numberOfOwner o)
+    × (2 ≤ code → code < 80 → (6 ≤ code) × (code - 6 ≡ numberOfOwner o)) × (80 ≤ code → (126 ≤ code) × (code - 126 ≡ numberOfOwner o))
+target-read (nobody e) = omega arith
+target-read (caller e) = omega arith
+target-read (final f p e) = omega arith
+target-read (argument k p e) = omega arith
 
-pub target-final : (code : ℕ) → targetInTables code ≡ true → 2 ≤ code → code < 80 → (6 ≤ code) × (code - 6 ≡ numberOfOwner (ownerOfCode code))
-target-final code h some low = go (listed code h)
-  where
-    go : Listed code → (6 ≤ code) × (code - 6 ≡ numberOfOwner (ownerOfCode code))
-    go (nobody e) = absurd (omega arith)
-    go (caller e) = absurd (omega arith)
-    go (final f p e) = let d : 16 + f - 6 ≡ 10 + f = omega arith in (omega arith, rw (e, owner-final f p) d)
-    go (argument k p e) = absurd (omega arith)
+-- A field's owner code, by number: it is that of its owner, none or a final's, and no final's that the contract has no field for.
+module _ (code fields : ℕ) (h : isFieldCode code ≡ true) (none : any (leb fields) (fieldOfDeclaredOwner (fieldOwnerOfCode code)) ≡ false) where
+  pub declared-is : (fieldOwnerOfCode code ≡ declaredOwner (declaredNumber code) (eqb code 2))
+      × (declaredNumber code < 10 + fields) × (0 < declaredNumber code → 10 ≤ declaredNumber code)
+  unfolding any
+  declared-is = go (eqb code 0) refl (eqb code 2) refl
+    where
+      go : (a : Bool) → eqb code 0 ≡ a → (b : Bool) → eqb code 2 ≡ b → (fieldOwnerOfCode code ≡ declaredOwner (declaredNumber code) (eqb code 2))
+          × (declaredNumber code < 10 + fields) × (0 < declaredNumber code → 10 ≤ declaredNumber code)
+      go true p b q = rw (eqb-true code 0 p) (refl, omega arith, omega arith)
+      go false p true q = rw (eqb-true code 2 q) (refl, omega arith, omega arith)
+      go false p false q =
+          let low = leb-true 16 code (and-left (leb 16 code) (ltb code 80) (rw or-false at (rw (p, q) at h))) in
+          let there = leb-false fields (code - 16) (or-left (leb fields (code - 16)) false (rw (p, q) at none)) in
+          let shift : code - 6 - 10 ≡ code - 16 = omega arith in
+          rw (p, q, le-ltb code 16 low, above-eqb (code - 6) 0 (omega arith), shift) (refl, omega arith, omega arith)
 
-pub target-argument : (code : ℕ) → targetInTables code ≡ true → 2 ≤ code → 80 ≤ code
-    → (126 ≤ code) × (code - 126 ≡ numberOfOwner (ownerOfCode code))
-target-argument code h some high = go (listed code h)
+-- A listed field's three codes.
+pub field-codes : (r : FieldRecord) → fieldInTables r ≡ true → (leb (r .shape) 2 ≡ true) × (leb (r .type) 2 ≡ true) × (isFieldCode (r .owner) ≡ true)
+unfolding fieldInTables
+field-codes r h = go (leb (r .shape) 2) (leb (r .type) 2) (isZero (r .owner)) (isFinalCode (r .owner)) (eqb (r .owner) 2) (eqb (r .shape) 2) _ h
   where
-    go : Listed code → (126 ≤ code) × (code - 126 ≡ numberOfOwner (ownerOfCode code))
-    go (nobody e) = absurd (omega arith)
-    go (caller e) = absurd (omega arith)
-    go (final f p e) = absurd (omega arith)
-    go (argument k p e) = let d : 128 + k - 126 ≡ 2 + k = omega arith in (omega arith, rw (e, owner-argument k p) d)
+    go : (shape type a b c d last : Bool) → (shape && type && (a || b || (c && d)) && last) ≡ true
+        → (shape ≡ true) × (type ≡ true) × ((a || b || c) ≡ true)
+    go true true true b c d last p = (refl, refl, refl)
+    go true true false true c d last p = (refl, refl, refl)
+    go true true false false true d last p = (refl, refl, refl)
+    go true true false false false d last p = (refl, refl, p)
+    go true false a b c d last p = absurd (false≢true p)
+    go false type a b c d last p = absurd (false≢true p)

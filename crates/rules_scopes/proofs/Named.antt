@@ -1,11 +1,11 @@
 -- What a node names is there: fields, an owner's name; a condition that is no operator gives no links.
 use Rattle.kit.specs.Names.{_≡_, refl, ap, _∙_, Bool, true, false, cond, _&&_, List, [], ℕ, _+_, _*_, _/_, _<_, _≤_, eqb, leb, length}
-use Rattle.kit.specs.Names.{leb-true, ne-eqb}
+use Rattle.kit.specs.Names.{_∷_, leb-true, leb-false, ne-eqb}
 use Rattle.definitions.specs.Basics.{any, isZero}
-use Rattle.definitions.specs.ContractFile.{Expression, Scope, NodeRecord, dataTypeOf, ownerOfCode, fieldOfOwner, isOfType, constantKind, meKind, fieldKind, entryKind, parameterKind, operatorKind, negationKind, revealKind, skipKind, sequenceKind, assignFieldKind, assignEntryKind, requireKind, conditionalKind, noKind, kindOf, nodeOf, nodeOfKind, constantValue, fieldsNamed, expressionOf}
+use Rattle.definitions.specs.ContractFile.{Expression, Scope, NodeRecord, dataTypeOf, ownerOfCode, fieldOfOwner, isOfType, Kind, kindOf, nodeOf, nodeOfKind, constantValue, fieldsNamed, expressionOf}
 use Rattle.definitions.specs.Numbers.{nodeInTables, kindInTables, targetInTables}
 use Rattle.definitions.specs.Owners.{Links, linksOfCondition}
-use Rattle.theory_laws.proofs.TruthValues.{and-left}
+use Rattle.theory_laws.proofs.TruthValues.{and-left, or-left}
 use Rattle.theory_trees.specs.Trees.{expressionIn}
 use Rattle.theory_trees.proofs.ByKind.{expression-read}
 use Rattle.file_decoded.specs.Slices.{nodeFrom}
@@ -13,39 +13,31 @@ use Rattle.rules_owners.specs.Numbering.{numberOfOwner}
 use Rattle.rules_owners.proofs.Numbering.{target-below}
 use Rattle.rules_scopes.specs.Trees.{nodesIn}
 use Rattle.rules_scopes.specs.Scopes.{NodesReady}
-use Rattle.rules_scopes.proofs.Lists.{first-below}
 use Rattle.rules_scopes.proofs.Nodes.{node-reads}
 
+first-below : (n m : ℕ) (rest : List ℕ) → any (leb n) (m ∷ rest) ≡ false → m < n
+unfolding any
+first-below n m rest h = leb-false n m (or-left (leb n m) (any (leb n) rest) h)
+
 module _ (r : NodeRecord) (below : ℕ → Expression) (scope : Scope) (linked : Links) where
-  no-operator : (b1 b2 b3 b4 b5 b7 b8 b16 b17 b18 b19 b20 b21 : Bool) → linksOfCondition scope
-      (expressionOf (nodeOfKind (cond b1 constantKind
-      (cond b2 meKind (cond b3 fieldKind (cond b4 entryKind
-      (cond b5 parameterKind (cond false operatorKind
-      (cond b7 negationKind (cond b8 revealKind
-      (cond b16 skipKind (cond b17 sequenceKind
-      (cond b18 assignFieldKind (cond b19 assignEntryKind
-      (cond b20 requireKind (cond b21 conditionalKind noKind)))))))))))))) r) below) linked ≡ linked
-  unfolding nodeOfKind expressionOf linksOfCondition
-  no-operator true b2 b3 b4 b5 b7 b8 b16 b17 b18 b19 b20 b21 = refl
-  no-operator false true b3 b4 b5 b7 b8 b16 b17 b18 b19 b20 b21 = refl
-  no-operator false false true b4 b5 b7 b8 b16 b17 b18 b19 b20 b21 = refl
-  no-operator false false false true b5 b7 b8 b16 b17 b18 b19 b20 b21 = refl
-  no-operator false false false false true b7 b8 b16 b17 b18 b19 b20 b21 = refl
-  no-operator false false false false false true b8 b16 b17 b18 b19 b20 b21 = refl
-  no-operator false false false false false false true b16 b17 b18 b19 b20 b21 = refl
-  no-operator false false false false false false false true b17 b18 b19 b20 b21 = refl
-  no-operator false false false false false false false false true b18 b19 b20 b21 = refl
-  no-operator false false false false false false false false false true b19 b20 b21 = refl
-  no-operator false false false false false false false false false false true b20 b21 = refl
-  no-operator false false false false false false false false false false false true b21 = refl
-  no-operator false false false false false false false false false false false false true = refl
-  no-operator false false false false false false false false false false false false false = refl
+  data Quiet (kind : Kind) : Type 0 where
+    is : linksOfCondition scope (expressionOf (nodeOfKind kind r) below) linked ≡ linked → Quiet kind
+
+  or : (n : ℕ) {this that : Kind} → Quiet this → Quiet that → Quiet (cond (eqb (r .kind) n) this that)
+  or n {this} {that} h k = go (eqb (r .kind) n)
+    where
+      go : (b : Bool) → Quiet (cond b this that)
+      go true = h
+      go false = k
 
   other-condition : (r .kind ≡ 6 → ⊥) → linksOfCondition scope (expressionOf (nodeOf r) below) linked ≡ linked
-  unfolding kindOf
-  other-condition h = rw (ne-eqb _ _ h) (no-operator (eqb (r .kind) 1) (eqb (r .kind) 2) (eqb (r .kind) 3) (eqb (r .kind) 4) (eqb (r .kind) 5)
-      (eqb (r .kind) 7) (eqb (r .kind) 8) (eqb (r .kind) 16) (eqb (r .kind) 17) (eqb (r .kind) 18) (eqb (r .kind) 19) (eqb (r .kind) 20)
-      (eqb (r .kind) 21))
+  unfolding kindOf nodeOfKind expressionOf linksOfCondition
+  other-condition h = rw (ne-eqb _ _ h) (links
+      (or 1 (is refl) (or 2 (is refl) (or 3 (is refl) (or 4 (is refl) (or 5 (is refl) (or 7 (is refl) (or 8 (is refl) (or 16 (is refl) (or 17 (is refl)
+      (or 18 (is refl) (or 19 (is refl) (or 20 (is refl) (or 21 (is refl) (is refl)))))))))))))))
+    where
+      links : {kind : Kind} → Quiet kind → linksOfCondition scope (expressionOf (nodeOfKind kind r) below) linked ≡ linked
+      links (is e) = e
 
 module _ (fields nodes : List ℕ) (ready : NodesReady fields nodes) (n : ℕ) (inside : n < length nodes / 5) (r : NodeRecord) (same : r ≡ nodeFrom nodes (5 * n)) where
   pub no-links-learnt : (scope : Scope) (linked : Links) → (r .kind ≡ 6 → ⊥) → linksOfCondition scope (expressionIn (nodesIn nodes) n) linked ≡ linked

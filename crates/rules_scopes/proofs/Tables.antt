@@ -1,18 +1,45 @@
--- What the tables say of the fields and parameters that decoded slices hold.
-use Rattle.kit.specs.Names.{_≡_, refl, ap, sym, _∙_, Bool, true, false, not, _&&_, _||_, List, ℕ, zero, suc, _+_, _*_, _-_, _/_, _<_, _≤_}
-use Rattle.kit.specs.Names.{arith, eqb, leb, length, leb-true}
-use Rattle.definitions.specs.Basics.{isZero}
-use Rattle.definitions.specs.ContractFile.{shapeCode, shapeOf, fieldOf, parameterOf, isFinalCode, FieldRecord}
-use Rattle.definitions.specs.Numbers.{fieldInTables, parameterInTables, ownerFits}
+-- The fields and parameters that decoded slices hold at an index, and what the tables say of them.
+use Rattle.kit.specs.Names.{_≡_, refl, ap, sym, _∙_, Bool, true, false, not, _&&_, List, ℕ, zero, suc, _+_, _*_, _-_, _/_, _<_, _≤_}
+use Rattle.kit.specs.Names.{arith, map, eqb, leb, length, leb-true, length-map, List·getD-eq-default}
+use Rattle.definitions.specs.ContractFile.{boolean, shapeCode, shapeOf, fieldAt, fieldOf, parameterAt, parameterOf}
+use Rattle.definitions.specs.Numbers.{parameterInTables, ownerFits}
 use Rattle.theory_laws.proofs.Codes.{type-code}
-use Rattle.theory_laws.proofs.TruthValues.{and-left, and-parts}
-use Rattle.file_decoded.specs.Slices.{fieldFrom, parameterFrom}
-use Rattle.rules_owners.specs.Numbering.{ownerWith, isFieldCode, declaredNumber}
-use Rattle.rules_owners.proofs.Numbering.{field-code, declared-owner, declared-below, declared-named, above-eqb, argument-numbered, final-numbered}
+use Rattle.theory_laws.proofs.TruthValues.{and-left}
+use Rattle.file_decoded.specs.Slices.{fieldFrom, fieldsFrom, parameterFrom, parametersFrom}
+use Rattle.rules_owners.specs.Numbering.{ownerWith, declaredNumber}
+use Rattle.rules_owners.proofs.Numbering.{field-codes, declared-is, above-eqb, argument-numbered, final-numbered}
 use Rattle.rules_scopes.specs.Scopes.{fieldOn, parameterOn, scopeFrom, IsField, IsParameter, FieldsReady, ParametersReady}
 use Rattle.rules_scopes.specs.declared.Declared.{Declared}
 use Rattle.rules_scopes.specs.declared.Given.{Given}
-use Rattle.rules_scopes.proofs.Lists.{field-within, parameter-within, parameter-past}
+use Rattle.file_decoded.proofs.Records.{parameters-length}
+
+field-within : (count : ℕ) (numbers : List ℕ) (at f : ℕ) → f < count
+    → fieldAt (map fieldOf (fieldsFrom count numbers at)) f ≡ fieldOf (fieldFrom numbers (at + 3 * f))
+unfolding fieldsFrom
+field-within zero numbers at f h = absurd (omega arith)
+field-within (suc count) numbers at zero h =
+    let e : at + 3 * 0 ≡ at = omega arith in
+    rw e
+field-within (suc count) numbers at (suc f) h =
+    let e : at + 3 * suc f ≡ at + 3 + 3 * f = omega arith in
+    rw e (field-within count numbers (at + 3) f (omega arith))
+
+parameter-within : (count : ℕ) (numbers : List ℕ) (at k : ℕ) → k < count
+    → parameterAt (map parameterOf (parametersFrom count numbers at)) k ≡ parameterOf (parameterFrom numbers (at + 2 * k))
+unfolding parametersFrom
+parameter-within zero numbers at k h = absurd (omega arith)
+parameter-within (suc count) numbers at zero h =
+    let e : at + 2 * 0 ≡ at = omega arith in
+    rw e
+parameter-within (suc count) numbers at (suc k) h =
+    let e : at + 2 * suc k ≡ at + 2 + 2 * k = omega arith in
+    rw e (parameter-within count numbers (at + 2) k (omega arith))
+
+parameter-past : (count : ℕ) (numbers : List ℕ) (at k : ℕ) → count ≤ k
+    → parameterAt (map parameterOf (parametersFrom count numbers at)) k ≡ record { type = boolean; private = true }
+parameter-past count numbers at k h =
+    let records = parametersFrom count numbers at in
+    List·getD-eq-default (map parameterOf records) _ (omega (arith, length-map records parameterOf, parameters-length count numbers at))
 
 shape-code : (code : ℕ) → code ≤ 2 → shapeCode (shapeOf code) ≡ code
 shape-code zero h = refl
@@ -20,20 +47,7 @@ shape-code (suc zero) h = refl
 shape-code (suc (suc zero)) h = refl
 shape-code (suc (suc (suc n))) h = absurd (omega arith)
 
-first-two : (a b c d : Bool) → (a && b && c && d) ≡ true → (a ≡ true) × (b ≡ true)
-first-two a b c d h = and-parts a b (and-left (a && b) c (and-left (a && b && c) d h))
-
-module _ (r : FieldRecord) (h : fieldInTables r ≡ true) where
-  both-listed : (leb (r .shape) 2 ≡ true) × (leb (r .type) 2 ≡ true)
-  unfolding fieldInTables
-  both-listed =
-      first-two (leb (r .shape) 2) (leb (r .type) 2) (isZero (r .owner) || isFinalCode (r .owner) || (eqb (r .owner) 2 && eqb (r .shape) 2))
-      (not (eqb (r .shape) 1) || (eqb (r .type) 2 && isZero (r .owner))) h
-
 module _ (fields : List ℕ) (ready : FieldsReady fields) (f : ℕ) (inside : f < length fields / 3) where
-  pub code-listed : isFieldCode ((fieldFrom fields (3 * f)) .owner) ≡ true
-  code-listed = field-code (fieldFrom fields (3 * f)) (ready .listed f inside)
-
   pub field-read : (d : Declared) → d .shape ≡ (fieldFrom fields (3 * f)) .shape → d .kind ≡ (fieldFrom fields (3 * f)) .type
       → d .owner ≡ declaredNumber ((fieldFrom fields (3 * f)) .owner) → d .tagged ≡ eqb ((fieldFrom fields (3 * f)) .owner) 2
       → IsField (length fields / 3) (fieldOn fields f) d
@@ -41,14 +55,15 @@ module _ (fields : List ℕ) (ready : FieldsReady fields) (f : ℕ) (inside : f 
   field-read d es et eo eg =
       let r = fieldFrom fields (3 * f) in
       let z : 0 + 3 * f ≡ 3 * f = omega arith in
-      let codes = both-listed r (ready .listed f inside) in
+      let codes = field-codes r (ready .listed f inside) in
+      let declared = declared-is (r .owner) (length fields / 3) (codes .2) (ready .named f inside) in
       let is : fieldOn fields f ≡ fieldOf r = rw z at (field-within (length fields / 3) fields 0 f inside) in
       record {
         shape = rw is (shape-code (r .shape) (leb-true (r .shape) 2 (codes .0)) ∙ sym es);
         type = rw is (type-code (r .type) (leb-true (r .type) 2 (codes .1)) ∙ sym et);
-        owner = rw (is, eo, eg) (declared-owner (r .owner) code-listed);
-        listed = rw eo (declared-below (r .owner) code-listed (length fields / 3) (ready .named f inside));
-        final = rw eo (declared-named (r .owner));
+        owner = rw (is, eo, eg) (declared .0);
+        listed = rw eo (declared .1);
+        final = rw eo (declared .2);
       }
 
 module _ (parameters : List ℕ) (ready : ParametersReady parameters) (k : ℕ) where

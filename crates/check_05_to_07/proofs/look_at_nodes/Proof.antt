@@ -1,7 +1,6 @@
 use Rattle.kit.specs.Names.{_≡_, _||_, _+_, _*_, _/_, arith, length, needs}
 use Rattle.definitions.specs.Basics.{any, flatMap}
-use Rattle.file_bytes.specs.Node.{recordOf}
-use Rattle.file_decoded.specs.Slices.{nodesFrom}
+use Rattle.file_decoded.specs.Slices.{nodeFrom, nodesFrom}
 use Rattle.check_05_uses.specs.Counting.{Room, childrenOf}
 use Rattle.check_05_uses.proofs.UseCounts.{room-less}
 use Rattle.check_05_uses.proofs.Loops.{Leads, leads-all, nodes-next, nodes-done, room-after-node}
@@ -25,23 +24,19 @@ pub look-at-nodes-spec : {M : Type 1} → own.Statement.statement M
 look-at-nodes-spec =
     own.Tie.close (own.Tie.spec Inv-loop μ-loop (λ c. let start = c .before in let (_, _, room, chains) = start .pre in
     (leads-all _ _, room, chains, nodes-all (start .args .nodes .now), omega arith, omega arith))
-    (λ c κs. search needs) (λ c κs. search needs)
-    (λ c κs. let (_, room, _, _, _, _) = c .before .before .before .before .loop .inv in (room-less _ _ 3 room (omega arith), c .before .child-count .ensures))
-    (λ c κs. let kinds = c .before .before .before in let (_, _, chains, _, _, _) = kinds .before .before .before .loop .inv in
-    (chains .bounded, kinds .child-count .ensures))
-    (λ c. search needs) (λ c. search needs) (λ c. search needs) (λ c κs. c .before .before .before .before .child-count .ensures) (λ c κs. search needs)
-    (λ c. search needs) (λ c. search needs) (λ c. search needs) (λ c. search needs)
-    (λ c. let noted = c .before .before in let counted = noted .before .before in let read = counted .before .before .before in let turn = read .before in
+    (λ c κs. let (_, room, chains, _, _, _) = c .before .before .before .loop .inv in (omega arith, room-less _ _ 3 room (omega arith), chains .bounded))
+    (λ c. search needs) (λ c. search needs) (λ c. search needs) (λ c. search needs) (λ c. search needs) (λ c. search needs) (λ c. search needs) (λ c. search needs)
+    (λ c. let seen = c .before .before .look-at-children .ensures in let turn = c .before .before .before .before .before in
     let start = turn .before .before .before in let nodes = start .args .nodes .now in let (_, below, _, _) = start .pre in
     let (leads, room, chains, sorts, at-is, _) = turn .before .loop .inv in (
-      nodes-next _ _ _ _ nodes _ leads (turn .loop-test .taken) _ (read .node-from .ensures) _ (counted .count-children .ensures),
-      room-after-node (recordOf (read .node-from .result)) _ _ _ _ (turn .loop-test .taken) (counted .count-children .ensures) room,
-      chains-next _ _ _ _ _ _ _ below chains (omega arith) (omega arith) at-is (read .node-from .ensures) (noted .chain-from .ensures .0),
-      node-noted (nodesIn nodes) _ nodes _ (turn .before .loop .wrong) _ sorts (turn .loop-test .taken) _ (read .node-from .ensures) _
-          (c .before .parts-wrong .ensures) _ (c .either .ensures),
+      nodes-next _ _ _ _ nodes _ leads (turn .loop-test .taken) _ (seen .counted),
+      room-after-node (nodeFrom nodes (turn .before .loop .at)) _ _ _ _ (turn .loop-test .taken) (seen .counted) room,
+      chains-next _ nodes _ _ _ _ below chains (omega arith) (omega arith) at-is (seen .deepest),
+      node-noted (nodesIn nodes) _ nodes _ (turn .before .loop .wrong) _ sorts (turn .loop-test .taken) _ (seen .sorts),
       omega arith,
       omega arith,
-    )) (λ c. let nodes = c .before .before .before .args .nodes .now in let (leads, room, chains, sorts, _, _) = c .before .loop .inv in (
+    ))
+    (λ c. let nodes = c .before .before .before .args .nodes .now in let (leads, room, chains, sorts, _, _) = c .before .loop .inv in (
       nodes-done _ _ _ _ _ _ leads (c .loop-test .left),
       room-less _ _ 16 room (omega arith),
       chains-done _ _ _ _ chains (omega arith) (omega arith),

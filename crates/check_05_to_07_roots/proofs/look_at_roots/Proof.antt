@@ -27,17 +27,16 @@ look-at-roots-spec =
     own.Tie.close (own.Tie.spec Inv-loop μ-loop (λ c. ((λ parameters. (leads-all _ _, refl, refl)), c .before .before .pre .0, omega arith))
     (λ c. search needs) (λ c κs. search needs)
     (λ c κs. let (_, room, _) = c .before .before .before .loop .inv in room-less _ _ 1 room (c .before .before .loop-test .taken))
-    (λ c κs. search needs) (λ c κs. search needs) (λ c κs. search needs) (λ c κs. search needs)
-    (λ c. search needs) (λ c. search needs) (λ c. search needs)
-    (λ c. let sort = c .before in let asked = sort .before in let depth = asked .before in let used = depth .before in let read = used .before .before in
+    (λ c κs. search needs) (λ c κs. search needs) (λ c. search needs) (λ c. search needs) (λ c. search needs)
+    (λ c. let depth = c .before in let used = depth .before in let read = used .before .before in
     let turn = read .before in let loop = turn .before .loop in let args = turn .before .before .before .before .args in
     let functions = args .functions .now in let root = read .number-from .ensures .0 in let (rest, room, _) = loop .inv in (
       (λ parameters. let (leads, deep, wrong) = rest parameters in (
         roots-next _ _ _ _ functions _ parameters leads (turn .loop-test .taken) _ root _ (used .count-use .ensures),
         root-noted (rootTooDeep (args .depths .now)) _ functions _ parameters (loop .deep) _ deep (turn .loop-test .taken) _
-            (ap (ltb 64) (depth .depth-of .ensures .0 ∙ ap (depthIn (args .depths .now)) root)) _ (asked .either .ensures),
+            (ap (ltb 64) (depth .depth-of .ensures .0 ∙ ap (depthIn (args .depths .now)) root)),
         root-noted (rootWrong (nodesIn (args .nodes .now))) _ functions _ parameters (loop .wrong) _ wrong (turn .loop-test .taken) _
-            (ap not (sort .has-sort .ensures ∙ ap (hasSort (nodesIn (args .nodes .now)) false) root)) _ (c .either2 .ensures),
+            (ap not (c .has-sort .ensures ∙ ap (hasSort (nodesIn (args .nodes .now)) false) root)),
       )),
       room-after _ _ _ _ _ (used .count-use .ensures) room (omega arith),
       omega arith,

@@ -3,6 +3,4 @@ use Rattle.rules_assignments.proofs.entry_put_fault as own
 
 pub entry-put-fault-spec : {M : Type 1} → own.Statement.statement M
 entry-put-fault-spec =
-    own.Tie.close (own.Tie.spec (λ c κs. search needs) (λ c κs. search needs) (λ c κs. search needs)
-    (λ c κs. let s = c .before .before .before .before in (s .pre .1, rw (c .place-owner .ensures) (s .pre .0))) (λ c κs. search needs)
-    (λ c. cc))
+    own.Tie.close (own.Tie.spec (λ c κs. search needs) (λ c κs. search needs) (λ c κs. search needs) (λ c κs. search needs) (λ c. cc))

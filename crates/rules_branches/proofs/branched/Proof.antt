@@ -1,5 +1,4 @@
-use Rattle.kit.specs.Names.{ap, sym, _∙_, ℕ, min, length-take-le, needs}
-use Rattle.rules_branches.specs.declared.Checked.{Checked}
+use Rattle.kit.specs.Names.{sym, length-take-le, needs}
 use Rattle.rules_branches.proofs.branched as own
 
 pub branched-spec : {M : Type 1} → own.Statement.statement M
@@ -9,10 +8,6 @@ branched-spec =
     (λ c. let s = c .before .before .before .before .before .before .before in sym (length-take-le _ _ (s .pre .4)))
     (λ c κs. let s = c .before .before .before .before .before .before .before in
     (s .pre .0, s .pre .1, s .pre .2, length-take-le _ _ (s .pre .3), length-take-le _ _ (s .pre .4)))
-    (λ c κs. search needs) (λ c κs. search needs) (λ c κs. search needs) (λ c. search needs)
-    (λ c. let call = c .before .before .before .before .before in
-    let s = call .before .before .before .before .before .before .before .before in
-    let grown = call .before .before .before .before .either .ensures in let is = c .outcome .ensures in (
-      ap (λ (r : Checked). r .fault) is ∙ c .before .least2 .ensures ∙ ap (λ (k : ℕ). min k (s .args .no .fault)) (c .before .before .least .ensures),
-      (rw (← grown, ap (λ (r : Checked). r .added) is) (call .behind .ensures), search needs),
-    )))
+    (λ c κs. search needs) (λ c κs. search needs) (λ c. search needs)
+    (λ c. let call = c .before .before .before .before in
+    (search needs, (rw (← call .before .before .before .before .either .ensures) (call .behind .ensures), search needs))))

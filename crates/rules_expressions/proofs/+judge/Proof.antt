@@ -1,5 +1,5 @@
 -- `rules_expressions::judge` meets its contract, by the number of its node: each kind from the judgements of its parts.
-use Rattle.kit.specs.Names.{ℕ, _<_, arith, needs, In, Measures, is, falls, and}
+use Rattle.kit.specs.Names.{ℕ, _<_, arith, needs, Measures, is, falls, and}
 use Rattle.theory_trees.proofs.ByKind.{key-below, operands-below, part-below, revealed-below}
 use Rattle.rules_scopes.proofs.Nodes.{node-reads}
 use Rattle.rules_scopes.proofs.Named.{field-there, mapping-there, target-listed, target-there}
@@ -27,12 +27,6 @@ use Rattle.rules_expressions.proofs.+judge.Tie.{close}
 abbrev μ-judge : Measures 5 judge-kinds.ps ℕ
 μ-judge κs a = a .1 .1 .1 .1 .1 .0
 
-abbrev judge-at : ℕ → In 5 judge-kinds.ps
-judge-at t = and 5 judge-kinds.ps (is 5 judge-kinds.ps μ-judge t) judge.Pre
-
-abbrev judge-below : ℕ → In 5 judge-kinds.ps
-judge-below t = and 5 judge-kinds.ps (falls 5 judge-kinds.ps _<_ μ-judge t) judge.Pre
-
 abbrev judge-claims : ℕ → judge-lts.Claims
 judge-claims t = (
   read-node-reads.Asked,
@@ -45,7 +39,7 @@ judge-claims t = (
   field-from-reads.Learnt,
   field-judged-reads.Asked,
   field-judged-reads.Learnt,
-  judge-below t,
+  and 5 judge-kinds.ps (falls 5 judge-kinds.ps _<_ μ-judge t) judge.Pre,
   judge.Post,
   entry-judged-reads.Asked,
   entry-judged-reads.Learnt,
@@ -69,7 +63,7 @@ judge-claims t = (
 
 pub +judge-spec : {M : Type 1} → statement M
 +judge-spec = close μ-judge λ t. judge-lts.spec (judge-claims t)
-    (judge-at t) judge.Post (λ c κs. let s = c .before .before .before .before .before in (s .pre .1 .0, s .pre .1 .1 .bodies .few))
+    (and 5 judge-kinds.ps (is 5 judge-kinds.ps μ-judge t) judge.Pre) judge.Post (λ c κs. let s = c .before .before .before .before .before in (s .pre .1 .0, s .pre .1 .1 .bodies .few))
     (λ c κs. search needs)
     (λ c κs. let s = c .before .before .before .before .before .before .before .before .before in omega (arith, s .pre .1 .0, s .pre .1 .2))
     (λ c κs. let s = c .before .before .before .before .before .before .before .before in let ready = s .pre .1 .1 in let inside = s .pre .1 .0 in (ready .declared, field-there _ _ (ready .bodies) _ inside _ (c .before .before .read-node .ensures) (c .before .match .keys2)))
@@ -120,4 +114,4 @@ pub +judge-spec : {M : Type 1} → statement M
     (λ c. let s = c .before .before .before .before .before .before .before .before .before .before .before .before .before .before .before .before .before .before in let ready = s .pre .1 .1 in let inside = s .pre .1 .0 in kinds.reveal-judged _ _ _ (s .args .classes .now) ready _ inside _ (c .before .before .before .before .before .before .before .before .before .before .before .before .read-node .ensures) _ _ _ _ _ _ (c .before .before .before .before .before .before .before .before .before .judge5 .ensures) (c .before .before .mark7 .ensures) _ _ (c .before .before .before .before .before .before .before .before .before .before .before .match .keys7) (c .before .before .before .before .before .before .target-number .ensures) (c .before .before .before .before .before .target-fits .ensures) (c .before .before .before .reveal-judged .ensures))
     (λ c. search needs)
     (λ c. let s = c .before .before .before .before .before .before .before .before .before .before .before .before in let ready = s .pre .1 .1 in let inside = s .pre .1 .0 in let other = c .before .before .before .before .before .match .rest in
-    kinds.me-judged _ _ _ (s .args .classes .now) ready _ inside _ (c .before .before .before .before .before .before .read-node .ensures) _ _ _ _ (other .0 .0 .0 .0 .0 .0 .1) (other .0 .0 .0 .0 .0 .1) (other .0 .0 .0 .0 .1) (other .0 .0 .0 .1) (other .0 .0 .1) (other .0 .1) (other .1) (c .before .before .before .me-judged .ensures) (c .before .before .mark8 .ensures))
+    kinds.me-judged _ _ _ (s .args .classes .now) ready _ inside _ (c .before .before .before .before .before .before .read-node .ensures) _ _ _ _ (record { constant = other .0 .0 .0 .0 .0 .0 .1; field = other .0 .0 .0 .0 .0 .1; entry = other .0 .0 .0 .0 .1; parameter = other .0 .0 .0 .1; operator = other .0 .0 .1; negation = other .0 .1; reveal = other .1 }) (c .before .before .before .me-judged .ensures) (c .before .before .mark8 .ensures))

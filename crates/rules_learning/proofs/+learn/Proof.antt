@@ -4,14 +4,14 @@ use Rattle.rules_links.proofs.Growing.{nothing-learnt, learnt-as, learnt-both}
 use Rattle.theory_trees.proofs.ByKind.{operator-is, operands-below}
 use Rattle.rules_scopes.proofs.Nodes.{node-reads}
 use Rattle.rules_scopes.proofs.Named.{no-links-learnt}
-use Rattle.rules_learning.proofs.Learning.{equality-learnt, conjunction-learnt, no-name-learnt, ready-as, ready-names}
+use Rattle.rules_learning.proofs.Learning.{equality-learnt, conjunction-learnt, no-name-learnt, ready-names}
 use Rattle.rules_learning.proofs.learn.Reads as learn
 use Rattle.rules_learning.proofs.learn.Kinds as learn-kinds
 use Rattle.rules_learning.proofs.+learn.Lts-learn as learn-lts
-use Rattle.rules_nodes.proofs.read_node.Reads as read-node-reads
-use Rattle.rules_learning.proofs.name_of.Reads as name-of-reads
-use Rattle.file_children.proofs.either.Reads as either-reads
-use Rattle.rules_links.proofs.link.Reads as link-reads
+use Rattle.rules_nodes.proofs.read_node.Reads as node
+use Rattle.rules_learning.proofs.name_of.Reads as name
+use Rattle.file_children.proofs.either.Reads as either
+use Rattle.rules_links.proofs.link.Reads as link
 use Rattle.rules_learning.proofs.+learn.{statement}
 use Rattle.rules_learning.proofs.+learn.Tie.{close}
 
@@ -24,22 +24,9 @@ learn-at t = and 4 learn-kinds.ps (is 4 learn-kinds.ps μ-learn t) learn.Pre
 abbrev learn-below : ℕ → In 4 learn-kinds.ps
 learn-below t = and 4 learn-kinds.ps (falls 4 learn-kinds.ps _<_ μ-learn t) learn.Pre
 
-abbrev learn-claims : ℕ → learn-lts.Claims
-learn-claims t = (
-  read-node-reads.Asked,
-  read-node-reads.Learnt,
-  name-of-reads.Asked,
-  name-of-reads.Learnt,
-  link-reads.Asked,
-  link-reads.Learnt,
-  learn-below t,
-  learn.Post,
-  either-reads.Asked,
-  either-reads.Learnt,
-)
-
 pub +learn-spec : {M : Type 1} → statement M
-+learn-spec = close μ-learn λ t. learn-lts.spec (learn-claims t)
++learn-spec = close μ-learn λ t. learn-lts.spec
+    (node.Asked, node.Learnt, name.Asked, name.Learnt, link.Asked, link.Learnt, learn-below t, learn.Post, either.Asked, either.Learnt)
     (learn-at t) learn.Post (λ c κs. let s = c .before .before .before .before in (s .pre .1 .0, s .pre .1 .1 .bodies .few))
     (λ c. let s = c .before .before .before .before .before .before in let ready = s .pre .1 .1 in let inside = s .pre .1 .0 in nothing-learnt _ _ (s .pre .1 .2)
     (sym (no-links-learnt _ _ (ready .bodies) _ inside _ (c .before .read-node .ensures) _ _ (c .if1 .taken))))
@@ -50,7 +37,7 @@ pub +learn-spec : {M : Type 1} → statement M
     (λ c κs. let s = c .before .before .before .before .before .before .before .before in let ready = s .pre .1 .1 in let inside = s .pre .1 .0 in let less = operands-below (node-reads _ _ (ready .bodies) _ inside _ (c .before .before .before .read-node .ensures)) (c .before .before .if1 .left) .0 in
     (omega (arith, s .pre .0, less), (omega (arith, inside, less), ready, s .pre .1 .2)))
     (λ c κs. let s = c .before .before .before .before .before .before .before .before .before .before .before .before in let ready = s .pre .1 .1 in let inside = s .pre .1 .0 in let less = operands-below (node-reads _ _ (ready .bodies) _ inside _ (c .before .before .before .before .before .before .before .read-node .ensures)) (c .before .before .before .before .before .before .if1 .left) .1 in let first = c .before .before .before .learn .ensures in
-    (omega (arith, s .pre .0, less), (omega (arith, inside, less), ready-as _ _ _ _ _ (first .long) ready, first .classed)))
+    (omega (arith, s .pre .0, less), (omega (arith, inside, less), rw (first .long) ready, first .classed)))
     (λ c κs. search needs) (λ c. search needs)
     (λ c. let s = c .before .before .before .before .before .before .before .before .before .before .before .before .before in let ready = s .pre .1 .1 in let inside = s .pre .1 .0 in let read = c .before .before .before .before .before .before .before in
     let tree = operator-is (node-reads _ _ (ready .bodies) _ inside _ (read .before .read-node .ensures)) (read .if1 .left) in

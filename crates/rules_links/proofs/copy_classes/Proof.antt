@@ -1,20 +1,18 @@
 -- `rules_links::copy_classes` meets its contract: the classes copied so far are the same.
-use Rattle.kit.specs.Names.{_≡_, refl, sym, _∙_, _≤_, _-_, arith, length, getD, take, length-set, needs}
-use Rattle.rules_links.proofs.Joining.{copied-next, copied}
+use Rattle.kit.specs.Names.{refl, sym, _∙_, _-_, arith, getD, ext-getD, needs}
+use Rattle.rules_links.proofs.Places.{UpTo, up-to-start, up-to-next}
 use Rattle.rules_links.proofs.copy_classes as own
 
 abbrev Inv-loop : own.Tie.InvT-loop
-Inv-loop from to₀ count i₀ to i = (i ≤ length to) × (length to ≡ length from) × (take i to ≡ take i from)
+Inv-loop from to₀ count i₀ to i = UpTo (λ j. getD from j 0) i to₀ to
 
 abbrev μ-loop : own.Tie.MeasureT-loop
 μ-loop from to₀ count i₀ to i = count - i
 
 pub copy-classes-spec : {M : Type 1} → own.Statement.statement M
 copy-classes-spec =
-    own.Tie.close (own.Tie.spec Inv-loop μ-loop (λ c. (omega arith, sym (c .pre), refl))
+    own.Tie.close (own.Tie.spec Inv-loop μ-loop (λ c. up-to-start)
     (λ c. search needs) (λ c. search needs) (λ c. search needs) (λ c. search needs) (λ c. search needs) (λ c. search needs)
-    (λ c. let (_, long, same) = c .before .before .loop .inv in let from = c .before .before .before .args .from .now in
-    let loop = c .before .before .loop in let size = length-set (loop .to) (loop .i) (getD from (loop .i) 0) in
-    (omega arith, size ∙ long, copied-next from (loop .to) (loop .i) (omega arith) (omega arith) same))
-    (λ c. c .before .loop .inv .1 ∙ c .before .before .pre)
-    (λ c. let (_, long, same) = c .before .loop .inv in copied _ _ (c .before .loop .i) (omega arith) long same))
+    (λ c. up-to-next _ _ _ _ _ (c .before .before .loop .inv) (omega arith) refl) (λ c. c .before .loop .inv .size)
+    (λ c. let so-far = c .before .loop .inv in let long = so-far .size in
+    ext-getD 0 _ _ (so-far .size ∙ sym (c .before .before .pre)) (λ j h. so-far .passed j (omega arith))))
