@@ -1,11 +1,14 @@
 -- The ledger of a refused and of an accepted call.
-use Rattle.kit.specs.Names.{_≡_, ap, sym, _∙_, Bool, false, cond, List, ℕ, eq-eqb, ne-eqb}
+use Rattle.kit.specs.Names.{_≡_, ap, sym, subst, _∙_, Bool, false, cond, List, ℕ, _<_, eq-eqb, ne-eqb}
 use Rattle.definitions.specs.Basics.{isZero}
 use Rattle.definitions.specs.Ledger as ledger
 use Rattle.definitions.specs.Ledger.{callNumber, callWith, honestParametersOf, honestVariablesOf, ledgerAfterCall}
+use Rattle.theory_typing.proofs.CallEnvironment.{calls-left}
 use Rattle.ledger_struct.specs.declared.Ledger as code
 use Rattle.ledger_struct.specs.Ledgers.{ledgerOf}
 use Rattle.ledger_struct.specs.Whole.{laidOver, Laid}
+use Rattle.call_with.specs.declared.Made.{Made}
+use Rattle.call_with.specs.Calls.{MadeOf}
 use Rattle.call.specs.declared.Called.{Called}
 use Rattle.call.specs.Calls.{structAfterCall, CalledOn}
 
@@ -47,3 +50,19 @@ module _ (m : code.Ledger) (function caller : ℕ) (arguments : List ℕ) where
           ledger = laid .means ∙ sym is;
           whole = laid .whole ∙ ap (laidOver m) (sym is) ∙ sym (struct-by-number _ clear);
         }
+
+-- What is known of the ledger's parts is known of the ledger that was taken into them.
+module _ (parts l : ledger.Ledger) (function caller : ℕ) (arguments : List ℕ) (same : parts ≡ l) where
+  pub number-of : (n : ℕ) → n ≡ callNumber parts function caller arguments → n ≡ callNumber l function caller arguments
+  number-of n e = e ∙ ap (λ (x : ledger.Ledger). callNumber x function caller arguments) same
+
+  pub made-of : (places supplied : List ℕ) (made : Made)
+      → MadeOf parts (callWith parts function caller (honestParametersOf parts function caller arguments) (honestVariablesOf parts function caller arguments)) function caller places supplied made
+      → MadeOf l (callWith l function caller (honestParametersOf l function caller arguments) (honestVariablesOf l function caller arguments)) function caller places supplied made
+  made-of places supplied made m =
+      subst (λ (x : ledger.Ledger). MadeOf x (callWith x function caller (honestParametersOf x function caller arguments) (honestVariablesOf x function caller arguments)) function caller places supplied made)
+      same m
+
+pub call-left : (m : code.Ledger) (function caller : ℕ) (arguments : List ℕ) → callNumber (ledgerOf m) function caller arguments ≡ 0 → m .call < 65535
+unfolding ledgerOf
+call-left m function caller arguments clear = calls-left (ledgerOf m) function caller arguments clear

@@ -1,14 +1,11 @@
 -- Number 18 of a call by its tests: a ledger that is not well formed, a caller above 15, a function that is not there.
-use Rattle.kit.specs.Names.{_≡_, refl, ap, sym, _∙_, Bool, true, false, _||_, not, List, ℕ, _<_, _≤_, leb, ltb, length, lt-ltb, le-ltb}
+use Rattle.kit.specs.Names.{_≡_, refl, ap, sym, _∙_, Bool, true, false, _||_, not, ℕ, _<_, _≤_, leb, ltb, length, lt-ltb, le-ltb}
 use Rattle.kit.specs.Names.{leb-false}
 use Rattle.definitions.specs.ContractFile.{functionCount, contractIn}
 use Rattle.definitions.specs.Ledger as ledger
 use Rattle.definitions.specs.Ledger.{isWellFormed, notCallable}
 use Rattle.theory_laws.proofs.TruthValues.{or-right}
 use Rattle.file_accepted.proofs.Functions.{functions-count}
-
-pub lacks-in : (file other : List ℕ) (function : ℕ) (r : Bool) → file ≡ other → r ≡ leb (functionCount file) function → r ≡ leb (functionCount other) function
-lacks-in file other function r same h = h ∙ ap (λ (f : List ℕ). leb (functionCount f) function) same
 
 module _ (l : ledger.Ledger) (function caller : ℕ) where
   lacks : leb (length ((contractIn (l .file)) .functions)) function ≡ leb (functionCount (l .file)) function

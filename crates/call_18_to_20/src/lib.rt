@@ -1,18 +1,31 @@
 // 01, Numbers: 18 to 20, of a call on any ledger.
 use call_18_callable::is_not_callable;
-use call_19_arguments::are_arguments_off;
+use call_19_arguments::arguments_off_for;
+use call_numbers::Request;
 use call_numbers::number_19_or_20;
-use ledger_struct::Ledger;
-ghost use Rattle.kit.specs.Names.{_≡_};
+ghost use Rattle.kit.specs.Names.{_≡_, _/_, _≤_, length};
 ghost use Rattle.definitions.specs.Ledger.{callNumber};
-ghost use Rattle.ledger_struct.specs.Ledgers.{ledgerOf};
+ghost use Rattle.ledger_contents.specs.Contents.{contentsOf};
+ghost use Rattle.ledger_struct.specs.Ledgers.{ledgerFrom};
 
 // The first of numbers 18 to 20 that holds of a call, or 0: nothing is called before it is known.
-pub fn call_number(l: Ledger, function: u8, caller: u8, arguments: &[u32]) -> u8
-    ensures { λ r. ⌜ r ≡ callNumber (ledgerOf l) function caller (now (arguments .entry)) ⌝ }
+pub fn call_number(
+    file: &[u8],
+    request: Request,
+    parameters: &[u32],
+    variables: &[u32],
+    places: &[u32],
+    arguments: &[u32],
+) -> u8
+    requires { ⌜ (length (now parameters) ≤ 40) × (length (now places) / 5 ≤ 1024) ⌝ }
+    ensures { λ r. ⌜ r ≡ callNumber (ledgerFrom (now (file .entry)) (request .last) (now (parameters .entry)) (now (variables .entry))
+        (contentsOf (now (places .entry)))) (request .function) (request .caller) (now (arguments .entry)) ⌝ }
 {
-    if is_not_callable(l, function, caller) {
+    let last = request.last;
+    let function = request.function;
+    let caller = request.caller;
+    if is_not_callable(file, last, parameters, variables, places, function, caller) {
         return 18;
     }
-    number_19_or_20(are_arguments_off(l, function, arguments), l.call)
+    number_19_or_20(arguments_off_for(file, function, arguments), last.call)
 }

@@ -1,9 +1,9 @@
 -- The parts of the honest call: what is put from the original is what the call with given values is handed.
-use Rattle.kit.specs.Names.{_≡_, ap, ap₂, sym, _∙_, List, map, ℕ, suc, _*_, _<_, _≤_, arith, length, take}
+use Rattle.kit.specs.Names.{_≡_, ap, sym, _∙_, List, map, ℕ, suc, _*_, _<_, _≤_, arith, length, take}
 use Rattle.definitions.specs.ContractFile.{Function, byteAt, functionCount}
 use Rattle.definitions.specs.Numbers.{checkNumber}
 use Rattle.definitions.specs.Original.{addressIn}
-use Rattle.definitions.specs.Ledger.{Content, Ledger, openedNumber, callNumber, callWith, honestParameters, honestParametersOf, honestVariablesOf}
+use Rattle.definitions.specs.Ledger.{Content, Ledger, openedNumber, callNumber, honestParameters, honestParametersOf, honestVariablesOf}
 use Rattle.memory_buffer.proofs.Storing.{front-stored}
 use Rattle.file_accepted.proofs.Declarations.{parameters-count}
 use Rattle.theory_typing.proofs.WellFormed.{ledger-accepted}
@@ -23,21 +23,13 @@ use Rattle.write_function_room.specs.Functions.{privateIn, eventsIn, FunctionRo
 use Rattle.write_function_room.proofs.Room.{function-room-alone}
 use Rattle.write_logged_steps.proofs.Readings.{entries-length}
 use Rattle.ledger_addresses.specs.Addresses.{AddressRoom}
-use Rattle.ledger_numbers.specs.Numbers.{Numbered}
-use Rattle.ledger_numbers.proofs.Numbers.{numbers-whole}
 use Rattle.honest_parameters.specs.Parameters.{ParametersRoom}
 use Rattle.honest_variables.specs.Slots.{slotsOf, SlotsRoom, SlotsPut}
 use Rattle.honest_variables.specs.Variables.{codesOf, contentsOfCodes, VariablesRoom}
 use Rattle.honest_variables.proofs.Slots.{slots-count}
 use Rattle.honest_variables.proofs.Call.{variables-honest, variables-room}
-use Rattle.call_with.specs.Calls.{Callable}
-use Rattle.call_honest.specs.Honest.{Called, LogRoom, LogPut, Told, WorkedOut, ContentsRoom}
-
--- Each opened place has its number.
-pub places-opened : (flat before after : List ℕ) (many : ℕ) (places : List Content) → length flat ≡ 5 * many → length before ≡ many → contentsOf flat ≡ places
-    → Numbered openedNumber flat before after → after ≡ map openedNumber places
-places-opened flat before after many places long short same numbered =
-    numbers-whole openedNumber flat before after (omega arith) numbered ∙ ap (map openedNumber) same
+use Rattle.call_with.specs.Calls.{Standing}
+use Rattle.call_honest.specs.Honest.{Called, Placed, Opened, LogRoom, LogPut, Told, WorkedOut}
 
 -- A call that nothing refuses is made on an accepted file.
 pub called-accepted : (l : Ledger) (function caller : ℕ) (arguments : List ℕ) → callNumber l function caller arguments ≡ 0 → (file : List ℕ) → file ≡ l .file
@@ -74,7 +66,7 @@ module _ (l : Ledger) (function caller : ℕ) (arguments file : List ℕ) (at : 
   pub room-in-file : FunctionRoom (l .file) (functionStart (l .file) function) 0 0
   room-in-file = function-room-alone (l .file) file-accepted function function-there
 
-  room-here : FunctionRoom file at 0 0
+  pub room-here : FunctionRoom file at 0 0
   room-here = rw (called .begins, called .sameFile) room-in-file
 
   pub arguments-in-file : length arguments ≡ byteAt (l .file) (functionStart (l .file) function)
@@ -112,11 +104,27 @@ module _ (l : Ledger) (function caller : ℕ) (arguments file : List ℕ) (at : 
     slots-room slots space =
         record { context = context-with file at source (room-here .context) held; root = room-here .root; room = omega (arith, room-here .variables) }
 
+  pub given-honest : (next : ℕ) (given : List Content) → next ≡ suc (l .call) → given ≡ honestParameters caller next 0 (parametersIn file at) arguments
+      → given ≡ honestParametersOf l function caller arguments
+  given-honest next given follows put =
+      put ∙ rw (follows, called .begins, called .sameFile)
+      (ap (λ (g : Function). honestParameters caller (suc (l .call)) 0 (g .parameters) arguments) (sym (function-in (l .file) function function-there)))
+
+  -- The call is made on this function, with as many parameters as it has.
+  pub standing : (places : List ℕ) → contentsOf places ≡ l .places → Standing l function file at places
+  standing places stand = record { sameFile = called .sameFile; inside = function-there; begins = called .begins; stand = stand }
+
   pub slots-few : (numbers before after : List ℕ) (made : ℕ) → SlotsPut file at arguments caller numbers before after made → made ≤ 1024
   slots-few numbers before after made put = omega (arith, put .count, room-here .variables)
 
+pub opened-by : (l : Ledger) (function caller : ℕ) (arguments file : List ℕ) (at : ℕ) (source places numbers : List ℕ) (private : ℕ)
+    → Placed l function caller arguments file at source places private → numbers ≡ map openedNumber (contentsOf places)
+    → Opened l function caller arguments file at source numbers private
+opened-by l function caller arguments file at source places numbers private placed opened =
+    record { called = placed .called; held = placed .held; opened = opened ∙ ap (map openedNumber) (placed .stand); privateIs = placed .privateIs }
+
 -- The numbers that are told on opened places are those worked out.
-pub worked-out : (l : Ledger) (function caller : ℕ) (arguments file : List ℕ) (at : ℕ) (source : List ℕ) (numbers log : List ℕ) (private : ℕ) (addresses : List ℕ)
+pub worked-out : (l : Ledger) (function caller : ℕ) (arguments file : List ℕ) (at : ℕ) (source numbers log : List ℕ) (private : ℕ) (addresses : List ℕ)
     → Told l function caller arguments file at source numbers log private addresses → (before slots : List ℕ) (made : ℕ)
     → SlotsPut file at arguments caller numbers before slots made → WorkedOut l function caller arguments file at log private (take made slots) addresses
 worked-out l function caller arguments file at source numbers log private addresses told before slots made put =
@@ -124,7 +132,7 @@ worked-out l function caller arguments file at source numbers log private addres
     record {
       called = told .known .called;
       entries = told .entries;
-      privateIs = told .privateIs;
+      privateIs = told .known .privateIs;
       slotsAre = put .slots ∙ ap (slotsOf file at arguments caller) opened;
       addressesAre = told .addressed .addresses ∙ ap (addressIn (scopeIn file at) caller arguments) opened;
     }
@@ -165,38 +173,12 @@ module _ (l : Ledger) (function caller : ℕ) (arguments file : List ℕ) (at : 
   pub slots-within : length slots ≤ 1024
   slots-within = rw slots-in-file (omega (arith, slots-count (l .file) start arguments caller opened, in-file .variables))
 
-  pub call-ready : (parameters variables : List ℕ) → ContentsRoom arguments slots parameters variables → Callable l function parameters variables
-  call-ready parameters variables room =
-      let count = arguments-in-file l function caller arguments file at known in
-      record {
-        accepted = file-accepted l function caller arguments file at known;
-        inside = function-there l function caller arguments file at known;
-        counted = omega (arith, room .forParameters, count);
-        held =
-            record {
-              parameterRoom = omega (arith, room .forParameters, arguments-few l function caller arguments file at known);
-              variableRoom = omega (arith, room .forVariables, slots-within);
-              callLeft = calls-left l function caller arguments (known .clear);
-            };
-      }
-
-  parameters-are : honestParameters caller (suc (l .call)) 0 (parametersIn file at) arguments ≡ honestParametersOf l function caller arguments
-  parameters-are =
-      rw (known .begins, known .sameFile)
-      (ap (λ (g : Function). honestParameters caller (suc (l .call)) 0 (g .parameters) arguments)
-      (sym (function-in (l .file) function (function-there l function caller arguments file at known))))
-
   variables-are : contentsOfCodes (addressFrom addresses) (suc (l .call)) 0 (codesOf private log) slots ≡ honestVariablesOf l function caller arguments
   variables-are =
       rw (private-in-file, slots-in-file)
       (variables-honest l function caller arguments (known .clear) (in-file .context .fewFields) log addresses entries-in-file addresses-in-file)
 
-  pub call-honest : (next : ℕ) (parameters variables : List Content) → next ≡ suc (l .call)
-      → parameters ≡ honestParameters caller next 0 (parametersIn file at) arguments
-      → variables ≡ contentsOfCodes (addressFrom addresses) next 0 (codesOf private log) slots
-      → callWith l function caller parameters variables
-      ≡ callWith l function caller (honestParametersOf l function caller arguments) (honestVariablesOf l function caller arguments)
-  call-honest next parameters variables follows shown supplied =
-      ap₂ (callWith l function caller)
-      (shown ∙ ap (λ (n : ℕ). honestParameters caller n 0 (parametersIn file at) arguments) follows ∙ parameters-are)
-      (supplied ∙ ap (λ (n : ℕ). contentsOfCodes (addressFrom addresses) n 0 (codesOf private log) slots) follows ∙ variables-are)
+  pub supplied-honest : (next : ℕ) (variables : List Content) → next ≡ suc (l .call)
+      → variables ≡ contentsOfCodes (addressFrom addresses) next 0 (codesOf private log) slots → variables ≡ honestVariablesOf l function caller arguments
+  supplied-honest next variables follows put =
+      put ∙ ap (λ (n : ℕ). contentsOfCodes (addressFrom addresses) n 0 (codesOf private log) slots) follows ∙ variables-are

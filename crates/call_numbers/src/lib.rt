@@ -1,6 +1,15 @@
-// 01, Runs and views: the tests of a call that ask numbers alone, of numbers 18 to 20; the call that its serials carry.
+// 01, Runs and views: a call that is asked for; the tests of it that ask numbers alone, of numbers 18 to 20; the call that its serials
+// carry.
+use ledger_struct::LastCall;
 ghost use Rattle.kit.specs.Names.{_≡_, [], _∷_, suc, _<_, leb, ltb};
 ghost use Rattle.definitions.specs.Basics.{firstThatHolds};
+
+// The ledger's last call, and the call that is asked for.
+pub struct Request {
+    pub last: LastCall,
+    pub function: u8,
+    pub caller: u8,
+}
 
 // "18. .. or a caller is above 15"
 pub fn is_above_15(caller: u8) -> bool

@@ -1,15 +1,14 @@
 -- A call with given parameters and supplied values, as code makes it of the function that begins at a place of the ledger's file.
-use Rattle.kit.specs.Names.{_≡_, refl, ap, sym, _∙_, Bool, true, false, cond, List, map, ℕ, _<_}
+use Rattle.kit.specs.Names.{_≡_, refl, ap, sym, _∙_, Bool, true, false, cond, List, [], map, ℕ, _<_}
 use Rattle.definitions.specs.ContractFile.{Name, Function, functionAt, functionCount, contractOf, contractIn}
 use Rattle.definitions.specs.Rewriting.{rewriteFunction}
 use Rattle.definitions.specs.Original.{addressIn}
-use Rattle.definitions.specs.Ledger.{Content, Ledger, State, plainNumber, stateAfter, walkCompletes, publicOf, callWith}
+use Rattle.definitions.specs.Ledger.{Content, Ledger, State, plainNumber, stateAfter, walkCompletes, publicOf, afterCall, callWith}
 use Rattle.file_accepted.specs.Context.{fieldsIn, parametersIn, scopeIn}
 use Rattle.file_accepted.specs.Functions.{functionStart}
 use Rattle.file_accepted.proofs.Functions.{function-in}
 use Rattle.walk_steps.specs.Walk.{Ran}
 use Rattle.write_function_room.specs.Functions.{functionIn, writtenIn}
-use Rattle.call_ledgers.specs.Ledgers.{doneLedger, failedLedger}
 
 module _ (l : Ledger) (function caller : ℕ) (parameters variables : List Content) where
   -- The ledger after a call of one function of a file, on places and with addresses that are given.
@@ -18,8 +17,8 @@ module _ (l : Ledger) (function caller : ℕ) (parameters variables : List Conte
       let w = rewriteFunction (fieldsIn file) g in
       let start : State = record { places = places; variables = variables } in
       cond (walkCompletes address (fieldsIn file) parameters (w .constraints) start (w .body))
-      (doneLedger l function caller parameters (stateAfter address (fieldsIn file) parameters start (w .body)))
-      (failedLedger l function caller (publicOf (g .parameters) parameters))
+      (afterCall l function caller 0 parameters (stateAfter address (fieldsIn file) parameters start (w .body)))
+      (afterCall l function caller 1 (publicOf (g .parameters) parameters) (record { places = l .places; variables = [] }))
 
   addressOf : List ℕ → List Content → Function → Name → ℕ
   addressOf file places g =
@@ -51,11 +50,12 @@ module _ (l : Ledger) (function caller : ℕ) (parameters variables : List Conte
     module _ (r : Bool) (end : State)
         (ran : Ran (walkCompletes address (fieldsIn file) parameters ((writtenIn file at) .constraints) (record { places = places; variables = variables }) ((writtenIn file at) .body))
         (stateAfter address (fieldsIn file) parameters (record { places = places; variables = variables }) ((writtenIn file at) .body)) end r) where
-      pub call-done : r ≡ true → doneLedger l function caller parameters end ≡ callWith l function caller parameters variables
+      pub call-done : r ≡ true → afterCall l function caller 0 parameters end ≡ callWith l function caller parameters variables
       unfolding calledAs
       call-done yes-it-is =
-          ap (doneLedger l function caller parameters) (ran .state yes-it-is) ∙ sym (call-found ∙ rw (sym (ran .done) ∙ yes-it-is))
+          ap (afterCall l function caller 0 parameters) (ran .state yes-it-is) ∙ sym (call-found ∙ rw (sym (ran .done) ∙ yes-it-is))
 
-      pub call-failed : r ≡ false → failedLedger l function caller (publicOf (parametersIn file at) parameters) ≡ callWith l function caller parameters variables
+      pub call-failed : r ≡ false → afterCall l function caller 1 (publicOf (parametersIn file at) parameters) (record { places = l .places; variables = [] })
+          ≡ callWith l function caller parameters variables
       unfolding calledAs
       call-failed not-done = sym (call-found ∙ rw (sym (ran .done) ∙ not-done))

@@ -1,2 +1,2 @@
 pub mod CallParts
-pub mod Ready
+pub mod AfterCall

@@ -1,30 +1,31 @@
-// 01, Runs and views: a call with given parameters and supplied values: the written body walked, and the ledger after it.
-use call_ledgers::done_ledger;
-use call_ledgers::failed_ledger;
-use file_decoded::node_room;
-use file_functions::function_start;
+// 01, Runs and views: a call with given parameters and supplied values: the written body walked, and what the ledger shows after it.
 use file_kinds::PARAMETER_CODES_END;
-use file_source::decode_source;
 use honest_parameters::put_public;
 use ledger_addresses::put_addresses;
+use ledger_contents::Place;
 use ledger_numbers::plain_numbers;
-use ledger_struct::Ledger;
-use ledger_struct::at_most;
-use ledger_struct::flat_places;
+use ledger_struct::DONE;
+use ledger_struct::FAILED;
+use ledger_struct::filled_eight;
 use walk_function::walk_function;
 use write_extents::is_short;
-ghost use Rattle.kit.specs.Names.{_≡_, map, _*_, _<_, _≤_, _/_, min, length};
-ghost use Rattle.definitions.specs.Ledger.{plainNumber, publicOf, callWith};
+ghost use Rattle.kit.specs.Names.{_≡_, map, ℕ, _*_, _≤_, _/_, length};
+ghost use Rattle.definitions.specs.ContractFile.{byteAt};
+ghost use Rattle.definitions.specs.Ledger.{Ledger, plainNumber, callWith};
 ghost use Rattle.ledger_contents.specs.Contents.{contentsOf};
 ghost use Rattle.ledger_addresses.specs.Addresses.{AddressRoom, Addressed};
-ghost use Rattle.ledger_struct.specs.Ledgers.{ledgerOf};
-ghost use Rattle.ledger_struct.specs.Whole.{Laid};
-ghost use Rattle.file_accepted.specs.Context.{parametersIn, Source};
+ghost use Rattle.file_accepted.specs.Context.{Source};
 ghost use Rattle.walk_expressions.specs.Evaluation.{stateOf};
 ghost use Rattle.write_function_room.specs.Functions.{FunctionRoom};
-ghost use Rattle.honest_parameters.specs.Parameters.{PublicRoom};
-ghost use Rattle.call_with.specs.Calls.{Callable, Walked};
-ghost use Rattle.call_ledgers.specs.Ledgers.{failedLedger};
+ghost use Rattle.call_with.specs.Calls.{Walked, WalkedWith, Standing, MadeOf};
+
+// What a call leaves beside the places: how it went, the parameters that it shows, and how many numbers its variables are.
+pub struct Made {
+    pub outcome: u8,
+    pub parameters: [Place; 8],
+    pub parameter_count: usize,
+    pub variables: usize,
+}
 
 // The addresses of the names in a call with these parameters on these places.
 fn call_addresses(
@@ -157,44 +158,22 @@ fn walk_called(
     }
 }
 
-// What a failed call shows: its public parameters.
-fn failed_call(
-    l: Ledger,
+// "A call walks the function's written body on the ledger's plain values and cells", with these parameters and supplied values. Where
+// the answer is false the contents are to be given up.
+fn walk_with(
     file: &[u8],
     function_at: usize,
-    function: u8,
+    source: &[u16],
     caller: u8,
     parameters: &[u32],
-) -> Ledger
-    requires { ⌜ (PublicRoom (now file) «function_at» (now parameters) (now parameters)) × ((ledgerOf l) .call < 65535) ⌝ }
-    ensures { λ r. ⌜ Laid l (failedLedger (ledgerOf l) function caller
-        (publicOf (parametersIn (now (file .entry)) «function_at») (contentsOf (now (parameters .entry))))) r ⌝ }
-{
-    let mut shown = [0u32; 40];
-    let count = put_public(file, function_at, parameters, &mut shown[..]);
-    let end = 5 * count;
-    failed_ledger(l, function, caller, &shown[..end])
-}
-
-// The call on the ledger's file, and on its places, for which there is room.
-fn call_on(
-    l: Ledger,
-    file: &[u8],
-    function: u8,
-    caller: u8,
-    parameters: &[u32],
-    variables: &mut [u32],
     places: &mut [u32],
-) -> Ledger
-    requires { ⌜ ((now file ≡ (ledgerOf l) .file) × (Callable (ledgerOf l) function (now parameters) (now variables)))
-        × (length (now places) ≡ 5 * min (l .«place_count») 1024) ⌝ }
-    ensures { λ r. ⌜ Laid l (callWith (ledgerOf l) function caller (contentsOf (now (parameters .entry)))
-        (contentsOf (now (variables .entry)))) r ⌝ }
+    variables: &mut [u32],
+) -> bool
+    requires { ⌜ (Source (now file) (now source)) × (FunctionRoom (now file) «function_at» 0 0)
+        × (length (now parameters) / 5 ≤ 8) × (length (now places) / 5 ≤ 1024) ⌝ }
+    ensures { λ r. ⌜ WalkedWith (now (file .entry)) «function_at» caller (now (parameters .entry))
+        (stateOf (now (places .entry)) (now (variables .entry))) (stateOf (now (places .exit)) (now (variables .exit))) r ⌝ }
 {
-    let function_at = function_start(file, function);
-    let mut room = node_room();
-    let count = decode_source(file, &mut room[..]);
-    flat_places(l, places);
     let mut addresses = [0u32; PARAMETER_CODES_END];
     call_addresses(
         file,
@@ -204,44 +183,59 @@ fn call_on(
         places,
         &mut addresses[..],
     );
-    if walk_called(
+    walk_called(
         file,
         function_at,
-        &room[..count],
+        source,
         &addresses[..],
         parameters,
         places,
         variables,
-    ) {
-        done_ledger(l, function, caller, parameters, variables, places)
-    } else {
-        failed_call(l, file, function_at, function, caller, parameters)
-    }
+    )
 }
 
-// "A call walks the function's written body on the ledger's plain values and cells", with these parameters and supplied values.
+// The call on the ledger's places: a done call leaves them and the variables as the walk does, and shows all parameters; a failed one
+// shows the public ones alone, no variables, and the places are to be given up.
 pub fn call_with(
-    l: Ledger,
-    function: u8,
+    file: &[u8],
+    function_at: usize,
+    source: &[u16],
     caller: u8,
     parameters: &[u32],
+    places: &mut [u32],
     variables: &mut [u32],
-) -> Ledger
-    requires { ⌜ Callable (ledgerOf l) function (now parameters) (now variables) ⌝ }
-    ensures { λ r. ⌜ Laid l (callWith (ledgerOf l) function caller (contentsOf (now (parameters .entry)))
-        (contentsOf (now (variables .entry)))) r ⌝ }
+) -> Made
+    requires { ⌜ (Source (now file) (now source)) × (FunctionRoom (now file) «function_at» 0 0)
+        × (length (now parameters) ≡ 5 * byteAt (now file) «function_at») × (length (now places) / 5 ≤ 1024) ⌝ }
+    ensures { λ r. ⌜ ((l : Ledger) (function : ℕ) → Standing l function (now (file .entry)) «function_at» (now (places .entry))
+        → MadeOf l (callWith l function caller (contentsOf (now (parameters .entry))) (contentsOf (now (variables .entry))))
+        function caller (now (places .exit)) (now (variables .exit)) r) ⌝ }
 {
-    let bytes = l.file;
-    let length = at_most(l.file_length, 4596);
-    let mut places = [0u32; 5120];
-    let many = 5 * at_most(l.place_count, 1024);
-    call_on(
-        l,
-        &bytes[..length],
-        function,
+    if walk_with(
+        file,
+        function_at,
+        source,
         caller,
         parameters,
+        places,
         variables,
-        &mut places[..many],
-    )
+    ) {
+        let shown = filled_eight(parameters);
+        return Made {
+            outcome: DONE,
+            parameters: shown,
+            parameter_count: parameters.len() / 5,
+            variables: variables.len(),
+        };
+    }
+    let mut public = [0u32; 40];
+    let count = put_public(file, function_at, parameters, &mut public[..]);
+    let end = 5 * count;
+    let shown = filled_eight(&public[..end]);
+    Made {
+        outcome: FAILED,
+        parameters: shown,
+        parameter_count: count,
+        variables: 0,
+    }
 }

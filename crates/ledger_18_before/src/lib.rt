@@ -1,27 +1,27 @@
 // "18. The ledger isn't well formed": a ledger before any call.
-use ledger_struct::Ledger;
-ghost use Rattle.kit.specs.Names.{_≡_};
+use ledger_struct::LastCall;
+ghost use Rattle.kit.specs.Names.{_≡_, []};
 ghost use Rattle.definitions.specs.Ledger.{isBeforeCalls};
-ghost use Rattle.ledger_struct.specs.Ledgers.{ledgerOf};
+ghost use Rattle.ledger_struct.specs.Ledgers.{ledgerFrom};
 
-// "Before any call": nothing was called.
-pub fn is_before_calls(l: Ledger) -> bool
-    ensures { λ r. ⌜ r ≡ isBeforeCalls (ledgerOf l) ⌝ }
+// "Before any call": nothing was called. A content is five numbers.
+pub fn is_before_calls(last: LastCall, parameters: &[u32], variables: &[u32]) -> bool
+    ensures { λ r. ⌜ r ≡ isBeforeCalls (ledgerFrom [] last (now (parameters .entry)) (now (variables .entry)) []) ⌝ }
 {
-    if l.call != 0 {
+    if last.call != 0 {
         return false;
     }
-    if l.function != 0 {
+    if last.function != 0 {
         return false;
     }
-    if l.caller != 0 {
+    if last.caller != 0 {
         return false;
     }
-    if l.outcome != 0 {
+    if last.outcome != 0 {
         return false;
     }
-    if l.parameter_count != 0 {
+    if 5 <= parameters.len() {
         return false;
     }
-    l.variable_count == 0
+    variables.len() < 5
 }

@@ -4,24 +4,22 @@ use file_functions::function_start;
 use file_kinds::PARAMETER_CODES_END;
 use file_source::decode_source;
 use ledger_18_parameters::parameters_fit;
-use ledger_18_parts::put_parameters;
-use ledger_18_parts::put_variables;
 use ledger_18_variables::variables_fit;
 use ledger_addresses::put_addresses;
 use ledger_numbers::plain_numbers;
 use ledger_struct::DONE;
-use ledger_struct::Ledger;
-ghost use Rattle.kit.specs.Names.{_≡_, map, _<_, _≤_, _/_, length};
+use ledger_struct::LastCall;
+ghost use Rattle.kit.specs.Names.{_≡_, List, map, _<_, _≤_, _/_, length};
 ghost use Rattle.definitions.specs.ContractFile.{functionCount};
-ghost use Rattle.definitions.specs.Ledger.{plainNumber, allFit, isAfterDone};
+ghost use Rattle.definitions.specs.Ledger.{Content, plainNumber, allFit, isAfterDone};
+ghost use Rattle.definitions.specs.Numbers.{checkNumber};
 ghost use Rattle.definitions.specs.Original.{addressIn};
 ghost use Rattle.file_accepted.specs.Context.{scopeIn, Source};
 ghost use Rattle.ledger_contents.specs.Contents.{contentsOf};
-ghost use Rattle.ledger_struct.specs.Ledgers.{ledgerOf};
+ghost use Rattle.ledger_struct.specs.Ledgers.{ledgerFrom};
 ghost use Rattle.ledger_18_forms.specs.Forms.{fitsOrZero};
 ghost use Rattle.write_function_room.specs.Functions.{writtenIn, FunctionRoom};
 ghost use Rattle.ledger_18_variable.specs.Variables.{variableForm};
-ghost use Rattle.ledger_18_parts.specs.HandedOn.{Opened};
 
 // The variables of the last call, which was done, by the addresses of the names in it.
 pub fn done_variables_fit(
@@ -58,29 +56,32 @@ pub fn done_variables_fit(
 }
 
 // After a done call, which shows all parameters and the variables.
-pub fn is_after_done(l: Ledger, file: &[u8], numbers: &[u32]) -> bool
-    requires { ⌜ (Opened (ledgerOf l) (now file) (now numbers)) × (l .function < functionCount (now file)) ⌝ }
-    ensures { λ r. ⌜ r ≡ isAfterDone (ledgerOf l) ⌝ }
+pub fn is_after_done(
+    file: &[u8],
+    last: LastCall,
+    parameters: &[u32],
+    variables: &[u32],
+    numbers: &[u32],
+) -> bool
+    requires { ⌜ (checkNumber (now file) ≡ 0) × (last .function < functionCount (now file)) × (length (now parameters) ≤ 40) ⌝ }
+    ensures { λ r. ⌜ ((places : List Content) → now (numbers .entry) ≡ map plainNumber places → r ≡ isAfterDone
+        (ledgerFrom (now (file .entry)) last (now (parameters .entry)) (now (variables .entry)) places)) ⌝ }
 {
-    if l.outcome != DONE {
+    if last.outcome != DONE {
         return false;
     }
-    let function_at = function_start(file, l.function);
-    let mut flat = [0u32; 40];
-    let size = put_parameters(l, &mut flat[..]);
-    if parameters_fit(file, function_at, l.caller, true, &flat[..size]) {
+    let function_at = function_start(file, last.function);
+    if parameters_fit(file, function_at, last.caller, true, parameters) {
         let mut room = node_room();
         let count = decode_source(file, &mut room[..]);
-        let mut variables = [0u32; 5120];
-        let end = put_variables(l, &mut variables[..]);
         done_variables_fit(
             file,
             function_at,
             &room[..count],
-            l.caller,
-            &flat[..size],
+            last.caller,
+            parameters,
             numbers,
-            &variables[..end],
+            variables,
         )
     } else {
         false

@@ -1,28 +1,27 @@
 // "18. The ledger isn't well formed": a ledger after a failed call.
 use file_functions::function_start;
 use ledger_18_parameters::parameters_fit;
-use ledger_18_parts::put_parameters;
 use ledger_struct::FAILED;
-use ledger_struct::Ledger;
-ghost use Rattle.kit.specs.Names.{_≡_, _<_};
+use ledger_struct::LastCall;
+ghost use Rattle.kit.specs.Names.{_≡_, [], _<_};
 ghost use Rattle.definitions.specs.ContractFile.{functionCount};
 ghost use Rattle.definitions.specs.Ledger.{isAfterFailed};
-ghost use Rattle.ledger_struct.specs.Ledgers.{ledgerOf};
-ghost use Rattle.ledger_18_parts.specs.HandedOn.{Opened};
+ghost use Rattle.definitions.specs.Numbers.{checkNumber};
+ghost use Rattle.ledger_struct.specs.Ledgers.{ledgerFrom};
 
 // After a failed call, which shows public parameters and no variables.
-pub fn is_after_failed(l: Ledger, file: &[u8], numbers: &[u32]) -> bool
-    requires { ⌜ (Opened (ledgerOf l) (now file) (now numbers)) × (l .function < functionCount (now file)) ⌝ }
-    ensures { λ r. ⌜ r ≡ isAfterFailed (ledgerOf l) ⌝ }
+pub fn is_after_failed(file: &[u8], last: LastCall, parameters: &[u32], variables: &[u32]) -> bool
+    requires { ⌜ (checkNumber (now file) ≡ 0) × (last .function < functionCount (now file)) ⌝ }
+    ensures { λ r. ⌜ r ≡ isAfterFailed
+        (ledgerFrom (now (file .entry)) last (now (parameters .entry)) (now (variables .entry)) []) ⌝ }
 {
-    if l.outcome != FAILED {
+    if last.outcome != FAILED {
         return false;
     }
-    if l.variable_count != 0 {
-        return false;
+    let function_at = function_start(file, last.function);
+    if parameters_fit(file, function_at, last.caller, false, parameters) {
+        variables.len() < 5
+    } else {
+        false
     }
-    let function_at = function_start(file, l.function);
-    let mut flat = [0u32; 40];
-    let size = put_parameters(l, &mut flat[..]);
-    parameters_fit(file, function_at, l.caller, false, &flat[..size])
 }

@@ -1,7 +1,7 @@
 -- Steps of the loops between places and flat numbers.
 use Rattle.kit.specs.Names.{_≡_, refl, ap, sym, _∙_, Bool, true, false, List, [], _∷_, _++_, map, ℕ, _+_, _*_, _/_, _<_, _≤_, min, arith}
-use Rattle.kit.specs.Names.{add-one, leb, length, getD, set, take, drop, replicate, length-map, take-append-drop, List·getD-map, take-suc}
-use Rattle.kit.specs.Names.{take-suc-set, take-all, take-append-le, length-take-le, leb-true, leb-false}
+use Rattle.kit.specs.Names.{add-one, leb, length, getD, set, take, drop, replicate, length-map, length-append, length-drop, List·getD-map, take-suc}
+use Rattle.kit.specs.Names.{take-suc-set, take-all, take-at, length-take-le, leb-true, leb-false}
 use Rattle.definitions.specs.Ledger as ledger
 use Rattle.theory_laws.proofs.Lists.{map-append}
 use Rattle.ledger_contents.specs.declared.Content.{Content}
@@ -9,6 +9,7 @@ use Rattle.ledger_contents.specs.declared.Content.the-variants.{Plain, Cell}
 use Rattle.ledger_contents.specs.declared.Place.{Place}
 use Rattle.ledger_contents.specs.Contents.{contentOfCode, contentOfPlace, contentsOf}
 use Rattle.ledger_contents.proofs.FlatContents.{length-contentsOf}
+use Rattle.ledger_struct.specs.Ledgers.{Flat}
 use Rattle.ledger_struct.specs.Whole.{padded, codeOf, placeOf, zeroPlace, placesFor}
 use Rattle.ledger_struct.proofs.Padding.{padded-none, padded-next, padded-more}
 
@@ -86,28 +87,25 @@ place-next n contents content h =
 pub unmapped : {X Y : Type 0} (f : X → Y) (l : List X) (n : ℕ) → length (map f l) ≡ n → length l ≡ n
 unmapped f l n e = sym (length-map l f) ∙ e
 
--- The first eight of some places, one by one.
-abbrev eight : List Place → Place → List Place
-eight places d =
-    getD places 0 d ∷ getD places 1 d ∷ getD places 2 d ∷ getD places 3 d
-    ∷ getD places 4 d ∷ getD places 5 d ∷ getD places 6 d ∷ getD places 7 d ∷ []
+-- The front of a buffer that holds the contents of so many places, or of as many as there is room for.
+module _ (many size room : ℕ) (flat : List ℕ) (e : many ≡ min size room) (l : length flat ≡ 5 * room) where
+  pub front-long : length (take (5 * many) flat) ≡ 5 * many
+  front-long = length-take-le (5 * many) flat (omega arith)
 
-eight-of : (places : List Place) (d : Place) → 8 ≤ length places → take 8 places ≡ eight places d
-eight-of (a ∷ b ∷ c ∷ e ∷ f ∷ g ∷ h ∷ i ∷ more) d long = refl
-eight-of ([]) d long = absurd (omega arith)
-eight-of (a ∷ []) d long = absurd (omega arith)
-eight-of (a ∷ b ∷ []) d long = absurd (omega arith)
-eight-of (a ∷ b ∷ c ∷ []) d long = absurd (omega arith)
-eight-of (a ∷ b ∷ c ∷ e ∷ []) d long = absurd (omega arith)
-eight-of (a ∷ b ∷ c ∷ e ∷ f ∷ []) d long = absurd (omega arith)
-eight-of (a ∷ b ∷ c ∷ e ∷ f ∷ g ∷ []) d long = absurd (omega arith)
-eight-of (a ∷ b ∷ c ∷ e ∷ f ∷ g ∷ h ∷ []) d long = absurd (omega arith)
+  pub front-due : length (take (5 * many) flat) ≡ 5 * min size room
+  front-due = front-long ∙ ap (λ (n : ℕ). 5 * n) e
 
--- They stand at the front of other places: as many of both are the same.
-pub front-same : (places : List Place) (d : Place) (rest : List Place) (n : ℕ) → 8 ≤ length places → n ≤ 8
-    → map contentOfPlace (take n (eight places d ++ rest)) ≡ map contentOfPlace (take n places)
-front-same places d rest n long few =
-    let all : n ≤ length (take 8 places) = omega (arith, length-take-le 8 places long) in
-    let front : take n (take 8 places) ≡ take n places =
-    sym (take-append-le n (take 8 places) (drop 8 places) all) ∙ ap (take n) (take-append-drop 8 places) in
-    ap (map contentOfPlace) (take-append-le n (eight places d) rest few ∙ ap (take n) (sym (eight-of places d long)) ∙ front)
+  pub flat-put : (contents : List ledger.Content) (part : List ℕ) → length part ≡ length (take (5 * many) flat) → contentsOf part ≡ contents
+      → Flat contents (part ++ drop (5 * many) flat) room (5 * many)
+  flat-put contents part kept stand =
+      let long = kept ∙ front-long in
+      let both = length-append part (drop (5 * many) flat) in
+      let left = length-drop (5 * many) flat in
+      record {
+        stand = ap contentsOf (take-at part (drop (5 * many) flat) (5 * many) long) ∙ stand;
+        size = omega arith;
+        fits = omega arith;
+      }
+
+pub flat-cut : (contents : List ledger.Content) (flat : List ℕ) (room count : ℕ) → Flat contents flat room count → length (take count flat) ≡ count
+flat-cut contents flat room count f = length-take-le count flat (omega (arith, f .size, f .fits))

@@ -1,9 +1,9 @@
 // The ledger as code holds it, and its contents to flat numbers and back.
 use ledger_contents::Content;
 use ledger_contents::Place;
-ghost use Rattle.kit.specs.Names.{_≡_, ℕ, _*_, _/_, _<_, _≤_, min, length};
+ghost use Rattle.kit.specs.Names.{_≡_, _*_, _/_, _≤_, min, length};
 ghost use Rattle.ledger_contents.specs.Contents.{contentsOf};
-ghost use Rattle.ledger_struct.specs.Ledgers.{ledgerOf, contentsIn};
+ghost use Rattle.ledger_struct.specs.Ledgers.{ledgerOf, contentsIn, Flat};
 ghost use Rattle.ledger_struct.specs.Whole.{placesFor};
 
 // The outcome of a call: "(0 done, 1 failed)".
@@ -26,6 +26,14 @@ pub struct Ledger {
     pub variable_count: usize,
     pub places: [Place; 1024],
     pub place_count: usize,
+}
+
+// What a ledger says of its last call beside parameters and variables: the numbers that its view begins with.
+pub struct LastCall {
+    pub call: u16,
+    pub function: u8,
+    pub caller: u8,
+    pub outcome: u8,
 }
 
 // A count that is above the room counts the room.
@@ -68,32 +76,19 @@ pub fn filled(flat: &[u32]) -> [Place; 1024]
     places
 }
 
-// The eight places of parameters at the front of as many as there can be variables, so that one loop serves all.
-pub fn among_many(places: [Place; 8]) -> [Place; 1024]
-    ensures { λ r. ⌜ ((n : ℕ) → n ≤ 8 → contentsIn n r ≡ contentsIn n places) ⌝ }
-{
-    let zero = Place {
-        content: Content::Plain(0),
-    };
-    let mut many = [zero; 1024];
-    many[0] = places[0];
-    many[1] = places[1];
-    many[2] = places[2];
-    many[3] = places[3];
-    many[4] = places[4];
-    many[5] = places[5];
-    many[6] = places[6];
-    many[7] = places[7];
-    many
-}
-
 // The same for the eight places of parameters.
 pub fn flatten_eight(places: [Place; 8], count: usize, flat: &mut [u32])
     requires { ⌜ length (now flat) ≡ 5 * min count 8 ⌝ }
     ensures { λ _. ⌜ contentsOf (now (flat .exit)) ≡ contentsIn count places ⌝ }
 {
-    let many = among_many(places);
-    flatten(many, at_most(count, 8), flat);
+    let many = at_most(count, 8);
+    let mut i: usize = 0;
+    while i < many {
+        let place = places[i];
+        let content = place.content;
+        ledger_contents::put_content(flat, i, content);
+        i += 1;
+    }
 }
 
 pub fn filled_eight(flat: &[u32]) -> [Place; 8]
@@ -113,27 +108,33 @@ pub fn filled_eight(flat: &[u32]) -> [Place; 8]
     places
 }
 
-// The ledger's own contents as flat numbers.
-pub fn flat_parameters(l: Ledger, flat: &mut [u32])
-    requires { ⌜ length (now flat) ≡ 5 * min (l .«parameter_count») 8 ⌝ }
-    ensures { λ _. ⌜ contentsOf (now (flat .exit)) ≡ (ledgerOf l) .parameters ⌝ }
+// A ledger is taken apart: its contents become flat numbers at the front of a buffer. The answer is how many numbers they are.
+pub fn flat_parameters(l: Ledger, flat: &mut [u32]) -> usize
+    requires { ⌜ length (now flat) ≡ 40 ⌝ }
+    ensures { λ r. ⌜ Flat ((ledgerOf l) .parameters) (now (flat .exit)) 8 r ⌝ }
 {
     let parameters = l.parameters;
-    flatten_eight(parameters, l.parameter_count, flat);
+    let size = 5 * at_most(l.parameter_count, 8);
+    flatten_eight(parameters, l.parameter_count, &mut flat[..size]);
+    size
 }
 
-pub fn flat_variables(l: Ledger, flat: &mut [u32])
-    requires { ⌜ length (now flat) ≡ 5 * min (l .«variable_count») 1024 ⌝ }
-    ensures { λ _. ⌜ contentsOf (now (flat .exit)) ≡ (ledgerOf l) .variables ⌝ }
+pub fn flat_variables(l: Ledger, flat: &mut [u32]) -> usize
+    requires { ⌜ length (now flat) ≡ 5120 ⌝ }
+    ensures { λ r. ⌜ Flat ((ledgerOf l) .variables) (now (flat .exit)) 1024 r ⌝ }
 {
     let variables = l.variables;
-    flatten(variables, l.variable_count, flat);
+    let size = 5 * at_most(l.variable_count, 1024);
+    flatten(variables, l.variable_count, &mut flat[..size]);
+    size
 }
 
-pub fn flat_places(l: Ledger, flat: &mut [u32])
-    requires { ⌜ length (now flat) ≡ 5 * min (l .«place_count») 1024 ⌝ }
-    ensures { λ _. ⌜ contentsOf (now (flat .exit)) ≡ (ledgerOf l) .places ⌝ }
+pub fn flat_places(l: Ledger, flat: &mut [u32]) -> usize
+    requires { ⌜ length (now flat) ≡ 5120 ⌝ }
+    ensures { λ r. ⌜ Flat ((ledgerOf l) .places) (now (flat .exit)) 1024 r ⌝ }
 {
     let places = l.places;
-    flatten(places, l.place_count, flat);
+    let size = 5 * at_most(l.place_count, 1024);
+    flatten(places, l.place_count, &mut flat[..size]);
+    size
 }

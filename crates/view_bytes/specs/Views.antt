@@ -1,17 +1,17 @@
--- The head of a view, and what a request for a view gives.
-use Rattle.kit.specs.Names.{_≡_, List, [], _∷_, _++_, ℕ, _≤_, length}
+-- The head of a view and its length, and what a request for a view gives.
+use Rattle.kit.specs.Names.{_≡_, List, [], _∷_, _++_, ℕ, _+_, _*_, _/_, length}
 use Rattle.definitions.specs.Basics.{twoBytes}
 use Rattle.definitions.specs.Ledger as ledger
-use Rattle.definitions.specs.View.{viewBytes, viewNumber, viewLength, outputAfterView}
+use Rattle.definitions.specs.View.{viewNumber, viewLength, outputAfterView}
+use Rattle.ledger_struct.specs.declared.LastCall.{LastCall}
 use Rattle.memory_answer.specs.declared.Answer.{Answer}
 
-unfoldable pub headBytes : ledger.Ledger → List ℕ
-headBytes l = twoBytes (l .call) ++ (l .function ∷ l .caller ∷ l .outcome ∷ [])
+unfoldable pub headBytes : LastCall → List ℕ
+headBytes last = twoBytes (last .call) ++ (last .function ∷ last .caller ∷ last .outcome ∷ [])
 
--- The length of a view does not depend on who looks.
-pub record IsViewLength (l : ledger.Ledger) (n : ℕ) : Type 0 where
-  pub same : (party : ℕ) → n ≡ length (viewBytes party l)
-  pub few : n ≤ 20565
+-- Ten bytes for each content behind the head, by how many flat numbers the contents are: it does not depend on who looks.
+abbrev pub viewSize : ℕ → ℕ → ℕ → ℕ
+viewSize parameters variables places = 5 + 10 * (parameters / 5) + 10 * (variables / 5) + 10 * (places / 5)
 
 pub record Viewed (party : ℕ) (l : ledger.Ledger) (before after : List ℕ) (r : Answer) : Type 0 where
   pub number : r .number ≡ viewNumber party l (length before)

@@ -1,79 +1,51 @@
 // A party's view of a ledger, as bytes over a lent output.
-use ledger_struct::Ledger;
-use memory_answer::Answer;
-ghost use Rattle.kit.specs.Names.{_≡_, _+_, _*_, _≤_, length};
+use ledger_struct::LastCall;
+use view_items::put_items;
+ghost use Rattle.kit.specs.Names.{_≡_, List, ℕ, _≤_, length};
 ghost use Rattle.memory_buffer.specs.Buffer.{stored};
-ghost use Rattle.definitions.specs.Ledger.{isWellFormed};
 ghost use Rattle.definitions.specs.View.{viewBytes};
-ghost use Rattle.ledger_struct.specs.Ledgers.{ledgerOf};
-ghost use Rattle.view_bytes.specs.Views.{headBytes, IsViewLength, Viewed};
+ghost use Rattle.ledger_contents.specs.Contents.{contentsOf};
+ghost use Rattle.ledger_struct.specs.Ledgers.{ledgerFrom};
+ghost use Rattle.view_bytes.specs.Views.{headBytes, viewSize};
 
 // How long a view is, whoever looks.
-pub fn view_length(l: Ledger) -> usize
-    ensures { λ r. ⌜ IsViewLength (ledgerOf l) r ⌝ }
+pub fn view_length(parameters: &[u32], variables: &[u32], places: &[u32]) -> usize
+    requires { ⌜ (length (now parameters) ≤ 40) × (length (now variables) ≤ 5120) × (length (now places) ≤ 5120) ⌝ }
+    ensures { λ r. ⌜ r ≡ viewSize (length (now (parameters .entry))) (length (now (variables .entry))) (length (now (places .entry))) ⌝ }
 {
-    let parameters = ledger_struct::at_most(l.parameter_count, 8);
-    let variables = ledger_struct::at_most(l.variable_count, 1024);
-    let places = ledger_struct::at_most(l.place_count, 1024);
-    5 + 10 * parameters + 10 * variables + 10 * places
+    5 + 10 * (parameters.len() / 5) + 10 * (variables.len() / 5) + 10 * (places.len() / 5)
 }
 
 // Call, function, caller and outcome.
-fn put_head(out: &mut [u8], l: Ledger)
+fn put_head(out: &mut [u8], last: LastCall)
     requires { ⌜ 5 ≤ length (now out) ⌝ }
-    ensures { λ _. ⌜ now (out .exit) ≡ stored (now (out .entry)) 0 (headBytes (ledgerOf l)) ⌝ }
+    ensures { λ _. ⌜ now (out .exit) ≡ stored (now (out .entry)) 0 (headBytes last) ⌝ }
 {
-    let call = l.call;
+    let call = last.call;
     out[0] = (call % 256) as u8;
     out[1] = (call / 256 % 256) as u8;
-    out[2] = l.function;
-    out[3] = l.caller;
-    out[4] = l.outcome;
+    out[2] = last.function;
+    out[3] = last.caller;
+    out[4] = last.outcome;
 }
 
-// The view's bytes at the front of an output with room for them.
-pub fn view_bytes(l: Ledger, party: u8, out: &mut [u8])
-    requires { ⌜ length (viewBytes party (ledgerOf l)) ≤ length (now out) ⌝ }
-    ensures { λ _. ⌜ now (out .exit) ≡ stored (now (out .entry)) 0 (viewBytes party (ledgerOf l)) ⌝ }
+// The view's bytes at the front of an output with room for them. It is the same whatever the ledger's file.
+pub fn view_bytes(
+    last: LastCall,
+    parameters: &[u32],
+    variables: &[u32],
+    places: &[u32],
+    party: u8,
+    out: &mut [u8],
+)
+    requires { ⌜ viewSize (length (now parameters)) (length (now variables)) (length (now places)) ≤ length (now out) ⌝ }
+    ensures { λ _. ⌜ ((file : List ℕ) → now (out .exit) ≡ stored (now (out .entry)) 0 (viewBytes party
+        (ledgerFrom file last (now (parameters .entry)) (now (variables .entry)) (contentsOf (now (places .entry)))))) ⌝ }
 {
-    let parameters = l.parameters;
-    let variables = l.variables;
-    let places = l.places;
-    let many = ledger_struct::at_most(l.parameter_count, 8);
-    let more = ledger_struct::at_most(l.variable_count, 1024);
-    put_head(out, l);
-    view_items::put_eight(parameters, l.parameter_count, party, out, 5);
-    view_items::put_items(variables, l.variable_count, party, out, 5 + 10 * many);
-    view_items::put_items(places, l.place_count, party, out, 5 + 10 * many + 10 * more);
-}
-
-fn refusal() -> Answer
-    ensures { λ r. ⌜ r ≡ record { number = 21; length = 0 } ⌝ }
-{
-    Answer {
-        number: 21,
-        length: 0,
-    }
-}
-
-// The view that a request gives, where it is known whether the ledger is well formed.
-pub fn tested_view(l: Ledger, party: u8, out: &mut [u8], well_formed: bool) -> Answer
-    requires { ⌜ «well_formed» ≡ isWellFormed (ledgerOf l) ⌝ }
-    ensures { λ r. ⌜ Viewed party (ledgerOf l) (now (out .entry)) (now (out .exit)) r ⌝ }
-{
-    if !well_formed {
-        return refusal();
-    }
-    if 15 < party {
-        return refusal();
-    }
-    let length = view_length(l);
-    if out.len() < length {
-        return refusal();
-    }
-    view_bytes(l, party, out);
-    Answer {
-        number: 0,
-        length: length,
-    }
+    let second = 5 + 10 * (parameters.len() / 5);
+    let third = second + 10 * (variables.len() / 5);
+    put_head(out, last);
+    put_items(parameters, party, out, 5);
+    put_items(variables, party, out, second);
+    put_items(places, party, out, third);
 }

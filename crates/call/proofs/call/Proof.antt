@@ -1,11 +1,31 @@
-use Rattle.kit.specs.Names.{sym, _∙_, needs}
-use Rattle.check_refusals.proofs.Refusals.{refuses, accepts}
-use Rattle.call.proofs.Answers.{refused, taken}
+-- The ledger is taken apart, and the call is made on its parts.
+use Rattle.kit.specs.Names.{_≡_, refl, sym, arith, length, length-take-le, needs}
+use Rattle.ledger_struct.proofs.Flat.{flat-cut}
+use Rattle.ledger_struct.proofs.Apart.{flat-few, parts-make}
 use Rattle.call.proofs.call as own
+
+bytes : (c : own.Tie.Start) → length (c .args .l .file) ≡ 4596
+bytes c = search needs
 
 pub call-spec : {M : Type 1} → own.Statement.statement M
 call-spec =
-    own.Tie.close (own.Tie.spec (λ c κs. search needs) (λ c κs. search needs)
-    (λ c. refused _ _ _ _ _ (c .before .before .call-number .ensures) (refuses _ _ (c .before .is-refused .ensures) (c .if1 .taken)))
-    (λ c κs. sym (c .before .before .call-number .ensures) ∙ accepts _ _ (c .before .is-refused .ensures) (c .if1 .left))
-    (λ c. taken _ _ _ _ _ (c .before .before .before .call-number .ensures) (accepts _ _ (c .before .before .is-refused .ensures) (c .before .if1 .left)) _ (c .honest-call .ensures)))
+    own.Tie.close (own.Tie.spec (λ c κs. search needs)
+    (λ c. search needs)
+    (λ c κs. search needs)
+    (λ c. search needs)
+    (λ c κs. search needs)
+    (λ c. search needs)
+    (λ c κs. search needs)
+    (λ c. omega (arith, c .before .before .before .before .before .before .before .before .before .at-most .ensures, bytes (c .before .before .before .before .before .before .before .before .before .before .before .before)))
+    (λ c. let cut = c .before .before .before .before .before .before .before .before .before .before .at-most in let s = c .before .before .before .before .before .before .before .before .before .before .before .before .before in
+    sym (length-take-le (cut .result) (s .args .l .file) (omega (arith, cut .ensures, bytes s))))
+    (λ c. search needs)
+    (λ c. sym (flat-cut _ _ 8 _ (c .before .before .before .before .before .before .before .before .before .flat-parameters .ensures)))
+    (λ c. search needs)
+    (λ c. sym (flat-cut _ _ 1024 _ (c .before .before .before .before .before .before .before .flat-variables .ensures)))
+    (λ c. search needs)
+    (λ c. sym (flat-cut _ _ 1024 _ (c .before .before .before .before .before .flat-places .ensures)))
+    (λ c κs. let q = c .before .before .before .before .before .flat-places .ensures in let v = c .before .before .before .before .before .before .before .before .flat-variables .ensures in let p = c .before .before .before .before .before .before .before .before .before .before .before .flat-parameters .ensures in
+    let s = c .before .before .before .before .before .before .before .before .before .before .before .before .before .before .before .before in
+    (parts-make (s .args .l) _ _ _ _ _ _ _ _ (bytes s) (c .before .before .before .before .before .before .before .before .before .before .before .before .before .at-most .ensures) refl p v q, flat-few _ _ 8 _ p, omega (arith, flat-few _ _ 1024 _ q)))
+    (λ c. search needs))

@@ -1,39 +1,32 @@
--- The number of the call, then the party, then the room.
-use Rattle.kit.specs.Names.{_≡_, refl, sym, _∙_, _≤_, arith, length, needs}
-use Rattle.definitions.specs.Ledger.{callNumber}
-use Rattle.definitions.specs.View.{disclosedOn}
-use Rattle.check_refusals.proofs.Refusals.{refuses, accepts}
-use Rattle.ledger_struct.specs.Ledgers.{ledgerOf}
-use Rattle.call_ledgers.proofs.Ledgers.{taken-length}
-use Rattle.disclose_output.proofs.Refusals.{number-clear, party-low}
-use Rattle.disclose_call.proofs.Bodies.{disclosed-few}
-use Rattle.disclose_call.proofs.Requests.{values-front, request-refused, request-handed}
+-- The ledger is taken apart, and its parts are asked.
+use Rattle.kit.specs.Names.{_≡_, refl, sym, arith, length, length-take-le, needs}
+use Rattle.ledger_struct.proofs.Flat.{flat-cut}
+use Rattle.ledger_struct.proofs.Apart.{flat-few, parts-make}
 use Rattle.disclose_call.proofs.disclosed as own
 
--- Behind the refusals the call is not refused, there is such a party, and the values are few.
-module _ (c : own.Tie.Else1) where
-  abbrev start : own.Tie.Start
-  start = c .before .before .before .before .before .before
-
-  none : c .before .before .refusal .result ≡ 0
-  none = accepts _ _ (c .before .is-refused .ensures) (c .if1 .left)
-
-  clear : callNumber (ledgerOf (start .args .l)) (start .args .function) (start .args .caller) (start .args .arguments .now) ≡ 0
-  clear = sym (c .before .before .before .call-number .ensures) ∙ number-clear (c .before .before .before .call-number .result) (start .args .party) _ (c .before .before .refusal .ensures) none
-
-  low : start .args .party ≤ 15
-  low = party-low (c .before .before .before .call-number .result) (start .args .party) _ (c .before .before .refusal .ensures) none
-
-  few : length (disclosedOn (ledgerOf (start .args .l)) (start .args .function) (start .args .caller) (start .args .arguments .now) (start .args .party)) ≤ 512
-  few = disclosed-few _ _ _ _ (start .args .party) clear
+bytes : (c : own.Tie.Start) → length (c .args .l .file) ≡ 4596
+bytes c = search needs
 
 pub disclosed-spec : {M : Type 1} → own.Statement.statement M
 disclosed-spec =
-    own.Tie.close (own.Tie.spec (λ c κs. search needs) (λ c κs. search needs) (λ c κs. search needs)
-    (λ c. request-refused _ _ _ _ _ _ (c .before .before .before .call-number .result) _ _ (c .before .before .before .call-number .ensures) (c .before .before .refusal .ensures)
-    (refuses (c .before .before .refusal .result) _ (c .before .is-refused .ensures) (c .if1 .taken)) refl refl) (λ c. search needs)
-    (λ c κs. (clear (c .before), omega arith))
-    (λ c. omega (arith, few (c .before .before .before), c .before .disclosed-values .ensures .place))
-    (λ c. taken-length _ _ (omega (arith, few (c .before .before .before .before), c .before .before .disclosed-values .ensures .place)))
-    (λ c κs. search needs) (λ c. search needs)
-    (λ c. request-handed _ _ _ _ (c .before .before .before .before .before .before .before .before .before .before .before .before .before .before .args .party) _ (clear (c .before .before .before .before .before .before .before .before)) (low (c .before .before .before .before .before .before .before .before)) _ _ _ (values-front _ _ _ _ (c .before .before .before .before .before .before .disclosed-values .ensures)) (c .before .before .hand-over .ensures)))
+    own.Tie.close (own.Tie.spec (λ c κs. search needs)
+    (λ c. search needs)
+    (λ c κs. search needs)
+    (λ c. search needs)
+    (λ c κs. search needs)
+    (λ c. search needs)
+    (λ c κs. search needs)
+    (λ c. omega (arith, c .before .before .before .before .before .before .before .before .before .at-most .ensures, bytes (c .before .before .before .before .before .before .before .before .before .before .before .before .before)))
+    (λ c. let cut = c .before .before .before .before .before .before .before .before .before .before .at-most in let s = c .before .before .before .before .before .before .before .before .before .before .before .before .before .before in
+    sym (length-take-le (cut .result) (s .args .l .file) (omega (arith, cut .ensures, bytes s))))
+    (λ c. search needs)
+    (λ c. sym (flat-cut _ _ 8 _ (c .before .before .before .before .before .before .before .before .before .flat-parameters .ensures)))
+    (λ c. search needs)
+    (λ c. sym (flat-cut _ _ 1024 _ (c .before .before .before .before .before .before .before .flat-variables .ensures)))
+    (λ c. search needs)
+    (λ c. sym (flat-cut _ _ 1024 _ (c .before .before .before .before .before .flat-places .ensures)))
+    (λ c κs. (flat-few _ _ 8 _ (c .before .before .before .before .before .before .before .before .before .before .before .before .flat-parameters .ensures), omega (arith, flat-few _ _ 1024 _ (c .before .before .before .before .before .before .flat-places .ensures))))
+    (λ c. search needs)
+    (λ c. let s = c .before .before .before .before .before .before .before .before .before .before .before .before .before .before .before .before .before .before .before .before .before in
+    rw (parts-make (s .args .l) _ _ _ _ _ _ _ _ (bytes s) (c .before .before .before .before .before .before .before .before .before .before .before .before .before .before .before .before .before .at-most .ensures) refl (c .before .before .before .before .before .before .before .before .before .before .before .before .before .before .before .flat-parameters .ensures)
+    (c .before .before .before .before .before .before .before .before .before .before .before .before .flat-variables .ensures) (c .before .before .before .before .before .before .before .before .before .flat-places .ensures)) at (c .before .before .disclosed-apart .ensures)))

@@ -1,12 +1,11 @@
 -- Five bytes are stored.
 use Rattle.kit.specs.Names.{arith, length-set, needs}
-use Rattle.ledger_struct.specs.Ledgers.{ledgerOf}
 use Rattle.view_bytes.specs.Views.{headBytes}
 use Rattle.view_bytes.proofs.Views.{head-set}
 use Rattle.view_bytes.proofs.put_head as own
 
 returns : own.Tie.Need-returns
-unfolding headBytes ledgerOf
+unfolding headBytes
 returns c = head-set _ _ _ _ _ _ (c .pre)
 
 pub put-head-spec : {M : Type 1} → own.Statement.statement M
