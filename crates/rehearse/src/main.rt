@@ -26,12 +26,12 @@ fn line_room() -> [u8; 41135]
 }
 
 // The number, and the party's view of the ledger; a party above 15 has an empty one. The answer is whether all of it was printed.
-fn print_line(number: u8, ledger: Ledger, party: u8) -> bool {
-    let mut view = view_room();
-    let answer = view::view(ledger, party, &mut view);
+fn print_line(number: u8, ledger: Ledger, party: u8, view: &mut [u8], line: &mut [u8]) -> bool
+    requires { ⌜ (length (now view) ≡ 20565) × (length (now line) ≡ 41135) ⌝ }
+{
+    let answer = view::view(ledger, party, view);
     let length = ledger_struct::at_most(answer.length, 20565);
-    let mut line = line_room();
-    let end = rehearse_lines::write_line(number, &view[..length], &mut line);
+    let end = rehearse_lines::write_line(number, &view[..length], line);
     print(b"rehearse", &line[..end]) == end
 }
 
@@ -54,8 +54,11 @@ fn rehearse(bytes: &[u8]) {
         print_refused(b"rehearse", deployment.number);
         return;
     }
+    // Made once for all lines: a line needs no more of them than it writes.
+    let mut view = view_room();
+    let mut line = line_room();
     let mut ledger = deployment.ledger;
-    if !print_line(0, ledger, script.party) {
+    if !print_line(0, ledger, script.party, &mut view[..], &mut line[..]) {
         return;
     }
     let mut k: u8 = 0;
@@ -63,7 +66,13 @@ fn rehearse(bytes: &[u8]) {
         let called = call_at(bytes, k, ledger);
         let after = called.ledger;
         ledger = after;
-        if !print_line(called.number, ledger, script.party) {
+        if !print_line(
+            called.number,
+            ledger,
+            script.party,
+            &mut view[..],
+            &mut line[..],
+        ) {
             return;
         }
         k += 1;

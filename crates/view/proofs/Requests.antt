@@ -16,6 +16,17 @@ front : (held values : List ℕ) → stored held 0 values ≡ values ++ drop (le
 unfolding stored
 front held values = rw (zero-add (length values))
 
+module _ (party : ℕ) (l : ledger.Ledger) (before : List ℕ) where
+  abbrev sentence : Bool
+  sentence = not (isWellFormed l) || ltb 15 party || ltb (length before) (length (viewBytes party l))
+
+  refused : sentence ≡ true → Viewed party l before before (record { number = 21; length = 0 })
+  unfolding viewNumber viewLength outputAfterView firstThatHolds
+  refused holds = record { number = rw holds; long = rw holds; output = rw holds }
+
+  pub refused-party : 15 < party → Viewed party l before before (record { number = 21; length = 0 })
+  refused-party above = refused (rw (lt-ltb 15 party above, or-true))
+
 module _ (party : ℕ) (file : List ℕ) (last : LastCall) (p v q before : List ℕ) where
   abbrev l : ledger.Ledger
   l = ledgerFrom file last p v (contentsOf q)
@@ -23,21 +34,11 @@ module _ (party : ℕ) (file : List ℕ) (last : LastCall) (p v q before : List 
   abbrev refusal : Type 0
   refusal = Viewed party l before before (record { number = 21; length = 0 })
 
-  abbrev sentence : Bool
-  sentence = not (isWellFormed l) || ltb 15 party || ltb (length before) (length (viewBytes party l))
-
-  refused : sentence ≡ true → refusal
-  unfolding viewNumber viewLength outputAfterView firstThatHolds
-  refused holds = record { number = rw holds; long = rw holds; output = rw holds }
-
-  pub refused-party : 15 < party → refusal
-  refused-party above = refused (rw (lt-ltb 15 party above, or-true))
-
   pub refused-room : length before < viewSize (length p) (length v) (length q) → refusal
-  refused-room short = refused (rw (lt-ltb (length before) (length (viewBytes party l)) (omega (arith, view-long party file last p v q)), or-true))
+  refused-room short = refused party l before (rw (lt-ltb (length before) (length (viewBytes party l)) (omega (arith, view-long party file last p v q)), or-true))
 
   pub refused-form : (form : Bool) → form ≡ isWellFormed l → form ≡ false → refusal
-  refused-form form told off = refused (rw (← told, off))
+  refused-form form told off = refused party l before (rw (← told, off))
 
   pub accepted : (after : List ℕ) (n : ℕ) (form : Bool) → party ≤ 15 → n ≡ viewSize (length p) (length v) (length q) → n ≤ length before
       → form ≡ isWellFormed l → form ≡ true → after ≡ stored before 0 (viewBytes party l)
@@ -45,5 +46,5 @@ module _ (party : ℕ) (file : List ℕ) (last : LastCall) (p v q before : List 
   unfolding viewNumber viewLength outputAfterView firstThatHolds
   accepted after n form low size room told on e =
       let long = size ∙ sym (view-long party file last p v q) in
-      let holds : sentence ≡ false = rw (← told, on, le-ltb 15 party low, le-ltb (length before) (length (viewBytes party l)) (omega arith)) in
+      let holds : sentence party l before ≡ false = rw (← told, on, le-ltb 15 party low, le-ltb (length before) (length (viewBytes party l)) (omega arith)) in
       record { number = rw holds; long = rw holds long; output = rw holds (e ∙ front before (viewBytes party l)) }

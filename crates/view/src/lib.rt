@@ -24,7 +24,8 @@ pub fn view_apart(
     party: u8,
     out: &mut [u8],
 ) -> Answer
-    requires { ⌜ (length (now parameters) ≤ 40) × (length (now variables) ≤ 5120) × (length (now places) ≤ 5120) ⌝ }
+    requires { ⌜ (length (now parameters) ≤ 40) × (length (now variables) ≤ 5120) × (length (now places) ≤ 5120)
+        × (party ≤ 15) ⌝ }
     ensures { λ r. ⌜ Viewed party (ledgerFrom (now (file .entry)) last (now (parameters .entry)) (now (variables .entry))
         (contentsOf (now (places .entry)))) (now (out .entry)) (now (out .exit)) r ⌝ }
 {
@@ -33,9 +34,6 @@ pub fn view_apart(
         number: 21,
         length: 0,
     };
-    if 15 < party {
-        return refused;
-    }
     if out.len() < length {
         return refused;
     }
@@ -55,6 +53,12 @@ pub fn view_apart(
 pub fn view(l: Ledger, party: u8, out: &mut [u8]) -> Answer
     ensures { λ r. ⌜ Viewed party (ledgerOf l) (now (out .entry)) (now (out .exit)) r ⌝ }
 {
+    if 15 < party {
+        return Answer {
+            number: 21,
+            length: 0,
+        };
+    }
     let bytes = l.file;
     let length = at_most(l.file_length, 4596);
     let last = LastCall {
