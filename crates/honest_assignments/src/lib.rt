@@ -1,6 +1,7 @@
 // 01, Runs and views: an assignment of the original on numbers, with the numbers of the variables that it makes.
 use file_bytes::Node;
 use file_kinds::EVERYONE_BYTE;
+use honest_supplies::Placing;
 use honest_supplies::Turn;
 use honest_supplies::body_slots;
 use honest_supplies::place_slots;
@@ -74,8 +75,10 @@ pub fn field_slots(
         numbers,
         arguments,
         turn,
-        node.first,
-        private,
+        Placing {
+            n: node.first,
+            private: private,
+        },
         out,
         i,
     );
@@ -125,8 +128,10 @@ pub fn entry_slots(
         numbers,
         arguments,
         turn,
-        node.second,
-        private,
+        Placing {
+            n: node.second,
+            private: private,
+        },
         out,
         j,
     );

@@ -178,22 +178,31 @@ fn circuit_parts(
     }
 }
 
-// The variables that node n makes when it is put into a place: "A public value put into a private place is supplied".
+// A node that is put into a place, and whether the place is private.
+pub struct Placing {
+    pub n: usize,
+    pub private: bool,
+}
+
+// The variables that a node makes when it is put into a place: "A public value put into a private place is supplied".
 pub fn place_slots(
     file: &[u8],
     source: &[u16],
     numbers: &[u32],
     arguments: &[u32],
     turn: Turn,
-    n: usize,
-    private: bool,
+    placing: Placing,
     out: &mut [u64],
     i: usize,
 ) -> usize
-    requires { ⌜ Ready (now file) (turn .«function_at») (now source) n (now out) i (placedIn (now file) (turn .«function_at») n private) ⌝ }
+    requires { ⌜ Ready (now file) (turn .«function_at») (now source) (placing .n) (now out) i
+        (placedIn (now file) (turn .«function_at») (placing .n) (placing .private)) ⌝ }
     ensures { λ r. ⌜ Wrote (suppliedNumber (now (file .entry)) (now (arguments .entry)) (turn .caller) (turn .live) (now (numbers .entry)))
-        (now (out .entry)) (now (out .exit)) i r (placedIn (now (file .entry)) (turn .«function_at») n private) ⌝ }
+        (now (out .entry)) (now (out .exit)) i r
+        (placedIn (now (file .entry)) (turn .«function_at») (placing .n) (placing .private)) ⌝ }
 {
+    let n = placing.n;
+    let private = placing.private;
     if private {
         if is_public(file, turn.function_at, source, n) {
             supply_slots(file, source, numbers, arguments, turn, n, out, i)
