@@ -1,5 +1,5 @@
 -- The parts make the struct.
-use Rattle.kit.specs.Names.{arith, needs}
+use Rattle.kit.specs.Names.{arith, rules}
 use Rattle.call.proofs.Together.{put, done_put, failed_put}
 use Rattle.call.proofs.after_call as own
 
@@ -13,6 +13,6 @@ unfolding put
 returns-2 c = let f = c.before.before.before in let s = f.before.before.before.before.before.before in
     failed_put s.args.l s.args.made _ _ _ _ _ f.filled.ensures c.if1.left
 
-pub after-call-spec : {M : Type 1} → own.Statement.statement M
-after-call-spec =
-    own.Tie.close (own.Tie.spec (λ c κs. search needs) (λ c. search needs) (λ c κs. search needs) returns returns-2)
+pub after_call_spec : {M : Type 1} → own.Statement.statement M
+after_call_spec =
+    own.Tie.close (own.Tie.spec (λ c κs. search rules) (λ c. search rules) (λ c κs. search rules) returns returns-2)

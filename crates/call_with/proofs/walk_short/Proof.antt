@@ -1,17 +1,17 @@
 -- At most 64 nodes.
-use Rattle.kit.specs.Names.{◌≤◌, arith, needs}
+use Rattle.kit.specs.Names.{◌≤◌, arith, rules}
 use Rattle.definitions.specs.ContractFile.{node_count}
 use Rattle.call_with.proofs.walk_short as own
 
-pub walk-short-spec : {M : Type 1} → own.Statement.statement M
-walk-short-spec =
-    own.Tie.close (own.Tie.spec (λ c. search needs) (λ c. search needs) (λ c. search needs) (λ c. search needs)
-    (λ c κs. let start = c.before.before.before.before.before.before.before.before.before.before.before.before in let held = start.pre.0 in let room = start.pre.1 in
-    let few : node_count start.args.file.now ≤ 64 = omega (arith, start.pre.2, held.long) in record {
+pub walk_short_spec : {M : Type 1} → own.Statement.statement M
+walk_short_spec =
+    own.Tie.close (own.Tie.spec (λ c. search rules) (λ c. search rules) (λ c. search rules) (λ c. search rules)
+    (λ c κs. let start = c.before.before.before.before.before.before.before.before.before.before.before.before in let held = start.requires.0 in let room = start.requires.1 in
+    let few : node_count start.args.file.now ≤ 64 = omega (arith, start.requires.2, held.long) in record {
       held = held;
       room = room;
       log_space = omega arith;
       numbers_space = omega arith;
       roots_space = omega arith;
       nodes_space = omega (arith, room.parts_by_nodes);
-    }) (λ c. search needs) (λ c. search needs) (λ c. search needs))
+    }) (λ c. search rules) (λ c. search rules) (λ c. search rules))

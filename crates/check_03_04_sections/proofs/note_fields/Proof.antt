@@ -1,4 +1,4 @@
-use Rattle.kit.specs.Names.{◌≡◌, refl, ◌||◌, ◌+◌, ◌*◌, ◌/◌, ◌≤◌, arith, length, needs}
+use Rattle.kit.specs.Names.{◌≡◌, refl, ◌||◌, ◌+◌, ◌*◌, ◌/◌, ◌≤◌, arith, length, rules}
 use Rattle.definitions.specs.Basics.{any}
 use Rattle.definitions.specs.ContractFile.{field_of}
 use Rattle.file_decoded.specs.Slices.{fields_from}
@@ -18,16 +18,16 @@ Inv-loop fields count at₀ left₀ outside₀ nothing₀ at left outside nothin
 abbrev μ-loop : own.Tie.MeasureT-loop
 μ-loop fields count at₀ left₀ outside₀ nothing₀ at left outside nothing = left
 
-pub note-fields-spec : {M : Type 1} → own.Statement.statement M
+pub note_fields_spec : {M : Type 1} → own.Statement.statement M
 unfolding field_of
-note-fields-spec =
-    own.Tie.close (own.Tie.spec Inv-loop μ-loop (λ c. search needs) (λ c κs. search needs) (λ c. search needs) (λ c κs. search needs)
-    (λ c. search needs) (λ c κs. search needs) (λ c κs. search needs) (λ c κs. search needs) (λ c. search needs) (λ c. search needs) (λ c. search needs)
+note_fields_spec =
+    own.Tie.close (own.Tie.spec Inv-loop μ-loop (λ c. search rules) (λ c κs. search rules) (λ c. search rules) (λ c κs. search rules)
+    (λ c. search rules) (λ c κs. search rules) (λ c κs. search rules) (λ c κs. search rules) (λ c. search rules) (λ c. search rules) (λ c. search rules)
     (λ c. let owner = c.before.before in let turn = owner.before.before.before in let loop = turn.before.loop in
     let step = fields_step _ loop.at _ turn.loop-test.taken in let (outside, nothing, _) = loop.inv in (
-      rw (c.before.field-in-tables.ensures, owner.before.before.number-from.ensures.0, owner.before.number-from2.ensures.0, owner.number-from3.ensures.0)
+      rw (c.before.field_in_tables.ensures, owner.before.before.number_from.ensures.0, owner.before.number-from2.ensures.0, owner.number-from3.ensures.0)
           (noted_next field_outside loop.outside _ _ _ _ step outside _ refl),
-      rw (c.final-number.ensures, owner_asked _ _ _ _ refl refl, owner.number-from3.ensures.0)
+      rw (c.final_number.ensures, owner_asked _ _ _ _ refl refl, owner.number-from3.ensures.0)
           (noted_next (owner_names_nothing _) loop.nothing _ _ _ _ step nothing _ refl),
       omega arith,
     )) (λ c. let loop = c.before.loop in let end = fields_end _ loop.at _ c.loop-test.left in

@@ -1,4 +1,4 @@
-use Rattle.kit.specs.Names.{◌≡◌, refl, ap, ◌∙◌, ◌||◌, ◌+◌, ◌*◌, ◌/◌, ◌≤◌, arith, length, needs}
+use Rattle.kit.specs.Names.{◌≡◌, refl, ap, ◌∙◌, ◌||◌, ◌+◌, ◌*◌, ◌/◌, ◌≤◌, arith, length, rules}
 use Rattle.definitions.specs.Basics.{any, any_numbered}
 use Rattle.definitions.specs.Numbers.{node_in_tables}
 use Rattle.file_decoded.specs.Slices.{nodes_from}
@@ -17,15 +17,15 @@ Inv-loop nodes fields at₀ left₀ n₀ outside₀ nothing₀ at left n outside
 abbrev μ-loop : own.Tie.MeasureT-loop
 μ-loop nodes fields at₀ left₀ n₀ outside₀ nothing₀ at left n outside nothing = left
 
-pub note-nodes-spec : {M : Type 1} → own.Statement.statement M
-note-nodes-spec =
-    own.Tie.close (own.Tie.spec Inv-loop μ-loop (λ c. (refl, refl, omega arith, omega arith)) (λ c κs. search needs) (λ c κs. search needs)
-    (λ c κs. search needs) (λ c. search needs) (λ c. search needs) (λ c. search needs) (λ c. search needs)
+pub note_nodes_spec : {M : Type 1} → own.Statement.statement M
+note_nodes_spec =
+    own.Tie.close (own.Tie.spec Inv-loop μ-loop (λ c. (refl, refl, omega arith, omega arith)) (λ c κs. search rules) (λ c κs. search rules)
+    (λ c κs. search rules) (λ c. search rules) (λ c. search rules) (λ c. search rules) (λ c. search rules)
     (λ c. let read = c.before.before in let turn = read.before in let loop = turn.before.loop in
     let step = nodes_step _ loop.at _ turn.loop-test.taken in let (outside, nothing, _, _) = loop.inv in (
-      rw (c.before.node-in-tables.ensures ∙ ap node_in_tables read.node-from.ensures.same)
+      rw (c.before.node_in_tables.ensures ∙ ap node_in_tables read.node_from.ensures.same)
           (noted_next node_outside loop.outside _ _ _ _ step outside _ refl),
-      rw (c.node-names-nothing.ensures ∙ ap (node_names_nothing _ loop.n) read.node-from.ensures.same)
+      rw (c.node_names_nothing.ensures ∙ ap (node_names_nothing _ loop.n) read.node_from.ensures.same)
           (noted_numbered_next (node_names_nothing _) loop.n loop.nothing _ _ _ _ step nothing _ refl),
       omega arith,
       omega arith,

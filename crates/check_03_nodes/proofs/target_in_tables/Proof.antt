@@ -1,5 +1,5 @@
-use Rattle.kit.specs.Names.{needs}
+use Rattle.kit.specs.Names.{rules}
 use Rattle.check_03_nodes.proofs.target_in_tables as own
 
-pub target-in-tables-spec : {M : Type 1} → own.Statement.statement M
-target-in-tables-spec = own.Tie.close (own.Tie.spec (λ c κs. search needs) (λ c. rw (← c.is-final-code.ensures)))
+pub target_in_tables_spec : {M : Type 1} → own.Statement.statement M
+target_in_tables_spec = own.Tie.close (own.Tie.spec (λ c κs. search rules) (λ c. rw (← c.is_final_code.ensures)))

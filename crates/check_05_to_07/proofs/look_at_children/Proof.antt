@@ -1,4 +1,4 @@
-use Rattle.kit.specs.Names.{◌≡◌, ap, sym, ◌∙◌, Bool, not, ◌||◌, [], ◌∷◌, map, ℕ, ◌+◌, ◌-◌, ◌≤◌, max, arith, ltb, needs}
+use Rattle.kit.specs.Names.{◌≡◌, ap, sym, ◌∙◌, Bool, not, ◌||◌, [], ◌∷◌, map, ℕ, ◌+◌, ◌-◌, ◌≤◌, max, arith, ltb, rules}
 use Rattle.definitions.specs.Basics.{any_numbered, largest}
 use Rattle.definitions.specs.ContractFile.{node_of}
 use Rattle.file_decoded.specs.Slices.{node_from}
@@ -23,32 +23,32 @@ Inv-loop nodes at counts₀ depths kind expressions left₀ i₀ deepest₀ wron
 abbrev μ-loop : own.Tie.MeasureT-loop
 μ-loop nodes at counts₀ depths kind expressions left₀ i₀ deepest₀ wrong₀ counts left i deepest wrong = left
 
-pub look-at-children-spec : {M : Type 1} → own.Statement.statement M
-look-at-children-spec =
-    own.Tie.close (own.Tie.spec Inv-loop μ-loop (λ c κs. search needs) (λ c κs. search needs) (λ c κs. search needs)
-    (λ c. let read = c.before.before.number-from.ensures.0 in let start = c.before.before.before.before in let nodes = start.args.nodes.now in
-    let all = rest_all nodes start.args.at _ _ read c.child-count.ensures in (
+pub look_at_children_spec : {M : Type 1} → own.Statement.statement M
+look_at_children_spec =
+    own.Tie.close (own.Tie.spec Inv-loop μ-loop (λ c κs. search rules) (λ c κs. search rules) (λ c κs. search rules)
+    (λ c. let read = c.before.before.number_from.ensures.0 in let start = c.before.before.before.before in let nodes = start.args.nodes.now in
+    let all = rest_all nodes start.args.at _ _ read c.child_count.ensures in (
       rw all (leads_all _ _),
-      room_less _ 3 _ start.pre.1 (at_most_three nodes 0 _ _ c.child-count.ensures),
+      room_less _ 3 _ start.requires.1 (at_most_three nodes 0 _ _ c.child_count.ensures),
       rw all (omega arith),
-      rw all (children_wrong (nodes_in nodes) (node_from nodes start.args.at) _ (c.before.expression-count.ensures ∙ ap expression_count read)),
+      rw all (children_wrong (nodes_in nodes) (node_from nodes start.args.at) _ (c.before.expression_count.ensures ∙ ap expression_count read)),
       omega arith,
-      omega (arith, at_most_three nodes 0 _ _ c.child-count.ensures),
+      omega (arith, at_most_three nodes 0 _ _ c.child_count.ensures),
     ))
-    (λ c. search needs) (λ c. search needs) (λ c κs. search needs)
+    (λ c. search rules) (λ c. search rules) (λ c κs. search rules)
     (λ c κs. room_less _ _ 1 c.before.before.before.loop.inv.1 c.before.before.loop-test.taken)
-    (λ c κs. search needs) (λ c κs. search needs) (λ c κs. search needs) (λ c. search needs) (λ c. search needs) (λ c. search needs)
+    (λ c κs. search rules) (λ c κs. search rules) (λ c κs. search rules) (λ c. search rules) (λ c. search rules) (λ c. search rules)
     (λ c. let used = c.before.before.before in let read = used.before.before in let turn = read.before in let loop = turn.before.loop in
     let args = turn.before.before.before.before.before.before.args in let nodes = args.nodes.now in
     let step = rest_step nodes args.at loop.i loop.left loop.inv.5 turn.loop-test.taken in let is = read.number-from2.ensures.0 in
-    let due = ltb loop.i turn.before.before.before.expression-count.result in
+    let due = ltb loop.i turn.before.before.before.expression_count.result in
     let (leads, room, deep, sorts, _, _) = loop.inv in (
-      leads_next _ _ _ _ (_ ∷ []) _ _ leads (step ∙ ap (λ (n : ℕ). n ∷ rest nodes args.at (loop.i + 1) (loop.left - 1)) (sym is)) used.count-use.ensures,
-      room_after _ _ _ _ _ used.count-use.ensures room (omega arith),
+      leads_next _ _ _ _ (_ ∷ []) _ _ leads (step ∙ ap (λ (n : ℕ). n ∷ rest nodes args.at (loop.i + 1) (loop.left - 1)) (sym is)) used.count_use.ensures,
+      room_after _ _ _ _ _ used.count_use.ensures room (omega arith),
       largest_next (depth_in args.depths.now) loop.deepest _ _ _ _ _ step deep
-          (c.before.larger.ensures ∙ ap (max loop.deepest) (c.before.before.depth-of.ensures.0 ∙ ap (depth_in args.depths.now) is)),
+          (c.before.larger.ensures ∙ ap (max loop.deepest) (c.before.before.depth_of.ensures.0 ∙ ap (depth_in args.depths.now) is)),
       noted_numbered_next (child_wrong (nodes_in nodes) _) loop.i loop.wrong _ _ _ _ step sorts _
-          (ap (λ (b : Bool). loop.wrong || not b) (c.has-sort.ensures ∙ ap (has_sort (nodes_in nodes) due) is)),
+          (ap (λ (b : Bool). loop.wrong || not b) (c.has_sort.ensures ∙ ap (has_sort (nodes_in nodes) due) is)),
       omega arith,
       omega arith,
     ))

@@ -1,4 +1,4 @@
-use Rattle.kit.specs.Names.{◌≡◌, ◌||◌, ◌+◌, ◌*◌, ◌/◌, arith, length, needs}
+use Rattle.kit.specs.Names.{◌≡◌, ◌||◌, ◌+◌, ◌*◌, ◌/◌, arith, length, rules}
 use Rattle.definitions.specs.Basics.{any, flat_map}
 use Rattle.file_decoded.specs.Slices.{node_from, nodes_from}
 use Rattle.check_05_uses.specs.Counting.{Room, children_of}
@@ -20,14 +20,14 @@ Inv-loop nodes counts₀ depths₀ at₀ left₀ n₀ wrong₀ counts depths at 
 abbrev μ-loop : own.Tie.MeasureT-loop
 μ-loop nodes counts₀ depths₀ at₀ left₀ n₀ wrong₀ counts depths at left n wrong = left
 
-pub look-at-nodes-spec : {M : Type 1} → own.Statement.statement M
-look-at-nodes-spec =
-    own.Tie.close (own.Tie.spec Inv-loop μ-loop (λ c. let start = c.before in let (_, _, room, chains) = start.pre in
+pub look_at_nodes_spec : {M : Type 1} → own.Statement.statement M
+look_at_nodes_spec =
+    own.Tie.close (own.Tie.spec Inv-loop μ-loop (λ c. let start = c.before in let (_, _, room, chains) = start.requires in
     (leads_all _ _, room, chains, nodes_all start.args.nodes.now, omega arith, omega arith))
     (λ c κs. let (_, room, chains, _, _, _) = c.before.before.before.loop.inv in (omega arith, room_less _ _ 3 room (omega arith), chains.bounded))
-    (λ c. search needs) (λ c. search needs) (λ c. search needs) (λ c. search needs) (λ c. search needs) (λ c. search needs) (λ c. search needs) (λ c. search needs)
-    (λ c. let seen = c.before.before.look-at-children.ensures in let turn = c.before.before.before.before.before in
-    let start = turn.before.before.before in let nodes = start.args.nodes.now in let (_, below, _, _) = start.pre in
+    (λ c. search rules) (λ c. search rules) (λ c. search rules) (λ c. search rules) (λ c. search rules) (λ c. search rules) (λ c. search rules) (λ c. search rules)
+    (λ c. let seen = c.before.before.look_at_children.ensures in let turn = c.before.before.before.before.before in
+    let start = turn.before.before.before in let nodes = start.args.nodes.now in let (_, below, _, _) = start.requires in
     let (leads, room, chains, sorts, at-is, _) = turn.before.loop.inv in (
       nodes_next _ _ _ _ nodes _ leads turn.loop-test.taken _ seen.counted,
       room_after_node (node_from nodes turn.before.loop.at) _ _ _ _ turn.loop-test.taken seen.counted room,

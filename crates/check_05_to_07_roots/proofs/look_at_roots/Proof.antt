@@ -1,4 +1,4 @@
-use Rattle.kit.specs.Names.{◌≡◌, refl, sym, ap, ◌∙◌, true, false, not, ◌||◌, List, map, ℕ, ◌+◌, ◌*◌, ◌/◌, ◌≤◌, arith, ltb, length, needs}
+use Rattle.kit.specs.Names.{◌≡◌, refl, sym, ap, ◌∙◌, true, false, not, ◌||◌, List, map, ℕ, ◌+◌, ◌*◌, ◌/◌, ◌≤◌, arith, ltb, length, rules}
 use Rattle.definitions.specs.Basics.{any}
 use Rattle.file_decoded.specs.Slices.{functions_from}
 use Rattle.check_05_uses.specs.Counting.{Room, root_of}
@@ -22,23 +22,23 @@ Inv-loop functions nodes counts₀ depths noted at₀ left₀ deep₀ wrong₀ c
 abbrev μ-loop : own.Tie.MeasureT-loop
 μ-loop functions nodes counts₀ depths noted at₀ left₀ deep₀ wrong₀ counts at left deep wrong = left
 
-pub look-at-roots-spec : {M : Type 1} → own.Statement.statement M
-look-at-roots-spec =
-    own.Tie.close (own.Tie.spec Inv-loop μ-loop (λ c. ((λ parameters. (leads_all _ _, refl, refl)), c.before.before.pre.0, omega arith))
-    (λ c. search needs) (λ c κs. search needs)
+pub look_at_roots_spec : {M : Type 1} → own.Statement.statement M
+look_at_roots_spec =
+    own.Tie.close (own.Tie.spec Inv-loop μ-loop (λ c. ((λ parameters. (leads_all _ _, refl, refl)), c.before.before.requires.0, omega arith))
+    (λ c. search rules) (λ c κs. search rules)
     (λ c κs. let (_, room, _) = c.before.before.before.loop.inv in room_less _ _ 1 room c.before.before.loop-test.taken)
-    (λ c κs. search needs) (λ c κs. search needs) (λ c. search needs) (λ c. search needs) (λ c. search needs)
+    (λ c κs. search rules) (λ c κs. search rules) (λ c. search rules) (λ c. search rules) (λ c. search rules)
     (λ c. let depth = c.before in let used = depth.before in let read = used.before.before in
     let turn = read.before in let loop = turn.before.loop in let args = turn.before.before.before.before.args in
-    let functions = args.functions.now in let root = read.number-from.ensures.0 in let (rest, room, _) = loop.inv in (
+    let functions = args.functions.now in let root = read.number_from.ensures.0 in let (rest, room, _) = loop.inv in (
       (λ parameters. let (leads, deep, wrong) = rest parameters in (
-        roots_next _ _ _ _ functions _ parameters leads turn.loop-test.taken _ root _ used.count-use.ensures,
+        roots_next _ _ _ _ functions _ parameters leads turn.loop-test.taken _ root _ used.count_use.ensures,
         root_noted (root_too_deep args.depths.now) _ functions _ parameters loop.deep _ deep turn.loop-test.taken _
-            (ap (ltb 64) (depth.depth-of.ensures.0 ∙ ap (depth_in args.depths.now) root)),
+            (ap (ltb 64) (depth.depth_of.ensures.0 ∙ ap (depth_in args.depths.now) root)),
         root_noted (root_wrong (nodes_in args.nodes.now)) _ functions _ parameters loop.wrong _ wrong turn.loop-test.taken _
-            (ap not (c.has-sort.ensures ∙ ap (has_sort (nodes_in args.nodes.now) false) root)),
+            (ap not (c.has_sort.ensures ∙ ap (has_sort (nodes_in args.nodes.now) false) root)),
       )),
-      room_after _ _ _ _ _ used.count-use.ensures room (omega arith),
+      room_after _ _ _ _ _ used.count_use.ensures room (omega arith),
       omega arith,
     )) (λ c parameters. let done = c.before in let loop = done.before.loop in let args = done.before.before.before.before.args in
     let (leads, deep, wrong) = loop.inv.0 parameters in (

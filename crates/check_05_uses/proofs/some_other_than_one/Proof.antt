@@ -1,4 +1,4 @@
-use Rattle.kit.specs.Names.{◌≡◌, ◌||◌, ◌+◌, ◌≤◌, arith, needs}
+use Rattle.kit.specs.Names.{◌≡◌, ◌||◌, ◌+◌, ◌≤◌, arith, rules}
 use Rattle.check_05_uses.specs.Counting.{any_from, other_than_one}
 use Rattle.check_05_uses.proofs.Loops.{from_next, from_done}
 use Rattle.check_05_uses.proofs.some_other_than_one as own
@@ -10,9 +10,9 @@ Inv-loop counts count n₀ left₀ other₀ n left other =
 abbrev μ-loop : own.Tie.MeasureT-loop
 μ-loop counts count n₀ left₀ other₀ n left other = left
 
-pub some-other-than-one-spec : {M : Type 1} → own.Statement.statement M
-some-other-than-one-spec =
-    own.Tie.close (own.Tie.spec Inv-loop μ-loop (λ c. search needs) (λ c. search needs) (λ c. search needs) (λ c. search needs) (λ c. search needs) (λ c. search needs)
+pub some_other_than_one_spec : {M : Type 1} → own.Statement.statement M
+some_other_than_one_spec =
+    own.Tie.close (own.Tie.spec Inv-loop μ-loop (λ c. search rules) (λ c. search rules) (λ c. search rules) (λ c. search rules) (λ c. search rules) (λ c. search rules)
     (λ c. let loop = c.before.before.loop in let counts = c.before.before.before.args.counts.now in
     (from_next (other_than_one counts) loop.n _ loop.other _ loop.inv.0 c.before.loop-test.taken, omega arith))
     (λ c. let loop = c.before.loop in from_done (other_than_one c.before.before.args.counts.now) _ _ loop.other _ loop.inv.0 c.loop-test.left))

@@ -1,14 +1,14 @@
-use Rattle.kit.specs.Names.{◌∙◌, needs}
+use Rattle.kit.specs.Names.{◌∙◌, rules}
 use Rattle.check_07_sorts.proofs.SortLoops.{no_sort, expression_there, statement_there}
 use Rattle.check_07_sorts.proofs.has_sort as own
 
-pub has-sort-spec : {M : Type 1} → own.Statement.statement M
-has-sort-spec =
+pub has_sort_spec : {M : Type 1} → own.Statement.statement M
+has_sort_spec =
     own.Tie.close (own.Tie.spec (λ c. let args = c.before.before.args in no_sort args.nodes.now args.expression _ c.if1.taken)
-    (λ c. search needs) (λ c κs. search needs) (λ c κs. search needs) (λ c κs. search needs)
+    (λ c. search rules) (λ c κs. search rules) (λ c κs. search rules) (λ c κs. search rules)
     (λ c. let numbers = c.before.before.before.before.before.args.nodes.now in
-    rw c.before.if2.taken (c.is-expression-kind.ensures ∙ expression_there numbers _ _
-    c.before.before.before.if1.left c.before.before.number-from.ensures.0))
+    rw c.before.if2.taken (c.is_expression_kind.ensures ∙ expression_there numbers _ _
+    c.before.before.before.if1.left c.before.before.number_from.ensures.0))
     (λ c. let numbers = c.before.before.before.before.before.args.nodes.now in
-    rw c.before.if2.left (c.is-statement-kind.ensures ∙ statement_there numbers _ _
-    c.before.before.before.if1.left c.before.before.number-from.ensures.0)))
+    rw c.before.if2.left (c.is_statement_kind.ensures ∙ statement_there numbers _ _
+    c.before.before.before.if1.left c.before.before.number_from.ensures.0)))

@@ -2,5 +2,5 @@
 use Rattle.kit.specs.Names.{refl}
 use Rattle.check_refusals.proofs.is_refused as own
 
-pub is-refused-spec : {M : Type 1} → own.Statement.statement M
-is-refused-spec = own.Tie.close (own.Tie.spec (λ c. refl))
+pub is_refused_spec : {M : Type 1} → own.Statement.statement M
+is_refused_spec = own.Tie.close (own.Tie.spec (λ c. refl))

@@ -5,7 +5,7 @@ use Rattle.ledger_struct.proofs.Flat.{places_none}
 use Rattle.deploy.proofs.Answers.{nothing_whole}
 use Rattle.deploy.proofs.refused as own
 
-pub refused-spec : {M : Type 1} → own.Statement.statement M
-refused-spec =
+pub refused_spec : {M : Type 1} → own.Statement.statement M
+refused_spec =
     own.Tie.close (own.Tie.spec
     (λ c. record { given = refl; whole = nothing_whole _ _ _ _ (padded_none 4596 0) (places_none 8) (places_none 1024) (places_none 1024) }))

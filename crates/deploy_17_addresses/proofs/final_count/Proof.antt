@@ -1,5 +1,5 @@
 -- Each turn looks at one field more.
-use Rattle.kit.specs.Names.{◌≡◌, ◌+◌, ◌-◌, ◌≤◌, arith, needs}
+use Rattle.kit.specs.Names.{◌≡◌, ◌+◌, ◌-◌, ◌≤◌, arith, rules}
 use Rattle.definitions.specs.Basics.{count_if}
 use Rattle.definitions.specs.ContractFile.{is_final}
 use Rattle.file_accepted.specs.Context.{fields_in}
@@ -13,12 +13,12 @@ Inv-loop file count f₀ finals₀ f finals = (f ≤ count) × ((finals ≤ f) �
 abbrev μ-loop : own.Tie.MeasureT-loop
 μ-loop file count f₀ finals₀ f finals = count - f
 
-pub final-count-spec : {M : Type 1} → own.Statement.statement M
-final-count-spec =
-    own.Tie.close (own.Tie.spec Inv-loop μ-loop (λ c κs. search needs) (λ c. (omega arith, (omega arith, omega arith)))
-    (λ c κs. search needs) (λ c. search needs) (λ c. search needs) (λ c. search needs) (λ c. let k = c.before.before in
+pub final_count_spec : {M : Type 1} → own.Statement.statement M
+final_count_spec =
+    own.Tie.close (own.Tie.spec Inv-loop μ-loop (λ c κs. search rules) (λ c. (omega arith, (omega arith, omega arith)))
+    (λ c κs. search rules) (λ c. search rules) (λ c. search rules) (λ c. search rules) (λ c. let k = c.before.before in
     let file = k.before.before.before.args.file.now in let counted = fields_count file in let same = k.before.byte_at.ensures.0 in
-    (omega arith, (omega arith, finals_next (fields_in file) k.loop.f k.loop.finals _ _ (omega arith) c.final-bit.ensures.0 k.loop.inv.1.1)))
+    (omega arith, (omega arith, finals_next (fields_in file) k.loop.f k.loop.finals _ _ (omega arith) c.final_bit.ensures.0 k.loop.inv.1.1)))
     (λ c. let k = c.before in let file = k.before.before.before.args.file.now in let counted = fields_count file in
     let same = k.before.byte_at.ensures.0 in
     finals_done (fields_in file) k.loop.f k.loop.finals _ (omega arith) k.loop.inv.1.1))

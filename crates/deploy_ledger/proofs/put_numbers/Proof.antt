@@ -1,5 +1,5 @@
 -- Each turn writes the numbers of one field more.
-use Rattle.kit.specs.Names.{◌≡◌, refl, ◌∙◌, ◌+◌, ◌*◌, ◌-◌, ◌<◌, ◌≤◌, arith, length, drop, length-set, needs}
+use Rattle.kit.specs.Names.{◌≡◌, refl, ◌∙◌, ◌+◌, ◌*◌, ◌-◌, ◌<◌, ◌≤◌, arith, length, drop, length-set, rules}
 use Rattle.memory_buffer.specs.Buffer.{stored}
 use Rattle.definitions.specs.Original.{deployed_numbers}
 use Rattle.file_accepted.specs.Context.{fields_in}
@@ -16,12 +16,12 @@ Inv-loop file addresses numbers₀ count f₀ p₀ a₀ numbers f p a =
 abbrev μ-loop : own.Tie.MeasureT-loop
 μ-loop file addresses numbers₀ count f₀ p₀ a₀ numbers f p a = count - f
 
-pub put-numbers-spec : {M : Type 1} → own.Statement.statement M
-put-numbers-spec =
-    own.Tie.close (own.Tie.spec Inv-loop μ-loop (λ c κs. search needs)
+pub put_numbers_spec : {M : Type 1} → own.Statement.statement M
+put_numbers_spec =
+    own.Tie.close (own.Tie.spec Inv-loop μ-loop (λ c κs. search rules)
     (λ c. (omega arith, (omega arith, (omega arith, (refl, (refl, omega arith))))))
-    (λ c. search needs) (λ c. search needs) (λ c κs. search needs) (λ c κs. search needs) (λ c. search needs) (λ c. search needs)
-    (λ c. search needs) (λ c. search needs) (λ c. search needs) (λ c. search needs)
+    (λ c. search rules) (λ c. search rules) (λ c κs. search rules) (λ c κs. search rules) (λ c. search rules) (λ c. search rules)
+    (λ c. search rules) (λ c. search rules) (λ c. search rules) (λ c. search rules)
     (λ c. let byte_at = c.before.before.before.before.before.byte_at.ensures.0 in let k = c.before.before.before.before in
     let s = c.before.before.before.before.before.before.before.before.before in let file = s.args.file.now in
     let counted = fields_count file in let same = byte_at in let inside : k.loop.f < length (fields_in file) = omega arith in
@@ -35,17 +35,17 @@ put-numbers-spec =
             simp length-set k.loop.inv.1.1.1.0,
             (
               final_next (fields_in file) k.loop.f inside s.args.addresses.now k.loop.numbers _ k.loop.a k.loop.p _ final (omega arith)
-                  c.address-at.ensures k.loop.inv.1.1.1.1.0,
+                  c.address_at.ensures k.loop.inv.1.1.1.1.0,
               final_count (fields_in file) k.loop.f inside s.args.addresses.now k.loop.a k.loop.p _ final k.loop.inv.1.1.1.1.1,
             ),
           ),
         ),
       ),
-    )) (λ c κs. search needs) (λ c κs. search needs) (λ c. search needs) (λ c. search needs) (λ c. search needs)
+    )) (λ c κs. search rules) (λ c κs. search rules) (λ c. search rules) (λ c. search rules) (λ c. search rules)
     (λ c. let byte_at = c.before.before.before.before.before.before.before.before.before.byte_at.ensures.0 in
     let byte-at2 = c.before.before.before.before.before.before.byte-at2.ensures.0 in
     let if1-left = c.before.before.before.before.before.if1.left in
-    let place-count = c.before.before.before.before.place-count.ensures in let put-zeros = c.before.before.put-zeros in
+    let place-count = c.before.before.before.before.place_count.ensures in let put-zeros = c.before.before.put_zeros in
     let k = c.before.before.before.before.before.before.before.before in
     let s = c.before.before.before.before.before.before.before.before.before.before.before.before.before in
     let file = s.args.file.now in let counted = fields_count file in let same = byte_at in

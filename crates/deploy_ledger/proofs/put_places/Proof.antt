@@ -1,5 +1,5 @@
 -- Each turn gives the places of one field more their contents.
-use Rattle.kit.specs.Names.{◌≡◌, refl, ◌++◌, ◌+◌, ◌-◌, ◌<◌, ◌≤◌, arith, length, drop, needs}
+use Rattle.kit.specs.Names.{◌≡◌, refl, ◌++◌, ◌+◌, ◌-◌, ◌<◌, ◌≤◌, arith, length, drop, rules}
 use Rattle.definitions.specs.Original.{per_place, place_readers}
 use Rattle.file_accepted.specs.Context.{fields_in}
 use Rattle.ledger_struct.specs.Ledgers.{contents_in}
@@ -17,18 +17,18 @@ Inv-loop file numbers places₀ count f₀ p₀ places f p =
 abbrev μ-loop : own.Tie.MeasureT-loop
 μ-loop file numbers places₀ count f₀ p₀ places f p = count - f
 
-pub put-places-spec : {M : Type 1} → own.Statement.statement M
-put-places-spec =
-    own.Tie.close (own.Tie.spec Inv-loop μ-loop (λ c κs. search needs)
-    (λ c. (omega arith, (omega (arith, c.before.before.before.pre.per_place), (refl, tidy_none _ refl))))
-    (λ c κs. omega (arith, c.before.before.before.before.before.pre.few_fields, c.before.before.byte_at.ensures.0))
+pub put_places_spec : {M : Type 1} → own.Statement.statement M
+put_places_spec =
+    own.Tie.close (own.Tie.spec Inv-loop μ-loop (λ c κs. search rules)
+    (λ c. (omega arith, (omega (arith, c.before.before.before.requires.per_place), (refl, tidy_none _ refl))))
+    (λ c κs. omega (arith, c.before.before.before.before.before.requires.few_fields, c.before.before.byte_at.ensures.0))
     (λ c κs. let k = c.before.before in let s = c.before.before.before.before.before.before in let file = s.args.file.now in
     let same = c.before.before.before.byte_at.ensures.0 in let counted = fields_count file in
     let inside : k.loop.f < length (fields_in file) = omega arith in
-    let more = field_counted (fields_in file) s.args.numbers.now k.loop.f k.loop.p _ inside c.place-count.ensures.0 k.loop.inv.1.0 in
-    (s.pre, (omega arith, omega (arith, c.place-count.ensures.1))))
-    (λ c. omega (arith, c.before.before.before.before.before.before.before.pre.few_places, c.before.place-count.ensures.1))
-    (λ c. search needs) (λ c. search needs) (λ c. let place-count = c.before.place-count.ensures.0 in
+    let more = field_counted (fields_in file) s.args.numbers.now k.loop.f k.loop.p _ inside c.place_count.ensures.0 k.loop.inv.1.0 in
+    (s.requires, (omega arith, omega (arith, c.place_count.ensures.1))))
+    (λ c. omega (arith, c.before.before.before.before.before.before.before.requires.few_places, c.before.place_count.ensures.1))
+    (λ c. search rules) (λ c. search rules) (λ c. let place-count = c.before.place_count.ensures.0 in
     let k = c.before.before.before in let s = c.before.before.before.before.before.before.before in
     let file = s.args.file.now in let same = c.before.before.before.before.byte_at.ensures.0 in let counted = fields_count file in
     let inside : k.loop.f < length (fields_in file) = omega arith in
@@ -38,8 +38,8 @@ put-places-spec =
         more,
         (
           field_given (fields_in file) s.args.numbers.now k.loop.f k.loop.p _ inside place-count k.loop.places _ _ (omega arith)
-              c.put-field.ensures.stands k.loop.inv.1.1.0,
-          c.put-field.ensures.tidy k.loop.inv.1.1.1,
+              c.put_field.ensures.stands k.loop.inv.1.1.0,
+          c.put_field.ensures.tidy k.loop.inv.1.1.1,
         ),
       ),
     )) (λ c. let k = c.before in let s = c.before.before.before.before.before in let file = s.args.file.now in

@@ -1,5 +1,5 @@
 -- Each turn writes one zero more.
-use Rattle.kit.specs.Names.{◌≡◌, refl, ◌+◌, arith, length, replicate, length-set, needs}
+use Rattle.kit.specs.Names.{◌≡◌, refl, ◌+◌, arith, length, replicate, length-set, rules}
 use Rattle.memory_buffer.specs.Buffer.{stored}
 use Rattle.deploy_ledger.proofs.Numbers.{zeros_next, zeros_done}
 use Rattle.deploy_ledger.proofs.put_zeros as own
@@ -11,10 +11,10 @@ Inv-loop numbers₀ p count at₀ left₀ numbers at left =
 abbrev μ-loop : own.Tie.MeasureT-loop
 μ-loop numbers₀ p count at₀ left₀ numbers at left = left
 
-pub put-zeros-spec : {M : Type 1} → own.Statement.statement M
-put-zeros-spec =
+pub put_zeros_spec : {M : Type 1} → own.Statement.statement M
+put_zeros_spec =
     own.Tie.close (own.Tie.spec Inv-loop μ-loop (λ c. (refl, (refl, refl)))
-    (λ c. search needs) (λ c. search needs) (λ c. search needs) (λ c. search needs) (λ c. search needs) (λ c. let k = c.before in (
+    (λ c. search rules) (λ c. search rules) (λ c. search rules) (λ c. search rules) (λ c. search rules) (λ c. let k = c.before in (
       omega arith,
       (simp length-set k.loop.inv.1.0, zeros_next _ _ _ _ c.loop-test.taken (omega arith) k.loop.inv.1.1),
     )) (λ c. let (_, (numbers_length, _)) = c.before.loop.inv in numbers_length)

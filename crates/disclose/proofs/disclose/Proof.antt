@@ -1,5 +1,5 @@
 -- Each turn runs one call more.
-use Rattle.kit.specs.Names.{◌-◌, ◌≤◌, needs}
+use Rattle.kit.specs.Names.{◌-◌, ◌≤◌, rules}
 use Rattle.disclose.proofs.disclose as own
 
 abbrev Inv-loop : own.Tie.InvT-loop
@@ -8,9 +8,9 @@ Inv-loop bytes script ledger₀ k₀ ledger k = k ≤ script.calls
 abbrev μ-loop : own.Tie.MeasureT-loop
 μ-loop bytes script ledger₀ k₀ ledger k = script.calls - k
 
-pub disclose-spec : {M : Type 1} → own.Statement.statement M
-disclose-spec =
+pub disclose_spec : {M : Type 1} → own.Statement.statement M
+disclose_spec =
     own.Tie.close (own.Tie.spec Inv-loop μ-loop
-    (λ c κs. search needs) (λ c κs. search needs) (λ c κs. search needs) (λ c κs. search needs) (λ c. search needs) (λ c κs. search needs)
-    (λ c. search needs) (λ c. search needs) (λ c κs. search needs) (λ c κs. search needs) (λ c. search needs) (λ c. search needs)
-    (λ c. search needs) (λ c. search needs) (λ c. search needs))
+    (λ c κs. search rules) (λ c κs. search rules) (λ c κs. search rules) (λ c κs. search rules) (λ c. search rules) (λ c κs. search rules)
+    (λ c. search rules) (λ c. search rules) (λ c κs. search rules) (λ c κs. search rules) (λ c. search rules) (λ c. search rules)
+    (λ c. search rules) (λ c. search rules) (λ c. search rules))

@@ -1,5 +1,5 @@
 -- Each turn appends one value more; the room that is left is counted in values.
-use Rattle.kit.specs.Names.{◌≡◌, refl, ◌+◌, ◌*◌, ◌-◌, ◌≤◌, arith, length, drop, get_or, needs}
+use Rattle.kit.specs.Names.{◌≡◌, refl, ◌+◌, ◌*◌, ◌-◌, ◌≤◌, arith, length, drop, get_or, rules}
 use Rattle.definitions.specs.Basics.{flat_map}
 use Rattle.memory_append.specs.Append.{Appending}
 use Rattle.disclose_lines.specs.Lines.{spaced_value}
@@ -15,13 +15,13 @@ abbrev μ-loop : own.Tie.MeasureT-loop
 μ-loop values out₀ from at₀ i₀ out at i =
     length values - i
 
-pub append-values-spec : {M : Type 1} → own.Statement.statement M
-append-values-spec =
+pub append_values_spec : {M : Type 1} → own.Statement.statement M
+append_values_spec =
     own.Tie.close (own.Tie.spec Inv-loop μ-loop
-    (λ c. (text_start _ _ _ c.before.before.pre, (omega arith, (refl, omega (arith, c.before.before.pre))))) (λ c. search needs)
-    (λ c. search needs) (λ c κs. let (_, (_, (_, left))) = c.before.before.before.loop.inv in omega (arith, left)) (λ c. search needs)
-    (λ c. search needs) (λ c. let (appending, (_, (_, left))) = c.before.before.before.before.before.before.loop.inv in
+    (λ c. (text_start _ _ _ c.before.before.requires, (omega arith, (refl, omega (arith, c.before.before.requires))))) (λ c. search rules)
+    (λ c. search rules) (λ c κs. let (_, (_, (_, left))) = c.before.before.before.loop.inv in omega (arith, left)) (λ c. search rules)
+    (λ c. search rules) (λ c. let (appending, (_, (_, left))) = c.before.before.before.before.before.before.loop.inv in
     let i = c.before.before.before.before.before.before.loop.i in
-    (text_next _ _ _ c.before.before.before.before.before.before.before.before.before.pre _ _ i appending _ _ c.before.before.before.before.before.loop-test.taken c.before.before.append-value.ensures, (omega arith, (search needs, omega (arith, left, value_short (get_or c.before.before.before.before.before.before.before.before.before.args.values.now i 0), c.before.before.append-value.ensures.place)))))
+    (text_next _ _ _ c.before.before.before.before.before.before.before.before.before.requires _ _ i appending _ _ c.before.before.before.before.before.loop-test.taken c.before.before.append_value.ensures, (omega arith, (search rules, omega (arith, left, value_short (get_or c.before.before.before.before.before.before.before.before.before.args.values.now i 0), c.before.before.append_value.ensures.place)))))
     (λ c. let (_, (_, (same, _))) = c.before.loop.inv in same)
-    (λ c. let (appending, _) = c.before.loop.inv in text_done _ _ _ c.before.before.before.before.pre _ _ c.before.loop.i appending c.loop-test.left))
+    (λ c. let (appending, _) = c.before.loop.inv in text_done _ _ _ c.before.before.before.before.requires _ _ c.before.loop.i appending c.loop-test.left))

@@ -1,4 +1,4 @@
-use Rattle.kit.specs.Names.{◌≡◌, ◌+◌, ◌*◌, ◌≤◌, arith, needs}
+use Rattle.kit.specs.Names.{◌≡◌, ◌+◌, ◌*◌, ◌≤◌, arith, rules}
 use Rattle.definitions.specs.ContractFile.{functions_end}
 use Rattle.file_bytes.proofs.ReadingSteps.{functions_end_next, functions_end_done}
 use Rattle.file_bytes.proofs.functions_end as own
@@ -9,9 +9,9 @@ Inv-loop file from count at₀ left₀ at left = (functions_end left file at ≡
 abbrev μ-loop : own.Tie.MeasureT-loop
 μ-loop file from count at₀ left₀ at left = left
 
-pub functions-end-spec : {M : Type 1} → own.Statement.statement M
-functions-end-spec =
-    own.Tie.close (own.Tie.spec Inv-loop μ-loop (λ c. search needs) (λ c κs. search needs) (λ c. search needs) (λ c. search needs)
+pub functions_end_spec : {M : Type 1} → own.Statement.statement M
+functions_end_spec =
+    own.Tie.close (own.Tie.spec Inv-loop μ-loop (λ c. search rules) (λ c κs. search rules) (λ c. search rules) (λ c. search rules)
     (λ c. let (functions-end-is, _) = c.before.before.loop.inv in
-    (functions_end_next _ _ _ _ _ c.before.loop-test.taken c.function-end.ensures.0 functions-end-is, omega arith))
+    (functions_end_next _ _ _ _ _ c.before.loop-test.taken c.function_end.ensures.0 functions-end-is, omega arith))
     (λ c. let (functions-end-is, _) = c.before.loop.inv in (functions_end_done _ _ _ _ c.loop-test.left functions-end-is, omega arith)))

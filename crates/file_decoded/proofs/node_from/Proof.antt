@@ -1,15 +1,15 @@
-use Rattle.kit.specs.Names.{needs}
+use Rattle.kit.specs.Names.{rules}
 use Rattle.file_decoded.proofs.node_from as own
 
-pub node-from-spec : {M : Type 1} → own.Statement.statement M
-node-from-spec =
+pub node_from_spec : {M : Type 1} → own.Statement.statement M
+node_from_spec =
     own.Tie.close (own.Tie.spec
-    (λ c κs. search needs) (λ c. search needs) (λ c κs. search needs) (λ c. search needs) (λ c κs. search needs) (λ c. search needs)
-    (λ c κs. search needs) (λ c. search needs) (λ c κs. search needs) (λ c. record {
+    (λ c κs. search rules) (λ c. search rules) (λ c κs. search rules) (λ c. search rules) (λ c κs. search rules) (λ c. search rules)
+    (λ c κs. search rules) (λ c. search rules) (λ c κs. search rules) (λ c. record {
       same = cc;
-      small_kind = search needs;
-      small_arg = search needs;
-      small_first = search needs;
-      small_second = search needs;
-      small_third = search needs;
+      small_kind = search rules;
+      small_arg = search rules;
+      small_first = search rules;
+      small_second = search rules;
+      small_third = search rules;
     }))

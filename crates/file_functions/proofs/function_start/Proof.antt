@@ -1,4 +1,4 @@
-use Rattle.kit.specs.Names.{◌≡◌, ap, List, ℕ, ◌+◌, ◌*◌, ◌≤◌, arith, needs}
+use Rattle.kit.specs.Names.{◌≡◌, ap, List, ℕ, ◌+◌, ◌*◌, ◌≤◌, arith, rules}
 use Rattle.definitions.specs.ContractFile.{field_count, functions_end}
 use Rattle.file_accepted.specs.Functions.{function_start}
 use Rattle.file_bytes.proofs.ReadingSteps.{functions_end_next, functions_end_done}
@@ -13,10 +13,10 @@ Inv-loop file f fields at₀ left₀ at left = (functions_end left file at ≡ f
 abbrev μ-loop : own.Tie.MeasureT-loop
 μ-loop file f fields at₀ left₀ at left = left
 
-pub function-start-spec : {M : Type 1} → own.Statement.statement M
-function-start-spec =
-    own.Tie.close (own.Tie.spec Inv-loop μ-loop (λ c κs. search needs) (λ c. search needs) (λ c. search needs) (λ c. search needs)
+pub function_start_spec : {M : Type 1} → own.Statement.statement M
+function_start_spec =
+    own.Tie.close (own.Tie.spec Inv-loop μ-loop (λ c κs. search rules) (λ c. search rules) (λ c. search rules) (λ c. search rules)
     (λ c. (from_fields _ _ _ c.byte_at.ensures.0, (omega arith, omega arith)))
-    (λ c κs. search needs) (λ c. search needs) (λ c. search needs) (λ c. let (functions-end-is, _) = c.before.before.loop.inv in
-    (functions_end_next _ _ _ _ _ c.before.loop-test.taken c.function-end.ensures.0 functions-end-is, (omega arith, omega arith)))
+    (λ c κs. search rules) (λ c. search rules) (λ c. search rules) (λ c. let (functions-end-is, _) = c.before.before.loop.inv in
+    (functions_end_next _ _ _ _ _ c.before.loop-test.taken c.function_end.ensures.0 functions-end-is, (omega arith, omega arith)))
     (λ c. let (functions-end-is, _) = c.before.loop.inv in (functions_end_done _ _ _ _ c.loop-test.left functions-end-is, omega arith)))

@@ -1,5 +1,5 @@
 -- The loop's invariant: the bytes passed are stored, and the slice keeps its length.
-use Rattle.kit.specs.Names.{◌≡◌, refl, ap, sym, ◌∙◌, List, [], ◌∷◌, ℕ, ◌+◌, ◌-◌, ◌<◌, ◌≤◌, arith, length, take, drop, needs}
+use Rattle.kit.specs.Names.{◌≡◌, refl, ap, sym, ◌∙◌, List, [], ◌∷◌, ℕ, ◌+◌, ◌-◌, ◌<◌, ◌≤◌, arith, length, take, drop, rules}
 use Rattle.kit.specs.Names.{length-drop, length-take-le, get_or-drop, get_or-take, take_all}
 use Rattle.definitions.specs.ContractFile.{byte_at}
 use Rattle.memory_buffer.specs.Buffer.{stored}
@@ -28,17 +28,17 @@ Inv-loop file from count numbers₀ at i₀ numbers i =
 abbrev μ-loop : own.Tie.MeasureT-loop
 μ-loop file from count numbers₀ at i₀ numbers i = count - i
 
-pub copy-bytes-spec : {M : Type 1} → own.Statement.statement M
-copy-bytes-spec =
+pub copy_bytes_spec : {M : Type 1} → own.Statement.statement M
+copy_bytes_spec =
     own.Tie.close (own.Tie.spec Inv-loop μ-loop
     (λ c. let args = c.before.before.args in (copied_start _ _ (bytes_at args.file.now args.from args.count), omega arith, refl))
-    (λ c. search needs) (λ c. search needs) (λ c κs. search needs) (λ c κs. search needs) (λ c. search needs) (λ c. search needs)
+    (λ c. search rules) (λ c. search rules) (λ c κs. search rules) (λ c κs. search rules) (λ c. search rules) (λ c. search rules)
     (λ c. let put = c.before.before in let head = put.before.before.before.before in let start = head.before.before.before in
     let (so_far, _, _) = head.loop.inv in (
-      next _ start.args.from _ start.pre.0 _ _ _ _ _ _ start.pre.1 (omega arith) so_far put.before.byte-in.ensures.0 put.put-number.ensures,
+      next _ start.args.from _ start.requires.0 _ _ _ _ _ _ start.requires.1 (omega arith) so_far put.before.byte_in.ensures.0 put.put_number.ensures,
       omega arith,
-      search needs,
+      search rules,
     ))
-    (λ c. search needs)
+    (λ c. search rules)
     (λ c. let start = c.before.before.before.before in let (so_far, _, _) = c.before.loop.inv in
-    so_far ∙ ap (stored start.args.numbers.now start.args.at) (all _ start.args.from _ start.pre.0 _ c.loop-test.left)))
+    so_far ∙ ap (stored start.args.numbers.now start.args.at) (all _ start.args.from _ start.requires.0 _ c.loop-test.left)))

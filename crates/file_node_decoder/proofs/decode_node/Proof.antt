@@ -1,5 +1,5 @@
 -- Five stores in a row are one.
-use Rattle.kit.specs.Names.{◌≡◌, List, [], ◌∷◌, ℕ, suc, ◌+◌, ◌≤◌, arith, length, add-one, set, length-set, sets-eq, needs}
+use Rattle.kit.specs.Names.{◌≡◌, List, [], ◌∷◌, ℕ, suc, ◌+◌, ◌≤◌, arith, length, add-one, set, length-set, sets-eq, rules}
 use Rattle.memory_buffer.specs.Buffer.{stored}
 use Rattle.file_node_decoder.proofs.decode_node as own
 
@@ -12,12 +12,12 @@ five_stored held at a b c d e values same fits =
     let four : at + 4 ≡ suc (suc (suc (suc at))) = omega arith in
     rw (← same, add-one, two, three, four) (sets-eq (a ∷ b ∷ c ∷ d ∷ e ∷ []) held at fits)
 
-pub decode-node-spec : {M : Type 1} → own.Statement.statement M
-decode-node-spec =
-    own.Tie.close (own.Tie.spec (λ c κs. search needs) (λ c. search needs) (λ c. search needs) (λ c. search needs)
-    (λ c κs. search needs) (λ c. search needs) (λ c. search needs) (λ c. simp length-set (omega arith)) (λ c. search needs)
-    (λ c κs. search needs) (λ c. search needs) (λ c. search needs) (λ c. simp length-set (omega arith)) (λ c. search needs)
-    (λ c κs. search needs) (λ c. search needs) (λ c. search needs) (λ c. simp length-set (omega arith)) (λ c. search needs)
-    (λ c κs. search needs) (λ c. search needs) (λ c. search needs) (λ c. simp length-set (omega arith)) (λ c. search needs)
+pub decode_node_spec : {M : Type 1} → own.Statement.statement M
+decode_node_spec =
+    own.Tie.close (own.Tie.spec (λ c κs. search rules) (λ c. search rules) (λ c. search rules) (λ c. search rules)
+    (λ c κs. search rules) (λ c. search rules) (λ c. search rules) (λ c. simp length-set (omega arith)) (λ c. search rules)
+    (λ c κs. search rules) (λ c. search rules) (λ c. search rules) (λ c. simp length-set (omega arith)) (λ c. search rules)
+    (λ c κs. search rules) (λ c. search rules) (λ c. search rules) (λ c. simp length-set (omega arith)) (λ c. search rules)
+    (λ c κs. search rules) (λ c. search rules) (λ c. search rules) (λ c. simp length-set (omega arith)) (λ c. search rules)
     (λ c. let args = c.before.before.before.before.before.before.before.args in
     five_stored args.nodes.now args.at _ _ _ _ _ _ (cc) (omega arith)))

@@ -1,5 +1,5 @@
 -- Statements by the kind of their node, sequences, conditionals and branches meet their contracts as a cycle: the node number falls, or the same node goes on to a part of the work.
-use Rattle.kit.specs.Names.{sym, ◌+◌, ◌*◌, ℕ, ◌<◌, arith, needs, In, Measures, is, falls, and}
+use Rattle.kit.specs.Names.{sym, ◌+◌, ◌*◌, ℕ, ◌<◌, arith, rules, In, Measures, is, falls, and}
 use Rattle.theory_trees.proofs.ByKind.{sequence_is, conditional_is, steps_below, branches_below}
 use Rattle.file_accepted.proofs.Nodes.{node_reads}
 use Rattle.honest_values.proofs.ValuesByKind.{kind_as}
@@ -95,20 +95,20 @@ sequence-slots-claims t = (node-at-reads.Asked, node-at-reads.Learnt, statement-
 abbrev statement-slots-claims : ℕ → statement-slots-lts.Claims
 statement-slots-claims t = (node-at-reads.Asked, node-at-reads.Learnt, sequence-slots-below t, sequence-slots.Post, conditional-slots-below t, conditional-slots.Post, simple-slots-reads.Asked, simple-slots-reads.Learnt)
 
-pub +branch-slots-branches-slots-conditional-slots-sequence-slots-statement-slots-spec :
+pub +branch_slots_branches_slots_conditional_slots_sequence_slots_statement_slots_spec :
     {M : Type 1} → statement M
-+branch-slots-branches-slots-conditional-slots-sequence-slots-statement-slots-spec =
++branch_slots_branches_slots_conditional_slots_sequence_slots_statement_slots_spec =
     close μ-branch-slots μ-branches-slots μ-conditional-slots μ-sequence-slots μ-statement-slots
     (λ t. branch-slots-lts.spec (branch-slots-claims t) (branch-slots-at t) branch-slots.Post
     (λ c κs. let (_, startable) = c.before.before.before.before.before.before.requires in space_guard _ _ _ startable.space)
     (λ c. let (_, startable) = c.before.before.before.before.before.before.before.before.before.before.before.requires in
     omega (arith, space_guard _ _ _ startable.space))
     (λ c κs. let (falls-2, startable) = c.before.before.before.before.before.before.before.before.before.before.before.requires in
-    (omega (arith, falls-2), record { inside = startable.inside; context = startable.context; space = space_branch _ _ _ _ startable.space c.before.before.before.before.put-slot.ensures }))
-    (λ c. search needs) (λ c. search needs)
+    (omega (arith, falls-2), record { inside = startable.inside; context = startable.context; space = space_branch _ _ _ _ startable.space c.before.before.before.before.put_slot.ensures }))
+    (λ c. search rules) (λ c. search rules)
     (λ c. let (_, startable) = c.before.before.before.before.before.before.before.before.before.before.before.before.before.before.before.before.requires in
-    let put-slot = c.before.before.before.before.before.before.before.before.before.put-slot.ensures in
-    branch_honest _ _ _ _ _ _ _ _ _ _ _ _ _ startable.space put-slot c.before.before.before.before.statement-slots.ensures))
+    let put-slot = c.before.before.before.before.before.before.before.before.before.put_slot.ensures in
+    branch_honest _ _ _ _ _ _ _ _ _ _ _ _ _ startable.space put-slot c.before.before.before.before.statement_slots.ensures))
     (λ t. branches-slots-lts.spec (branches-slots-claims t) (branches-slots-at t) branches-slots.Post
     (λ c κs. let (_, (_, startable)) = c.before.before.before.before.before.requires in
     (startable.context.narrow, omega (arith, startable.context.long, startable.inside)))
@@ -119,21 +119,21 @@ pub +branch-slots-branches-slots-conditional-slots-sequence-slots-statement-slot
     (λ c κs. let (falls-2, (kind-at-is, startable)) = c.before.before.before.before.before.before.before.before.before.before.before.requires in
     let node-at-same = c.before.before.before.before.before.node_at.ensures.same in
     let less = branches_below (node_reads _ _ _ startable.context _ startable.inside _ node-at-same) (kind_as _ _ _ node-at-same kind-at-is) in
-    (omega (arith, falls-2, less.1.0), record { inside = omega (arith, startable.inside, less.1.0); context = startable.context; space = then_space _ _ _ _ _ _ _ _ _ _ (conditional_is (node_reads _ _ _ startable.context _ startable.inside _ node-at-same) (kind_as _ _ _ node-at-same kind-at-is)) _ _ startable.space _ _ c.before.before.before.is-taken.ensures c.before.both.ensures }))
+    (omega (arith, falls-2, less.1.0), record { inside = omega (arith, startable.inside, less.1.0); context = startable.context; space = then_space _ _ _ _ _ _ _ _ _ _ (conditional_is (node_reads _ _ _ startable.context _ startable.inside _ node-at-same) (kind_as _ _ _ node-at-same kind-at-is)) _ _ startable.space _ _ c.before.before.before.is_taken.ensures c.before.both.ensures }))
     (λ c κs. tt)
     (λ c κs. let (falls-2, (kind-at-is, startable)) = c.before.before.before.before.before.before.before.before.before.before.before.before.before.before.before.before.before.before.before.requires in
     let node-at-same = c.before.before.before.before.before.before.before.before.before.before.before.before.before.node_at.ensures.same in
-    let is-taken = c.before.before.before.before.before.before.before.before.before.before.before.is-taken.ensures in
+    let is-taken = c.before.before.before.before.before.before.before.before.before.before.before.is_taken.ensures in
     let both = c.before.before.before.before.before.before.before.before.before.both.ensures in
-    let branch-slots-2 = c.before.before.before.before.before.before.before.branch-slots.ensures in
+    let branch-slots-2 = c.before.before.before.before.before.before.before.branch_slots.ensures in
     let less = branches_below (node_reads _ _ _ startable.context _ startable.inside _ node-at-same) (kind_as _ _ _ node-at-same kind-at-is) in
     (omega (arith, falls-2, less.1.1), record { inside = omega (arith, startable.inside, less.1.1); context = startable.context; space = else_space _ _ _ _ _ _ _ _ _ _ (conditional_is (node_reads _ _ _ startable.context _ startable.inside _ node-at-same) (kind_as _ _ _ node-at-same kind-at-is)) _ _ startable.space _ _ is-taken both _ _ _ branch-slots-2 _ c.before.only.ensures }))
-    (λ c. search needs) (λ c. search needs)
+    (λ c. search rules) (λ c. search rules)
     (λ c. let (_, (kind-at-is, startable)) = c.before.before.before.before.before.before.before.before.before.before.before.before.before.before.before.before.before.before.before.before.before.before.before.before.requires in
     let node-at-same = c.before.before.before.before.before.before.before.before.before.before.before.before.before.before.before.before.before.before.node_at.ensures.same in
-    let is-taken = c.before.before.before.before.before.before.before.before.before.before.before.before.before.before.before.before.is-taken.ensures in
+    let is-taken = c.before.before.before.before.before.before.before.before.before.before.before.before.before.before.before.before.is_taken.ensures in
     let both = c.before.before.before.before.before.before.before.before.before.before.before.before.before.before.both.ensures in
-    let branch-slots-2 = c.before.before.before.before.before.before.before.before.before.before.before.before.branch-slots.ensures in
+    let branch-slots-2 = c.before.before.before.before.before.before.before.before.before.before.before.before.branch_slots.ensures in
     let only = c.before.before.before.before.before.before.only.ensures in
     branches_honest _ _ _ _ _ _ _ _ _ _ (conditional_is (node_reads _ _ _ startable.context _ startable.inside _ node-at-same) (kind_as _ _ _ node-at-same kind-at-is)) _ _ startable.space _ _ is-taken both _ _ _ branch-slots-2 _ only _ _ _ c.before.before.before.before.branch-slots2.ensures))
     (λ t. conditional-slots-lts.spec (conditional-slots-claims t) (conditional-slots-at t) conditional-slots.Post
@@ -145,12 +145,12 @@ pub +branch-slots-branches-slots-conditional-slots-sequence-slots-statement-slot
     record { inside = omega (arith, startable.inside, less.0); context = startable.context; room = condition_room _ _ _ _ _ _ _ _ _ _ (conditional_is (node_reads _ _ _ startable.context _ startable.inside _ node-at-same) (kind_as _ _ _ node-at-same kind-at-is)) _ _ startable.space })
     (λ c κs. let (falls-2, (kind-at-is, startable)) = c.before.before.before.before.before.before.before.before.before.before.before.before.before.requires in
     let node-at-same = c.before.before.before.before.before.before.before.node_at.ensures.same in
-    (omega (arith, falls-2), (kind-at-is, record { inside = startable.inside; context = startable.context; space = branches_space _ _ _ _ _ _ _ _ _ _ (conditional_is (node_reads _ _ _ startable.context _ startable.inside _ node-at-same) (kind_as _ _ _ node-at-same kind-at-is)) _ _ startable.space _ _ c.before.before.before.before.body-slots.ensures })))
-    (λ c. search needs) (λ c. search needs)
+    (omega (arith, falls-2), (kind-at-is, record { inside = startable.inside; context = startable.context; space = branches_space _ _ _ _ _ _ _ _ _ _ (conditional_is (node_reads _ _ _ startable.context _ startable.inside _ node-at-same) (kind_as _ _ _ node-at-same kind-at-is)) _ _ startable.space _ _ c.before.before.before.before.body_slots.ensures })))
+    (λ c. search rules) (λ c. search rules)
     (λ c. let (_, (kind-at-is, startable)) = c.before.before.before.before.before.before.before.before.before.before.before.before.before.before.before.before.before.before.requires in
     let node-at-same = c.before.before.before.before.before.before.before.before.before.before.before.before.node_at.ensures.same in
-    let body-slots = c.before.before.before.before.before.before.before.before.before.body-slots.ensures in
-    conditional_honest _ _ _ _ _ _ _ _ _ _ (conditional_is (node_reads _ _ _ startable.context _ startable.inside _ node-at-same) (kind_as _ _ _ node-at-same kind-at-is)) _ _ startable.space _ _ body-slots _ _ _ c.before.before.before.before.branches-slots.ensures))
+    let body-slots = c.before.before.before.before.before.before.before.before.before.body_slots.ensures in
+    conditional_honest _ _ _ _ _ _ _ _ _ _ (conditional_is (node_reads _ _ _ startable.context _ startable.inside _ node-at-same) (kind_as _ _ _ node-at-same kind-at-is)) _ _ startable.space _ _ body-slots _ _ _ c.before.before.before.before.branches_slots.ensures))
     (λ t. sequence-slots-lts.spec (sequence-slots-claims t) (sequence-slots-at t) sequence-slots.Post
     (λ c κs. let (_, (_, startable)) = c.before.before.before.before.before.requires in
     (startable.context.narrow, omega (arith, startable.context.long, startable.inside)))
@@ -160,13 +160,13 @@ pub +branch-slots-branches-slots-conditional-slots-sequence-slots-statement-slot
     (omega (arith, falls-2, less.0), record { inside = omega (arith, startable.inside, less.0); context = startable.context; space = one_space _ _ _ _ _ _ _ _ _ (sequence_is (node_reads _ _ _ startable.context _ startable.inside _ node-at-same) (kind_as _ _ _ node-at-same kind-at-is)) _ _ startable.space }))
     (λ c κs. let (falls-2, (kind-at-is, startable)) = c.before.before.before.before.before.before.before.before.before.before.before.before.before.before.before.requires in
     let node-at-same = c.before.before.before.before.before.before.before.before.before.node_at.ensures.same in
-    let statement-slots-2 = c.before.before.before.before.before.before.statement-slots.ensures in
+    let statement-slots-2 = c.before.before.before.before.before.before.statement_slots.ensures in
     let less = steps_below (node_reads _ _ _ startable.context _ startable.inside _ node-at-same) (kind_as _ _ _ node-at-same kind-at-is) in
     (omega (arith, falls-2, less.1), record { inside = omega (arith, startable.inside, less.1); context = startable.context; space = two_space _ _ _ _ _ _ _ _ _ (sequence_is (node_reads _ _ _ startable.context _ startable.inside _ node-at-same) (kind_as _ _ _ node-at-same kind-at-is)) _ _ startable.space _ _ _ statement-slots-2 }))
-    (λ c. search needs) (λ c. search needs)
+    (λ c. search rules) (λ c. search rules)
     (λ c. let (_, (kind-at-is, startable)) = c.before.before.before.before.before.before.before.before.before.before.before.before.before.before.before.before.before.before.before.before.requires in
     let node-at-same = c.before.before.before.before.before.before.before.before.before.before.before.before.before.before.node_at.ensures.same in
-    let statement-slots-2 = c.before.before.before.before.before.before.before.before.before.before.before.statement-slots.ensures in
+    let statement-slots-2 = c.before.before.before.before.before.before.before.before.before.before.before.statement_slots.ensures in
     sequence_honest _ _ _ _ _ _ _ _ _ (sequence_is (node_reads _ _ _ startable.context _ startable.inside _ node-at-same) (kind_as _ _ _ node-at-same kind-at-is)) _ _ startable.space _ _ _ statement-slots-2 _ _ _ c.before.before.before.before.statement-slots2.ensures))
     λ t. statement-slots-lts.spec (statement-slots-claims t) (statement-slots-at t) statement-slots.Post
     (λ c κs. let (_, startable) = c.before.before.before.before.before.requires in
@@ -178,6 +178,6 @@ pub +branch-slots-branches-slots-conditional-slots-sequence-slots-statement-slot
     (λ c κs. let (_, startable) = c.before.before.before.before.before.before.before.before.before.requires in
     let u = c.before.before.match.rest in
     (simple_as _ _ (sym c.before.before.before.node_at.ensures.same) (record { sequence = u.0.1; conditional = u.1 }), startable))
-    (λ c. search needs) (λ c. search needs) (λ c. c.before.before.before.before.sequence-slots.ensures)
-    (λ c. search needs) (λ c. search needs) (λ c. c.before.before.before.before.conditional-slots.ensures)
-    (λ c. search needs) (λ c. search needs) (λ c. c.before.before.before.before.simple-slots.ensures)
+    (λ c. search rules) (λ c. search rules) (λ c. c.before.before.before.before.sequence_slots.ensures)
+    (λ c. search rules) (λ c. search rules) (λ c. c.before.before.before.before.conditional_slots.ensures)
+    (λ c. search rules) (λ c. search rules) (λ c. c.before.before.before.before.simple_slots.ensures)

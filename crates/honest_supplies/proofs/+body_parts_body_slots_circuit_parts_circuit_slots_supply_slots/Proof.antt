@@ -89,42 +89,42 @@ circuit-slots-claims t = (read-code-reads.Asked, read-code-reads.Learnt, circuit
 abbrev supply-slots-claims : ℕ → supply-slots-lts.Claims
 supply-slots-claims t = (supplied-number-reads.Asked, supplied-number-reads.Learnt, put-slot-reads.Asked, put-slot-reads.Learnt, circuit-slots-below t, circuit-slots.Post)
 
-pub +body-parts-body-slots-circuit-parts-circuit-slots-supply-slots-spec :
+pub +body_parts_body_slots_circuit_parts_circuit_slots_supply_slots_spec :
     {M : Type 1} → statement M
-+body-parts-body-slots-circuit-parts-circuit-slots-supply-slots-spec =
++body_parts_body_slots_circuit_parts_circuit_slots_supply_slots_spec =
     close μ-body-parts μ-body-slots μ-circuit-parts μ-circuit-slots μ-supply-slots (λ t. body-parts-lts.spec (body-parts-claims t)
     (body-parts-at t) body-parts.Post
     (λ c κs. let (_, ready) = c.before.before.before.before.before.requires in (ready.inside, ready.context))
     (λ c κs. let start = c.before.before.before.before.before.before.before.before in let args = start.args in let (_, ready) = start.requires in
-    let parts-of = c.before.before.parts-of.ensures in let less = parts-of.first (omega arith) in
+    let parts-of = c.before.before.parts_of.ensures in let less = parts-of.first (omega arith) in
     (omega arith, one_ready _ _ _ _ _ _ (body_events (scope_in args.file.now args.turn.function_at) always) _ parts-of ready c.before.match.keys2))
     (λ c κs. let start = c.before.before.before.before.before.before.before.before in let args = start.args in let (_, ready) = start.requires in
-    let parts-of = c.before.before.parts-of in let u = c.before.match.rest in let many : 2 ≤ parts-of.result.count = omega arith in
+    let parts-of = c.before.before.parts_of in let u = c.before.match.rest in let many : 2 ≤ parts-of.result.count = omega arith in
     let less = parts-of.ensures.first (omega arith) in
     (omega arith, first_ready _ _ _ _ _ _ (body_events (scope_in args.file.now args.turn.function_at) always) _ parts-of.ensures ready many))
     (λ c κs. let start = c.before.before.before.before.before.before.before.before.before.before.before.before in let args = start.args in
-    let (_, ready) = start.requires in let parts-of = c.before.before.before.before.before.before.parts-of in
+    let (_, ready) = start.requires in let parts-of = c.before.before.before.before.before.before.parts_of in
     let match-rest = c.before.before.before.before.before.match.rest in let u = match-rest in
     let many : 2 ≤ parts-of.result.count = omega arith in let less = parts-of.ensures.second many in
     (omega arith, second_ready _ _ _ _ _ _ (body_events (scope_in args.file.now args.turn.function_at) always) _ parts-of.ensures ready _ _ _ many c.before.before.before.body-slots2.ensures))
     (λ c. let start = c.before.before.before.before.before.before.before in let args = start.args in let (_, ready) = start.requires in
-    none_wrote _ _ _ _ _ _ (body_events (scope_in args.file.now args.turn.function_at) always) _ c.before.parts-of.ensures ready _ c.match.keys1)
+    none_wrote _ _ _ _ _ _ (body_events (scope_in args.file.now args.turn.function_at) always) _ c.before.parts_of.ensures ready _ c.match.keys1)
     (λ c. let start = c.before.before.before.before.before.before.before.before.before.before.before in let args = start.args in
-    let (_, ready) = start.requires in let parts-of = c.before.before.before.before.before.parts-of.ensures in
-    wrote_length _ _ _ _ _ _ (one_ready _ _ _ _ _ _ (body_events (scope_in args.file.now args.turn.function_at) always) _ parts-of ready c.before.before.before.before.match.keys2).room c.before.before.body-slots.ensures)
+    let (_, ready) = start.requires in let parts-of = c.before.before.before.before.before.parts_of.ensures in
+    wrote_length _ _ _ _ _ _ (one_ready _ _ _ _ _ _ (body_events (scope_in args.file.now args.turn.function_at) always) _ parts-of ready c.before.before.before.before.match.keys2).room c.before.before.body_slots.ensures)
     (λ c. let start = c.before.before.before.before.before.before.before.before.before.before.before in let args = start.args in
-    let (_, ready) = start.requires in let parts-of = c.before.before.before.before.before.parts-of.ensures in
-    one_wrote _ _ _ _ _ _ (body_events (scope_in args.file.now args.turn.function_at) always) _ parts-of ready _ _ _ c.before.before.before.before.match.keys2 c.before.before.body-slots.ensures)
+    let (_, ready) = start.requires in let parts-of = c.before.before.before.before.before.parts_of.ensures in
+    one_wrote _ _ _ _ _ _ (body_events (scope_in args.file.now args.turn.function_at) always) _ parts-of ready _ _ _ c.before.before.before.before.match.keys2 c.before.before.body_slots.ensures)
     (λ c. let start = c.before.before.before.before.before.before.before.before.before.before.before.before.before.before.before in
     let args = start.args in let (_, ready) = start.requires in
-    let parts-of = c.before.before.before.before.before.before.before.before.before.parts-of in
+    let parts-of = c.before.before.before.before.before.before.before.before.before.parts_of in
     let match-rest = c.before.before.before.before.before.before.before.before.match.rest in
     let body-slots2 = c.before.before.before.before.before.before.body-slots2.ensures in let u = match-rest in
     let many : 2 ≤ parts-of.result.count = omega arith in
     wrote_length _ _ _ _ _ _ ready.room (two_wrote _ _ _ _ _ _ (body_events (scope_in args.file.now args.turn.function_at) always) _ parts-of.ensures ready _ _ _ _ _ many body-slots2 c.before.before.body-slots3.ensures))
     (λ c. let start = c.before.before.before.before.before.before.before.before.before.before.before.before.before.before.before in
     let args = start.args in let (_, ready) = start.requires in
-    let parts-of = c.before.before.before.before.before.before.before.before.before.parts-of in
+    let parts-of = c.before.before.before.before.before.before.before.before.before.parts_of in
     let match-rest = c.before.before.before.before.before.before.before.before.match.rest in
     let body-slots2 = c.before.before.before.before.before.before.body-slots2.ensures in let u = match-rest in
     let many : 2 ≤ parts-of.result.count = omega arith in
@@ -137,45 +137,45 @@ pub +body-parts-body-slots-circuit-parts-circuit-slots-supply-slots-spec :
     (omega arith, (owner_ready _ _ _ _ _ _ _ (owned_by me_name) _ _ (ready_as _ _ _ _ _ _ _ _ (body_supplied _ _ _ c.before.before.supplied_code.ensures c.before.if1.false) ready))))
     (λ c. let (_, ready) = c.before.before.before.before.before.before.before.before.before.before.before.requires in
     let supplied_code = c.before.before.before.before.before.supplied_code.ensures in
-    wrote_length _ _ _ _ _ _ ready.room (wrote_as _ _ _ _ _ _ _ (body_kept _ _ _ supplied_code c.before.before.before.before.if1.true) c.before.before.body-parts.ensures))
-    (λ c. wrote_as _ _ _ _ _ _ _ (body_kept _ _ _ c.before.before.before.before.before.supplied_code.ensures c.before.before.before.before.if1.true) c.before.before.body-parts.ensures)
+    wrote_length _ _ _ _ _ _ ready.room (wrote_as _ _ _ _ _ _ _ (body_kept _ _ _ supplied_code c.before.before.before.before.if1.true) c.before.before.body_parts.ensures))
+    (λ c. wrote_as _ _ _ _ _ _ _ (body_kept _ _ _ c.before.before.before.before.before.supplied_code.ensures c.before.before.before.before.if1.true) c.before.before.body_parts.ensures)
     (λ c. let (_, ready) = c.before.before.before.before.before.before.before.before.before.before.before.requires in
     let supplied_code = c.before.before.before.before.before.supplied_code.ensures in
-    wrote_length _ _ _ _ _ _ ready.room (wrote_as _ _ _ _ _ _ _ (body_supplied _ _ _ supplied_code c.before.before.before.before.if1.false) (owner_wrote _ _ _ _ _ _ _ _ _ _ _ _ _ c.before.before.supply-slots.ensures)))
+    wrote_length _ _ _ _ _ _ ready.room (wrote_as _ _ _ _ _ _ _ (body_supplied _ _ _ supplied_code c.before.before.before.before.if1.false) (owner_wrote _ _ _ _ _ _ _ _ _ _ _ _ _ c.before.before.supply_slots.ensures)))
     (λ c. let supplied_code = c.before.before.before.before.before.supplied_code.ensures in
-    wrote_as _ _ _ _ _ _ _ (body_supplied _ _ _ supplied_code c.before.before.before.before.if1.false) (owner_wrote _ _ _ _ _ _ _ _ _ _ _ _ _ c.before.before.supply-slots.ensures)))
+    wrote_as _ _ _ _ _ _ _ (body_supplied _ _ _ supplied_code c.before.before.before.before.if1.false) (owner_wrote _ _ _ _ _ _ _ _ _ _ _ _ _ c.before.before.supply_slots.ensures)))
     (λ t. circuit-parts-lts.spec (circuit-parts-claims t) (circuit-parts-at t) circuit-parts.Post
     (λ c κs. let (_, ready) = c.before.before.before.before.before.requires in (ready.inside, ready.context))
     (λ c κs. let start = c.before.before.before.before.before.before.before.before in let args = start.args in let (_, ready) = start.requires in
-    let parts-of = c.before.before.parts-of.ensures in let less = parts-of.first (omega arith) in
+    let parts-of = c.before.before.parts_of.ensures in let less = parts-of.first (omega arith) in
     (omega arith, one_ready _ _ _ _ _ _ (circuit_events (scope_in args.file.now args.turn.function_at) always) _ parts-of ready c.before.match.keys2))
     (λ c κs. let start = c.before.before.before.before.before.before.before.before in let args = start.args in let (_, ready) = start.requires in
-    let parts-of = c.before.before.parts-of in let u = c.before.match.rest in let many : 2 ≤ parts-of.result.count = omega arith in
+    let parts-of = c.before.before.parts_of in let u = c.before.match.rest in let many : 2 ≤ parts-of.result.count = omega arith in
     let less = parts-of.ensures.first (omega arith) in
     (omega arith, first_ready _ _ _ _ _ _ (circuit_events (scope_in args.file.now args.turn.function_at) always) _ parts-of.ensures ready many))
     (λ c κs. let start = c.before.before.before.before.before.before.before.before.before.before.before.before in let args = start.args in
-    let (_, ready) = start.requires in let parts-of = c.before.before.before.before.before.before.parts-of in
+    let (_, ready) = start.requires in let parts-of = c.before.before.before.before.before.before.parts_of in
     let match-rest = c.before.before.before.before.before.match.rest in let u = match-rest in
     let many : 2 ≤ parts-of.result.count = omega arith in let less = parts-of.ensures.second many in
     (omega arith, second_ready _ _ _ _ _ _ (circuit_events (scope_in args.file.now args.turn.function_at) always) _ parts-of.ensures ready _ _ _ many c.before.before.before.circuit-slots2.ensures))
     (λ c. let start = c.before.before.before.before.before.before.before in let args = start.args in let (_, ready) = start.requires in
-    none_wrote _ _ _ _ _ _ (circuit_events (scope_in args.file.now args.turn.function_at) always) _ c.before.parts-of.ensures ready _ c.match.keys1)
+    none_wrote _ _ _ _ _ _ (circuit_events (scope_in args.file.now args.turn.function_at) always) _ c.before.parts_of.ensures ready _ c.match.keys1)
     (λ c. let start = c.before.before.before.before.before.before.before.before.before.before.before in let args = start.args in
-    let (_, ready) = start.requires in let parts-of = c.before.before.before.before.before.parts-of.ensures in
-    wrote_length _ _ _ _ _ _ (one_ready _ _ _ _ _ _ (circuit_events (scope_in args.file.now args.turn.function_at) always) _ parts-of ready c.before.before.before.before.match.keys2).room c.before.before.circuit-slots.ensures)
+    let (_, ready) = start.requires in let parts-of = c.before.before.before.before.before.parts_of.ensures in
+    wrote_length _ _ _ _ _ _ (one_ready _ _ _ _ _ _ (circuit_events (scope_in args.file.now args.turn.function_at) always) _ parts-of ready c.before.before.before.before.match.keys2).room c.before.before.circuit_slots.ensures)
     (λ c. let start = c.before.before.before.before.before.before.before.before.before.before.before in let args = start.args in
-    let (_, ready) = start.requires in let parts-of = c.before.before.before.before.before.parts-of.ensures in
-    one_wrote _ _ _ _ _ _ (circuit_events (scope_in args.file.now args.turn.function_at) always) _ parts-of ready _ _ _ c.before.before.before.before.match.keys2 c.before.before.circuit-slots.ensures)
+    let (_, ready) = start.requires in let parts-of = c.before.before.before.before.before.parts_of.ensures in
+    one_wrote _ _ _ _ _ _ (circuit_events (scope_in args.file.now args.turn.function_at) always) _ parts-of ready _ _ _ c.before.before.before.before.match.keys2 c.before.before.circuit_slots.ensures)
     (λ c. let start = c.before.before.before.before.before.before.before.before.before.before.before.before.before.before.before in
     let args = start.args in let (_, ready) = start.requires in
-    let parts-of = c.before.before.before.before.before.before.before.before.before.parts-of in
+    let parts-of = c.before.before.before.before.before.before.before.before.before.parts_of in
     let match-rest = c.before.before.before.before.before.before.before.before.match.rest in
     let circuit-slots2 = c.before.before.before.before.before.before.circuit-slots2.ensures in let u = match-rest in
     let many : 2 ≤ parts-of.result.count = omega arith in
     wrote_length _ _ _ _ _ _ ready.room (two_wrote _ _ _ _ _ _ (circuit_events (scope_in args.file.now args.turn.function_at) always) _ parts-of.ensures ready _ _ _ _ _ many circuit-slots2 c.before.before.circuit-slots3.ensures))
     (λ c. let start = c.before.before.before.before.before.before.before.before.before.before.before.before.before.before.before in
     let args = start.args in let (_, ready) = start.requires in
-    let parts-of = c.before.before.before.before.before.before.before.before.before.parts-of in
+    let parts-of = c.before.before.before.before.before.before.before.before.before.parts_of in
     let match-rest = c.before.before.before.before.before.before.before.before.match.rest in
     let circuit-slots2 = c.before.before.before.before.before.before.circuit-slots2.ensures in let u = match-rest in
     let many : 2 ≤ parts-of.result.count = omega arith in
@@ -189,38 +189,38 @@ pub +body-parts-body-slots-circuit-parts-circuit-slots-supply-slots-spec :
     (λ c κs. let (_, ready) = c.before.before.before.before.before.before.before.before.before.before.before.before.requires in
     let read_code = c.before.before.before.before.before.before.read_code.ensures in
     let if1-left = c.before.before.before.before.before.if1.false in
-    room_read _ _ _ _ _ _ _ _ (ready_as _ _ _ _ _ _ _ _ (circuit_read _ _ _ read_code if1-left) ready).room c.before.before.before.body-parts.ensures)
+    room_read _ _ _ _ _ _ _ _ (ready_as _ _ _ _ _ _ _ _ (circuit_read _ _ _ read_code if1-left) ready).room c.before.before.before.body_parts.ensures)
     (λ c. let (_, ready) = c.before.before.before.before.before.before.before.before.before.before.before.before.before.before.before.requires in
     let read_code = c.before.before.before.before.before.before.before.before.before.read_code.ensures in
     let if1-left = c.before.before.before.before.before.before.before.before.if1.false in
-    let body-parts-2 = c.before.before.before.before.before.before.body-parts.ensures in
+    let body-parts-2 = c.before.before.before.before.before.before.body_parts.ensures in
     omega (arith, room_read _ _ _ _ _ _ _ _ (ready_as _ _ _ _ _ _ _ _ (circuit_read _ _ _ read_code if1-left) ready).room body-parts-2))
     (λ c. let (_, ready) = c.before.before.before.before.before.before.before.before.before.before.before.requires in
     let read_code = c.before.before.before.before.before.read_code.ensures in
-    wrote_length _ _ _ _ _ _ ready.room (wrote_as _ _ _ _ _ _ _ (circuit_kept _ _ _ read_code c.before.before.before.before.if1.true) c.before.before.circuit-parts.ensures))
-    (λ c. wrote_as _ _ _ _ _ _ _ (circuit_kept _ _ _ c.before.before.before.before.before.read_code.ensures c.before.before.before.before.if1.true) c.before.before.circuit-parts.ensures)
+    wrote_length _ _ _ _ _ _ ready.room (wrote_as _ _ _ _ _ _ _ (circuit_kept _ _ _ read_code c.before.before.before.before.if1.true) c.before.before.circuit_parts.ensures))
+    (λ c. wrote_as _ _ _ _ _ _ _ (circuit_kept _ _ _ c.before.before.before.before.before.read_code.ensures c.before.before.before.before.if1.true) c.before.before.circuit_parts.ensures)
     (λ c. let (_, ready) = c.before.before.before.before.before.before.before.before.before.before.before.before.before.before.before.requires in
     let read_code = c.before.before.before.before.before.before.before.before.before.read_code.ensures in
     let if1-left = c.before.before.before.before.before.before.before.before.if1.false in
-    let body-parts-2 = c.before.before.before.before.before.before.body-parts.ensures in
-    wrote_length _ _ _ _ _ _ ready.room (wrote_as _ _ _ _ _ _ _ (circuit_read _ _ _ read_code if1-left) (wrote_read _ _ _ _ _ _ _ _ _ (ready_as _ _ _ _ _ _ _ _ (circuit_read _ _ _ read_code if1-left) ready).room (read_is _ _ _ _ _ _ _) body-parts-2 c.before.before.put-slot.ensures)))
+    let body-parts-2 = c.before.before.before.before.before.before.body_parts.ensures in
+    wrote_length _ _ _ _ _ _ ready.room (wrote_as _ _ _ _ _ _ _ (circuit_read _ _ _ read_code if1-left) (wrote_read _ _ _ _ _ _ _ _ _ (ready_as _ _ _ _ _ _ _ _ (circuit_read _ _ _ read_code if1-left) ready).room (read_is _ _ _ _ _ _ _) body-parts-2 c.before.before.put_slot.ensures)))
     (λ c. let (_, ready) = c.before.before.before.before.before.before.before.before.before.before.before.before.before.before.before.requires in
     let read_code = c.before.before.before.before.before.before.before.before.before.read_code.ensures in
     let if1-left = c.before.before.before.before.before.before.before.before.if1.false in
-    let body-parts-2 = c.before.before.before.before.before.before.body-parts.ensures in
-    (wrote_as _ _ _ _ _ _ _ (circuit_read _ _ _ read_code if1-left) (wrote_read _ _ _ _ _ _ _ _ _ (ready_as _ _ _ _ _ _ _ _ (circuit_read _ _ _ read_code if1-left) ready).room (read_is _ _ _ _ _ _ _) body-parts-2 c.before.before.put-slot.ensures))))
+    let body-parts-2 = c.before.before.before.before.before.before.body_parts.ensures in
+    (wrote_as _ _ _ _ _ _ _ (circuit_read _ _ _ read_code if1-left) (wrote_read _ _ _ _ _ _ _ _ _ (ready_as _ _ _ _ _ _ _ _ (circuit_read _ _ _ read_code if1-left) ready).room (read_is _ _ _ _ _ _ _) body-parts-2 c.before.before.put_slot.ensures))))
     λ t. supply-slots-lts.spec (supply-slots-claims t) (supply-slots-at t) supply-slots.Post
     (λ c κs. let (_, ready) = c.before.before.before.before.before.requires in (ready.inside, ready.context))
     (λ c κs. let (_, ready) = c.before.before.before.before.before.before.before.requires in room_slot _ _ _ _ _ _ ready.room)
     (λ c. let (_, ready) = c.before.before.before.before.before.before.before.before.before.before.before.requires in
     omega (arith, room_slot _ _ _ _ _ _ ready.room))
     (λ c κs. let (_, ready) = c.before.before.before.before.before.before.before.before.before.before.before.requires in
-    (omega arith, record { inside = ready.inside; context = ready.context; room = room_circuit _ _ _ _ _ _ _ _ ready.room c.before.before.before.put-slot.ensures }))
+    (omega arith, record { inside = ready.inside; context = ready.context; room = room_circuit _ _ _ _ _ _ _ _ ready.room c.before.before.before.put_slot.ensures }))
     (λ c. let (_, ready) = c.before.before.before.before.before.before.before.before.before.before.before.before.before.before.requires in
-    let supplied-number = c.before.before.before.before.before.before.before.before.supplied-number.ensures in
-    let put-slot = c.before.before.before.before.before.before.put-slot.ensures in
-    wrote_length _ _ _ _ _ _ ready.room (wrote_supply _ _ _ _ _ _ _ _ _ _ _ ready.room put-slot (supplied_is _ _ _ _ _ _ _ _ supplied-number) c.before.before.circuit-slots.ensures))
+    let supplied-number = c.before.before.before.before.before.before.before.before.supplied_number.ensures in
+    let put-slot = c.before.before.before.before.before.before.put_slot.ensures in
+    wrote_length _ _ _ _ _ _ ready.room (wrote_supply _ _ _ _ _ _ _ _ _ _ _ ready.room put-slot (supplied_is _ _ _ _ _ _ _ _ supplied-number) c.before.before.circuit_slots.ensures))
     (λ c. let (_, ready) = c.before.before.before.before.before.before.before.before.before.before.before.before.before.before.requires in
-    let supplied-number = c.before.before.before.before.before.before.before.before.supplied-number.ensures in
-    let put-slot = c.before.before.before.before.before.before.put-slot.ensures in
-    (wrote_supply _ _ _ _ _ _ _ _ _ _ _ ready.room put-slot (supplied_is _ _ _ _ _ _ _ _ supplied-number) c.before.before.circuit-slots.ensures))
+    let supplied-number = c.before.before.before.before.before.before.before.before.supplied_number.ensures in
+    let put-slot = c.before.before.before.before.before.before.put_slot.ensures in
+    (wrote_supply _ _ _ _ _ _ _ _ _ _ _ ready.room put-slot (supplied_is _ _ _ _ _ _ _ _ supplied-number) c.before.before.circuit_slots.ensures))

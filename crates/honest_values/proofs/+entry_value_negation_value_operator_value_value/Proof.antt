@@ -1,5 +1,5 @@
 -- The values of nodes by their kind, as a cycle: the node number falls, or the same node goes on to its own kind.
-use Rattle.kit.specs.Names.{refl, sym, ◌+◌, ◌*◌, ℕ, ◌<◌, arith, needs, In, Measures, is, falls, and}
+use Rattle.kit.specs.Names.{refl, sym, ◌+◌, ◌*◌, ℕ, ◌<◌, arith, rules, In, Measures, is, falls, and}
 use Rattle.theory_trees.proofs.ByKind.{constant_is, field_is, entry_is, parameter_is, operator_is, negation_is, reveal_is, other_is, key_below, part_below, revealed_below, operands_below}
 use Rattle.file_accepted.proofs.Nodes.{node_reads}
 use Rattle.honest_values.proofs.ValuesByKind.{kind_as, constant_value_law, me_value, field_value, entry_value, parameter_value, operator_value, negation_value, reveal_value}
@@ -72,14 +72,14 @@ operator-value-claims t = (node-at-reads.Asked, node-at-reads.Learnt, value_belo
 abbrev value-claims : ℕ → value-lts.Claims
 value-claims t = (node-at-reads.Asked, node-at-reads.Learnt, constant-of-reads.Asked, constant-of-reads.Learnt, position-reads.Asked, position-reads.Learnt, number-at-reads.Asked, number-at-reads.Learnt, entry-value-below t, entry_value.Post, operator-value-below t, operator_value.Post, negation-value-below t, negation_value.Post, value_below t, value.Post)
 
-pub +entry-value-negation-value-operator-value-value-spec : {M : Type 1} → statement M
-+entry-value-negation-value-operator-value-value-spec =
+pub +entry_value_negation_value_operator_value_value_spec : {M : Type 1} → statement M
++entry_value_negation_value_operator_value_value_spec =
     close μ-entry-value μ-negation-value μ-operator-value μ-value (λ t. entry-value-lts.spec (entry-value-claims t)
     (entry-value-at t) entry_value.Post
     (λ c κs. let (_, (_, (n-bound, context))) = c.before.before.before.before.requires in (context.narrow, omega (arith, context.long, n-bound)))
     (λ c κs. let (falls-2, (kind-at-is, (n-bound, context))) = c.before.before.before.before.before.requires in
     let less = key_below (node_reads _ _ _ context _ n-bound _ c.node_at.ensures.same) (kind_as _ _ _ c.node_at.ensures.same kind-at-is) in
-    (omega (arith, falls-2, less), (omega (arith, n-bound, less), context))) (λ c. search needs)
+    (omega (arith, falls-2, less), (omega (arith, n-bound, less), context))) (λ c. search rules)
     (λ c κs. let (_, (_, (_, context))) = c.before.before.before.before.before.before.requires in (context.few_fields, omega arith))
     (λ c κs. tt) (λ c. let (_, (kind-at-is, (n-bound, context))) = c.before.before.before.before.before.before.before.before.requires in
     let node-at-same = c.before.before.before.node_at.ensures.same in

@@ -4,9 +4,9 @@ use Rattle.ledger_struct.specs.Ledgers.{ledger_from}
 use Rattle.ledger_18_parts.proofs.Flats.{none_shown}
 use Rattle.ledger_18_before.proofs.is_before_calls as own
 
-pub is-before-calls-spec : {M : Type 1} → own.Statement.statement M
+pub is_before_calls_spec : {M : Type 1} → own.Statement.statement M
 unfolding ledger_from
-is-before-calls-spec =
+is_before_calls_spec =
     own.Tie.close (own.Tie.spec (λ c. rw (ne_eqb _ _ c.if1.taken))
     (λ c. rw (eq-eqb _ _ c.before.before.if1.left, ne_eqb _ _ c.if2.taken))
     (λ c. let second = c.before.before in

@@ -1,5 +1,5 @@
 -- The variables by the addresses of the names in the call.
-use Rattle.kit.specs.Names.{ap, sym, ◌∙◌, List, map, ℕ, needs}
+use Rattle.kit.specs.Names.{ap, sym, ◌∙◌, List, map, ℕ, rules}
 use Rattle.definitions.specs.ContractFile.{Name}
 use Rattle.definitions.specs.Original.{address_in}
 use Rattle.definitions.specs.Ledger.{all_fit}
@@ -11,12 +11,12 @@ use Rattle.ledger_18_variable.specs.Variables.{variable_form}
 use Rattle.ledger_18_parts.proofs.Flats.{numbers_long}
 use Rattle.ledger_18_done.proofs.done_variables_fit as own
 
-pub done-variables-fit-spec : {M : Type 1} → own.Statement.statement M
-done-variables-fit-spec =
-    own.Tie.close (own.Tie.spec (λ c. search needs) (λ c κs. search needs) (λ c. search needs) (λ c. let k = c.before.before in
-    sym (numbers_long _ _ _ k.plain-numbers.ensures))
-    (λ c. search needs) (λ c κs. search needs) (λ c. search needs) (λ c κs. search needs) (λ c. let k = c.before.before.before in
+pub done_variables_fit_spec : {M : Type 1} → own.Statement.statement M
+done_variables_fit_spec =
+    own.Tie.close (own.Tie.spec (λ c. search rules) (λ c κs. search rules) (λ c. search rules) (λ c. let k = c.before.before in
+    sym (numbers_long _ _ _ k.plain_numbers.ensures))
+    (λ c. search rules) (λ c κs. search rules) (λ c. search rules) (λ c κs. search rules) (λ c. let k = c.before.before.before in
     let n = k.before.before.before.before in let a = n.before.before.before.before.before.before.before.args in
     let file = a.file.now in let scope = scope_in file a.function_at in c.variables_fit.ensures
     ∙ ap (λ (address : Name → ℕ). all_fit fits_or_zero (map (variable_form scope address) (written_in file a.function_at).variables) (contents_of a.variables.now))
-    (k.put-addresses.ensures.addresses ∙ ap (λ (arguments : List ℕ). address_in scope a.caller arguments a.numbers.now) n.plain-numbers.ensures.first)))
+    (k.put_addresses.ensures.addresses ∙ ap (λ (arguments : List ℕ). address_in scope a.caller arguments a.numbers.now) n.plain_numbers.ensures.first)))

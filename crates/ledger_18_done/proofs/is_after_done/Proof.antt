@@ -1,5 +1,5 @@
 -- The parameters are tested, then the variables.
-use Rattle.kit.specs.Names.{sym, ◌∙◌, eq-eqb, ne_eqb, needs}
+use Rattle.kit.specs.Names.{sym, ◌∙◌, eq-eqb, ne_eqb, rules}
 use Rattle.ledger_struct.specs.Ledgers.{ledger_from}
 use Rattle.ledger_18_parts.proofs.Files.{room_at, parameters_few}
 use Rattle.ledger_18_parts.proofs.WellFormedParts.{done_is}
@@ -17,8 +17,8 @@ returns-2 c places plain =
     let s = f.before.before.before.before.before.before.before in
     let a = s.args in
     sym
-    (done_is (ledger_from a.file.now a.last a.parameters.now a.variables.now places) _ f.function-start.ensures.0 s.pre.1 a.numbers.now plain _
-    fit.before.parameters_fit.ensures ∙ rw (eq-eqb _ _ f.before.if1.left, fit.if2.taken, ← c.done-variables-fit.ensures))
+    (done_is (ledger_from a.file.now a.last a.parameters.now a.variables.now places) _ f.function_start.ensures.0 s.requires.1 a.numbers.now plain _
+    fit.before.parameters_fit.ensures ∙ rw (eq-eqb _ _ f.before.if1.left, fit.if2.taken, ← c.done_variables_fit.ensures))
 
 returns-3 : own.Tie.Need-returns-3
 unfolding ledger_from
@@ -27,18 +27,18 @@ returns-3 c places plain =
     let s = f.before.before.before.before.before.before.before in
     let a = s.args in
     sym
-    (done_is (ledger_from a.file.now a.last a.parameters.now a.variables.now places) _ f.function-start.ensures.0 s.pre.1 a.numbers.now plain _
+    (done_is (ledger_from a.file.now a.last a.parameters.now a.variables.now places) _ f.function_start.ensures.0 s.requires.1 a.numbers.now plain _
     c.before.parameters_fit.ensures ∙ rw (eq-eqb _ _ f.before.if1.left, c.if2.left))
 
-pub is-after-done-spec : {M : Type 1} → own.Statement.statement M
-is-after-done-spec =
-    own.Tie.close (own.Tie.spec returns (λ c κs. search needs)
+pub is_after_done_spec : {M : Type 1} → own.Statement.statement M
+is_after_done_spec =
+    own.Tie.close (own.Tie.spec returns (λ c κs. search rules)
     (λ c κs. let s = c.before.before.before.before.before.before.before in (
-      c.function-start.ensures.1,
-      parameters_few s.args.file.now s.pre.0 s.args.last.function _ s.pre.1 c.function-start.ensures.0,
-    )) (λ c κs. search needs) (λ c. search needs) (λ c κs. search needs) (λ c. search needs) (λ c. search needs)
+      c.function_start.ensures.1,
+      parameters_few s.args.file.now s.requires.0 s.args.last.function _ s.requires.1 c.function_start.ensures.0,
+    )) (λ c κs. search rules) (λ c. search rules) (λ c κs. search rules) (λ c. search rules) (λ c. search rules)
     (λ c κs. let d = c.before.before in let f = d.before.before.before.before.before in
     let s = f.before.before.before.before.before.before.before in (
-      (room_at s.args.file.now s.pre.0 s.args.last.function _ s.pre.1 f.function-start.ensures.0, d.decode-source.ensures.0),
-      s.pre.2,
+      (room_at s.args.file.now s.requires.0 s.args.last.function _ s.requires.1 f.function_start.ensures.0, d.decode_source.ensures.0),
+      s.requires.2,
     )) returns-2 returns-3)

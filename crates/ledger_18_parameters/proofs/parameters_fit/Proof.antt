@@ -1,5 +1,5 @@
 -- Each turn tests one parameter more, or passes a hidden one.
-use Rattle.kit.specs.Names.{◌≡◌, ap, sym, List, ◌-◌, ◌<◌, ◌≤◌, arith, length, drop, needs}
+use Rattle.kit.specs.Names.{◌≡◌, ap, sym, List, ◌-◌, ◌<◌, ◌≤◌, arith, length, drop, rules}
 use Rattle.definitions.specs.Ledger.{Form, fits, all_fit}
 use Rattle.file_accepted.proofs.Declarations.{parameters_count}
 use Rattle.file_accepted.specs.Context.{parameters_in}
@@ -17,13 +17,13 @@ Inv-loop file function_at_law caller all flat count k₀ p₀ k p =
 abbrev μ-loop : own.Tie.MeasureT-loop
 μ-loop file function_at_law caller all flat count k₀ p₀ k p = count - k
 
-pub parameters-fit-spec : {M : Type 1} → own.Statement.statement M
-parameters-fit-spec =
-    own.Tie.close (own.Tie.spec Inv-loop μ-loop (λ c κs. search needs) (λ c. let a = c.before.before.before.args in (
+pub parameters_fit_spec : {M : Type 1} → own.Statement.statement M
+parameters_fit_spec =
+    own.Tie.close (own.Tie.spec Inv-loop μ-loop (λ c κs. search rules) (λ c. let a = c.before.before.before.args in (
       omega arith,
       (omega arith, sym (ap (λ (l : List Form). all_fit fits l (contents_of a.flat.now)) (shown_forms_law a.all a.caller (parameters_in a.file.now a.function_at)))),
-    )) (λ c. search needs) (λ c. search needs) (λ c. search needs) (λ c. search needs) (λ c κs. search needs) (λ c κs. search needs)
-    (λ c. search needs) (λ c. search needs) (λ c. let byte-at2 = c.before.before.byte-at2 in let k = c.before.before.before.before in
+    )) (λ c. search rules) (λ c. search rules) (λ c. search rules) (λ c. search rules) (λ c κs. search rules) (λ c κs. search rules)
+    (λ c. search rules) (λ c. search rules) (λ c. let byte-at2 = c.before.before.byte-at2 in let k = c.before.before.before.before in
     let a = k.before.before.before.before.args in let same = k.before.byte_at.ensures.0 in
     let counted = parameters_count a.file.now a.function_at in
     let inside : k.loop.k < length (parameters_in a.file.now a.function_at) = omega arith in
@@ -34,8 +34,8 @@ parameters-fit-spec =
         hidden_next a.all a.caller (parameters_in a.file.now a.function_at) k.loop.k inside byte-at2.result private
             (contents_of a.flat.now) k.loop.p _ _ c.before.is_hidden.ensures k.loop.inv.1.1 c.if1.taken,
       ),
-    )) (λ c κs. search needs) (λ c κs. search needs) (λ c κs. search needs) (λ c. search needs) (λ c. search needs) (λ c. search needs)
-    (λ c. let parameter-type = c.before.before.before.parameter-type in let parameter-reader = c.before.before.parameter-reader in
+    )) (λ c κs. search rules) (λ c κs. search rules) (λ c κs. search rules) (λ c. search rules) (λ c. search rules) (λ c. search rules)
+    (λ c. let parameter-type = c.before.before.before.parameter_type in let parameter-reader = c.before.before.parameter_reader in
     let k = c.before.before.before.before.before.before.before.before in let a = k.before.before.before.before.args in
     let same = k.before.byte_at.ensures.0 in let counted = parameters_count a.file.now a.function_at in
     let inside : k.loop.k < length (parameters_in a.file.now a.function_at) = omega arith in
@@ -46,9 +46,9 @@ parameters-fit-spec =
         omega arith,
         shown_next a.all a.caller (parameters_in a.file.now a.function_at) k.loop.k inside seen.before.byte-at2.result private
             (contents_of a.flat.now) k.loop.p _ _ seen.is_hidden.ensures k.loop.inv.1.1 _ parameter-type.result
-            parameter-reader.result parameter-type.ensures parameter-reader.ensures c.before.fits-at.ensures c.before.before.before.before.if1.left c.if2.taken,
+            parameter-reader.result parameter-type.ensures parameter-reader.ensures c.before.fits_at.ensures c.before.before.before.before.if1.left c.if2.taken,
       ),
-    )) (λ c. let parameter-type = c.before.before.before.parameter-type in let parameter-reader = c.before.before.parameter-reader in
+    )) (λ c. let parameter-type = c.before.before.before.parameter_type in let parameter-reader = c.before.before.parameter_reader in
     let k = c.before.before.before.before.before.before.before.before in let a = k.before.before.before.before.args in
     let same = k.before.byte_at.ensures.0 in let counted = parameters_count a.file.now a.function_at in
     let inside : k.loop.k < length (parameters_in a.file.now a.function_at) = omega arith in
@@ -56,7 +56,7 @@ parameters-fit-spec =
     let private = private_is_law a.file.now a.function_at k.loop.k _ (omega arith) seen.before.byte-at2.ensures.0 in
     shown_stops a.all a.caller (parameters_in a.file.now a.function_at) k.loop.k inside seen.before.byte-at2.result private
     (contents_of a.flat.now) k.loop.p _ _ seen.is_hidden.ensures k.loop.inv.1.1 _ parameter-type.result
-    parameter-reader.result parameter-type.ensures parameter-reader.ensures c.before.fits-at.ensures c.before.before.before.before.if1.left c.if2.left)
+    parameter-reader.result parameter-type.ensures parameter-reader.ensures c.before.fits_at.ensures c.before.before.before.before.if1.left c.if2.left)
     (λ c. let k = c.before in let a = k.before.before.before.before.args in let same = k.before.byte_at.ensures.0 in
     let counted = parameters_count a.file.now a.function_at in
     parameters_done a.all a.caller (parameters_in a.file.now a.function_at) k.loop.k k.loop.p a.flat.now _ (omega arith) k.loop.inv.1.1))

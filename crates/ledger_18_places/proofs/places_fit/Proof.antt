@@ -1,5 +1,5 @@
 -- Each turn tests the places of one field more.
-use Rattle.kit.specs.Names.{◌≡◌, ap, sym, List, ◌*◌, ◌-◌, ◌<◌, ◌≤◌, arith, length, drop, needs}
+use Rattle.kit.specs.Names.{◌≡◌, ap, sym, List, ◌*◌, ◌-◌, ◌<◌, ◌≤◌, arith, length, drop, rules}
 use Rattle.definitions.specs.Original.{per_place}
 use Rattle.definitions.specs.Ledger.{Form, fits, all_fit}
 use Rattle.file_accepted.specs.Context.{fields_in}
@@ -18,13 +18,13 @@ Inv-loop file numbers flat count f₀ p₀ f p =
 abbrev μ-loop : own.Tie.MeasureT-loop
 μ-loop file numbers flat count f₀ p₀ f p = count - f
 
-pub places-fit-spec : {M : Type 1} → own.Statement.statement M
-places-fit-spec =
-    own.Tie.close (own.Tie.spec Inv-loop μ-loop (λ c κs. search needs) (λ c. let a = c.before.before.before.before.args in (
+pub places_fit_spec : {M : Type 1} → own.Statement.statement M
+places_fit_spec =
+    own.Tie.close (own.Tie.spec Inv-loop μ-loop (λ c κs. search rules) (λ c. let a = c.before.before.before.before.args in (
       omega arith,
       (omega arith, sym (ap (λ (l : List Form). all_fit fits l (contents_of a.flat.now)) (forms_listed (fields_in a.file.now) a.numbers.now))),
-    )) (λ c κs. search needs) (λ c κs. search needs) (λ c. search needs) (λ c. search needs) (λ c. search needs)
-    (λ c. let place-count = c.before.before.place-count in let k = c.before.before.before.before in
+    )) (λ c κs. search rules) (λ c κs. search rules) (λ c. search rules) (λ c. search rules) (λ c. search rules)
+    (λ c. let place-count = c.before.before.place_count in let k = c.before.before.before.before in
     let a = k.before.before.before.before.before.args in let same = k.before.byte_at.ensures.0 in
     let counted = fields_count a.file.now in let inside : k.loop.f < length (fields_in a.file.now) = omega arith in (
       omega arith,
@@ -33,7 +33,7 @@ places-fit-spec =
         field_next (fields_in a.file.now) a.numbers.now k.loop.f inside (contents_of a.flat.now) k.loop.p place-count.result
             place-count.ensures.0 _ _ c.before.field_fits.ensures k.loop.inv.1.1 c.if1.taken,
       ),
-    )) (λ c. let place-count = c.before.before.place-count in let k = c.before.before.before.before in
+    )) (λ c. let place-count = c.before.before.place_count in let k = c.before.before.before.before in
     let a = k.before.before.before.before.before.args in let same = k.before.byte_at.ensures.0 in
     let counted = fields_count a.file.now in let inside : k.loop.f < length (fields_in a.file.now) = omega arith in
     field_stops (fields_in a.file.now) a.numbers.now k.loop.f inside (contents_of a.flat.now) k.loop.p place-count.result

@@ -1,5 +1,5 @@
 -- Each turn tests one private parameter more, or passes a public one.
-use Rattle.kit.specs.Names.{◌≡◌, refl, ◌-◌, ◌<◌, ◌≤◌, arith, length, get_or, drop, needs}
+use Rattle.kit.specs.Names.{◌≡◌, refl, ◌-◌, ◌<◌, ◌≤◌, arith, length, get_or, drop, rules}
 use Rattle.file_accepted.proofs.Declarations.{parameters_count}
 use Rattle.file_accepted.specs.Context.{parameters_in}
 use Rattle.ledger_contents.specs.Contents.{contents_of}
@@ -17,11 +17,11 @@ Inv-loop file function_at_law addresses flat count k₀ p₀ k p =
 abbrev μ-loop : own.Tie.MeasureT-loop
 μ-loop file function_at_law addresses flat count k₀ p₀ k p = count - k
 
-pub openings-fit-spec : {M : Type 1} → own.Statement.statement M
-openings-fit-spec =
-    own.Tie.close (own.Tie.spec Inv-loop μ-loop (λ c κs. search needs) (λ c. (omega arith, (omega arith, refl)))
-    (λ c. search needs) (λ c. search needs) (λ c. search needs) (λ c. search needs) (λ c κs. search needs) (λ c. search needs)
-    (λ c. search needs) (λ c. let k = c.before.before.before in let a = k.before.before.before.before.before.args in
+pub openings_fit_spec : {M : Type 1} → own.Statement.statement M
+openings_fit_spec =
+    own.Tie.close (own.Tie.spec Inv-loop μ-loop (λ c κs. search rules) (λ c. (omega arith, (omega arith, refl)))
+    (λ c. search rules) (λ c. search rules) (λ c. search rules) (λ c. search rules) (λ c κs. search rules) (λ c. search rules)
+    (λ c. search rules) (λ c. let k = c.before.before.before in let a = k.before.before.before.before.before.args in
     let same = k.before.byte_at.ensures.0 in let counted = parameters_count a.file.now a.function_at in
     let inside : k.loop.k < length (parameters_in a.file.now a.function_at) = omega arith in
     let public = is_public_law a.file.now a.function_at k.loop.k _ (omega arith) c.before.byte-at2.ensures.0 c.if1.taken in (
@@ -30,8 +30,8 @@ openings-fit-spec =
         omega arith,
         public_next (parameters_in a.file.now a.function_at) (get_or a.addresses.now 1 0) k.loop.k inside (contents_of a.flat.now) k.loop.p _ k.loop.inv.1.1 public,
       ),
-    )) (λ c κs. search needs) (λ c κs. search needs) (λ c κs. search needs) (λ c. search needs) (λ c. search needs) (λ c. search needs)
-    (λ c. let parameter-type = c.before.before.before.parameter-type in let code-reader = c.before.before.code-reader in
+    )) (λ c κs. search rules) (λ c κs. search rules) (λ c κs. search rules) (λ c. search rules) (λ c. search rules) (λ c. search rules)
+    (λ c. let parameter-type = c.before.before.before.parameter_type in let code-reader = c.before.before.code_reader in
     let seen = c.before.before.before.before.before in let k = seen.before.before in
     let a = k.before.before.before.before.before.args in let same = k.before.byte_at.ensures.0 in
     let counted = parameters_count a.file.now a.function_at in
@@ -42,9 +42,9 @@ openings-fit-spec =
         omega arith,
         private_next (parameters_in a.file.now a.function_at) (get_or a.addresses.now 1 0) k.loop.k inside (contents_of a.flat.now) k.loop.p _ k.loop.inv.1.1
             _ parameter-type.result code-reader.result parameter-type.ensures code-reader.ensures
-            c.before.variable-fits-at.ensures private c.if2.taken,
+            c.before.variable_fits_at.ensures private c.if2.taken,
       ),
-    )) (λ c. let parameter-type = c.before.before.before.parameter-type in let code-reader = c.before.before.code-reader in
+    )) (λ c. let parameter-type = c.before.before.before.parameter_type in let code-reader = c.before.before.code_reader in
     let seen = c.before.before.before.before.before in let k = seen.before.before in
     let a = k.before.before.before.before.before.args in let same = k.before.byte_at.ensures.0 in
     let counted = parameters_count a.file.now a.function_at in
@@ -52,7 +52,7 @@ openings-fit-spec =
     let private = is_private_law a.file.now a.function_at k.loop.k _ (omega arith) seen.byte-at2.ensures.0 c.before.before.before.before.if1.left in
     private_stops (parameters_in a.file.now a.function_at) (get_or a.addresses.now 1 0) k.loop.k inside (contents_of a.flat.now) k.loop.p _ k.loop.inv.1.1
     _ parameter-type.result code-reader.result parameter-type.ensures code-reader.ensures
-    c.before.variable-fits-at.ensures private c.if2.left) (λ c. let k = c.before in
+    c.before.variable_fits_at.ensures private c.if2.left) (λ c. let k = c.before in
     let a = k.before.before.before.before.before.args in let same = k.before.byte_at.ensures.0 in
     let counted = parameters_count a.file.now a.function_at in
     openings_done (parameters_in a.file.now a.function_at) (get_or a.addresses.now 1 0) k.loop.k (contents_of a.flat.now) k.loop.p _ (omega arith) k.loop.inv.1.1))

@@ -1,17 +1,17 @@
 use Rattle.ledger_arithmetic.proofs.OperatorsByCode.{by_code, by_other}
-use Rattle.kit.specs.Names.{needs}
+use Rattle.kit.specs.Names.{rules}
 use Rattle.ledger_arithmetic.proofs.operated as own
 
-pub operated-spec : {M : Type 1} → own.Statement.statement M
-operated-spec =
+pub operated_spec : {M : Type 1} → own.Statement.statement M
+operated_spec =
     own.Tie.close (own.Tie.spec
-    (λ c κs. search needs) (λ c κs. search needs) (λ c κs. search needs) (λ c κs. search needs) (λ c κs. search needs)
-    (λ c κs. search needs) (λ c κs. search needs) (λ c κs. search needs) (λ c κs. search needs) (λ c κs. search needs)
-    (λ c κs. search needs) (λ c. by_code _ 1 _ _ _ c.before.match.keys1 c.difference.ensures)
+    (λ c κs. search rules) (λ c κs. search rules) (λ c κs. search rules) (λ c κs. search rules) (λ c κs. search rules)
+    (λ c κs. search rules) (λ c κs. search rules) (λ c κs. search rules) (λ c κs. search rules) (λ c κs. search rules)
+    (λ c κs. search rules) (λ c. by_code _ 1 _ _ _ c.before.match.keys1 c.difference.ensures)
     (λ c. by_code _ 2 _ _ _ c.before.match.keys2 c.product.ensures)
     (λ c. by_code _ 3 _ _ _ c.before.match.keys3 c.quotient.ensures)
     (λ c. by_code _ 4 _ _ _ c.before.match.keys4 c.rest.ensures)
-    (λ c. by_code _ 5 _ _ _ c.before.match.keys5 c.bit-of.ensures)
+    (λ c. by_code _ 5 _ _ _ c.before.match.keys5 c.bit_of.ensures)
     (λ c. by_code _ 6 _ _ _ c.before.match.keys6 c.bit-of2.ensures)
     (λ c. by_code _ 7 _ _ _ c.before.match.keys7 c.bit-of3.ensures)
     (λ c. by_code _ 8 _ _ _ c.before.match.keys8 c.bit-of4.ensures)

@@ -1,5 +1,5 @@
 -- `ledger_circuits::circuit_value` meets its contract, by recursion with the node number falling.
-use Rattle.kit.specs.Names.{ℕ, ◌<◌, arith, needs, In, Measures, is, falls, and}
+use Rattle.kit.specs.Names.{ℕ, ◌<◌, arith, rules, In, Measures, is, falls, and}
 use Rattle.write_trees.proofs.Read.{read_here}
 use Rattle.write_trees.proofs.ByKind.{circuit_constant, circuit_operator, circuit_negation, circuit_variable, circuit_opened, circuit_rest, one_falls, two_fall, form_operator, form_negation}
 use Rattle.ledger_circuits.proofs.Values.{constant_value_law, me_value, operator_value, negation_value, variable_value, opened_value}
@@ -28,29 +28,29 @@ circuit-value-below t = and 3 circuit-value-kinds.ps (falls 3 circuit-value-kind
 abbrev circuit-value-claims : ℕ → circuit-value-lts.Claims
 circuit-value-claims t = (read-node-reads.Asked, read-node-reads.Learnt, constant-of-reads.Asked, constant-of-reads.Learnt, circuit-value-below t, circuit-value.Post, operated-reads.Asked, operated-reads.Learnt, negated-reads.Asked, negated-reads.Learnt, plain-at-reads.Asked, plain-at-reads.Learnt, opened-at-reads.Asked, opened-at-reads.Learnt, number-at-reads.Asked, number-at-reads.Learnt)
 
-pub +circuit-value-spec : {M : Type 1} → statement M
-+circuit-value-spec = close μ-circuit-value λ t. circuit-value-lts.spec (circuit-value-claims t)
-    (circuit-value-at t) circuit-value.Post (λ c. search needs)
+pub +circuit_value_spec : {M : Type 1} → statement M
++circuit_value_spec = close μ-circuit-value λ t. circuit-value-lts.spec (circuit-value-claims t)
+    (circuit-value-at t) circuit-value.Post (λ c. search rules)
     (λ c κs. let (_, (_, readable)) = c.before.before.before.requires in omega (arith, readable.few))
-    (λ c κs. let read-node = c.before.read-node.ensures in (read-node.small_first, read-node.small_second))
+    (λ c κs. let read-node = c.before.read_node.ensures in (read-node.small_first, read-node.small_second))
     (λ c κs. let (_, (n-bound, readable)) = c.before.before.before.before.before.requires in
-    let less = two_fall _ readable.falling _ _ (read_here _ _ n-bound _ c.before.read-node.ensures) (form_operator _ c.match.keys2) in
+    let less = two_fall _ readable.falling _ _ (read_here _ _ n-bound _ c.before.read_node.ensures) (form_operator _ c.match.keys2) in
     (omega arith, (omega arith, readable)))
     (λ c κs. let (_, (n-bound, readable)) = c.before.before.before.before.before.before.requires in
-    let less = two_fall _ readable.falling _ _ (read_here _ _ n-bound _ c.before.before.read-node.ensures) (form_operator _ c.before.match.keys2) in
-    (omega arith, (omega arith, readable))) (λ c κs. search needs)
+    let less = two_fall _ readable.falling _ _ (read_here _ _ n-bound _ c.before.before.read_node.ensures) (form_operator _ c.before.match.keys2) in
+    (omega arith, (omega arith, readable))) (λ c κs. search rules)
     (λ c κs. let (_, (n-bound, readable)) = c.before.before.before.before.before.requires in
-    let less = one_falls _ readable.falling _ _ (read_here _ _ n-bound _ c.before.read-node.ensures) (form_negation _ c.match.keys3) in
-    (omega arith, (omega arith, readable))) (λ c κs. search needs) (λ c κs. search needs) (λ c κs. search needs) (λ c κs. search needs)
+    let less = one_falls _ readable.falling _ _ (read_here _ _ n-bound _ c.before.read_node.ensures) (form_negation _ c.match.keys3) in
+    (omega arith, (omega arith, readable))) (λ c κs. search rules) (λ c κs. search rules) (λ c κs. search rules) (λ c κs. search rules)
     (λ c. let (_, (n-bound, readable)) = c.before.before.before.before.before.before.requires in
-    constant_value_law _ _ _ _ _ _ (circuit_constant _ readable.falling _ _ (read_here _ _ n-bound _ c.before.before.read-node.ensures) c.before.match.keys1) c.constant_of.ensures)
+    constant_value_law _ _ _ _ _ _ (circuit_constant _ readable.falling _ _ (read_here _ _ n-bound _ c.before.before.read_node.ensures) c.before.match.keys1) c.constant_of.ensures)
     (λ c. let (_, (n-bound, readable)) = c.before.before.before.before.before.before.before.before.requires in
-    operator_value _ _ _ _ _ _ _ _ _ (circuit_operator _ readable.falling _ _ (read_here _ _ n-bound _ c.before.before.before.before.read-node.ensures) c.before.before.before.match.keys2) c.before.before.circuit-value.ensures c.before.circuit-value2.ensures c.operated.ensures)
+    operator_value _ _ _ _ _ _ _ _ _ (circuit_operator _ readable.falling _ _ (read_here _ _ n-bound _ c.before.before.before.before.read_node.ensures) c.before.before.before.match.keys2) c.before.before.circuit_value.ensures c.before.circuit-value2.ensures c.operated.ensures)
     (λ c. let (_, (n-bound, readable)) = c.before.before.before.before.before.before.before.requires in
-    negation_value _ _ _ _ _ _ (circuit_negation _ readable.falling _ _ (read_here _ _ n-bound _ c.before.before.before.read-node.ensures) c.before.before.match.keys3) c.before.circuit-value3.ensures c.negated.ensures)
+    negation_value _ _ _ _ _ _ (circuit_negation _ readable.falling _ _ (read_here _ _ n-bound _ c.before.before.before.read_node.ensures) c.before.before.match.keys3) c.before.circuit-value3.ensures c.negated.ensures)
     (λ c. let (_, (n-bound, readable)) = c.before.before.before.before.before.before.requires in
-    variable_value _ _ _ _ _ (circuit_variable _ readable.falling _ _ (read_here _ _ n-bound _ c.before.before.read-node.ensures) c.before.match.keys4) c.plain_at.ensures)
+    variable_value _ _ _ _ _ (circuit_variable _ readable.falling _ _ (read_here _ _ n-bound _ c.before.before.read_node.ensures) c.before.match.keys4) c.plain_at.ensures)
     (λ c. let (_, (n-bound, readable)) = c.before.before.before.before.before.before.requires in
-    opened_value _ _ _ _ _ (circuit_opened _ readable.falling _ _ (read_here _ _ n-bound _ c.before.before.read-node.ensures) c.before.match.keys5) c.opened_at.ensures)
+    opened_value _ _ _ _ _ (circuit_opened _ readable.falling _ _ (read_here _ _ n-bound _ c.before.before.read_node.ensures) c.before.match.keys5) c.opened_at.ensures)
     (λ c. let (_, (n-bound, readable)) = c.before.before.before.before.before.before.requires in let u = c.before.match.rest in
-    me_value _ _ _ _ (circuit_rest _ readable.falling _ _ (read_here _ _ n-bound _ c.before.before.read-node.ensures) (record { constant = u.0.0.0.0.1; operator = u.0.0.0.1; negation = u.0.0.1; variable = u.0.1; opened = u.1 })) c.number_at.ensures)
+    me_value _ _ _ _ (circuit_rest _ readable.falling _ _ (read_here _ _ n-bound _ c.before.before.read_node.ensures) (record { constant = u.0.0.0.0.1; operator = u.0.0.0.1; negation = u.0.0.1; variable = u.0.1; opened = u.1 })) c.number_at.ensures)

@@ -1,5 +1,5 @@
 -- Each turn fills one place more.
-use Rattle.kit.specs.Names.{◌≡◌, ◌∙◌, map, ◌≤◌, ◌-◌, ◌/◌, arith, length, take, needs}
+use Rattle.kit.specs.Names.{◌≡◌, ◌∙◌, map, ◌≤◌, ◌-◌, ◌/◌, arith, length, take, rules}
 use Rattle.ledger_contents.specs.Contents.{contents_of}
 use Rattle.ledger_struct.specs.Whole.{padded, place_of, zero_place}
 use Rattle.ledger_struct.proofs.Padding.{padded_none}
@@ -12,10 +12,10 @@ Inv-loop flat places₀ i₀ places i = (i ≤ length flat / 5) × (places ≡ p
 abbrev μ-loop : own.Tie.MeasureT-loop
 μ-loop flat places₀ i₀ places i = length flat / 5 - i
 
-pub filled-spec : {M : Type 1} → own.Statement.statement M
-filled-spec =
+pub filled_spec : {M : Type 1} → own.Statement.statement M
+filled_spec =
     own.Tie.close (own.Tie.spec Inv-loop μ-loop (λ c. (omega arith, padded_none 1024 zero_place))
-    (λ c κs. search needs) (λ c. search needs) (λ c. search needs) (λ c. search needs) (λ c. search needs)
+    (λ c κs. search rules) (λ c. search rules) (λ c. search rules) (λ c. search rules) (λ c. search rules)
     (λ c. let k = c.before.before in
-    (omega arith, rw k.loop.inv.1 (fill_next _ _ _ _ (omega arith) (omega arith) c.content-at.ensures)))
+    (omega arith, rw k.loop.inv.1 (fill_next _ _ _ _ (omega arith) (omega arith) c.content_at.ensures)))
     (λ c. c.before.loop.inv.1 ∙ fill_done _ c.before.loop.i _ (omega arith) (omega arith)))

@@ -1,5 +1,5 @@
 -- The front of the buffer holds the contents.
-use Rattle.kit.specs.Names.{sym, needs}
+use Rattle.kit.specs.Names.{sym, rules}
 use Rattle.ledger_struct.specs.Ledgers.{ledger_of}
 use Rattle.ledger_struct.proofs.Flat.{front_long, front_due, flat_put}
 use Rattle.ledger_struct.proofs.flat_variables as own
@@ -9,10 +9,10 @@ unfolding ledger_of
 returns c =
     let k = c.before.before in
     let s = k.before.before.before.before.before in
-    flat_put _ s.args.l.variable_count 1024 s.args.flat.now k.before.before.at_most.ensures s.pre _ k.flatten.last.1.1.0 k.flatten.kept.1.1.0 k.flatten.ensures
+    flat_put _ s.args.l.variable_count 1024 s.args.flat.now k.before.before.at_most.ensures s.requires _ k.flatten.last.1.1.0 k.flatten.kept.1.1.0 k.flatten.ensures
 
-pub flat-variables-spec : {M : Type 1} → own.Statement.statement M
-flat-variables-spec =
-    own.Tie.close (own.Tie.spec (λ c κs. search needs) (λ c. search needs) (λ c. search needs) (λ c. let s = c.before.before.before.before in
-    sym (front_long _ _ 1024 s.args.flat.now c.before.at_most.ensures s.pre)) (λ c κs. let s = c.before.before.before.before in
-    front_due _ _ 1024 s.args.flat.now c.before.at_most.ensures s.pre) (λ c. search needs) returns)
+pub flat_variables_spec : {M : Type 1} → own.Statement.statement M
+flat_variables_spec =
+    own.Tie.close (own.Tie.spec (λ c κs. search rules) (λ c. search rules) (λ c. search rules) (λ c. let s = c.before.before.before.before in
+    sym (front_long _ _ 1024 s.args.flat.now c.before.at_most.ensures s.requires)) (λ c κs. let s = c.before.before.before.before in
+    front_due _ _ 1024 s.args.flat.now c.before.at_most.ensures s.requires) (λ c. search rules) returns)

@@ -1,5 +1,5 @@
 -- `ledger_types::type_code` meets its contract, by recursion with the node number falling.
-use Rattle.kit.specs.Names.{ℕ, ◌<◌, arith, needs, In, Measures, is, falls, and}
+use Rattle.kit.specs.Names.{ℕ, ◌<◌, arith, rules, In, Measures, is, falls, and}
 use Rattle.theory_trees.proofs.ByKind.{constant_is, field_is, entry_is, parameter_is, operator_is, negation_is, reveal_is, other_is, revealed_below}
 use Rattle.file_accepted.proofs.Nodes.{node_reads}
 use Rattle.ledger_types.proofs.TypesByKind.{constant_typed, me_typed, place_typed, entry_typed, argument_typed, operator_typed, negation_typed, reveal_typed}
@@ -25,25 +25,25 @@ type-code-below t = and 2 type-code-kinds.ps (falls 2 type-code-kinds.ps ◌<◌
 abbrev type-code-claims : ℕ → type-code-lts.Claims
 type-code-claims t = (node-at-reads.Asked, node-at-reads.Learnt, field-type-reads.Asked, field-type-reads.Learnt, parameter-type-reads.Asked, parameter-type-reads.Learnt, operator-type-reads.Asked, operator-type-reads.Learnt, type-code-below t, type_code.Post)
 
-pub +type-code-spec : {M : Type 1} → statement M
-+type-code-spec =
+pub +type_code_spec : {M : Type 1} → statement M
++type_code_spec =
     close μ-type-code (λ t. type-code-lts.spec (type-code-claims t) (type-code-at t) type_code.Post
     (λ c κs. let (_, (_, context)) = c.before.before.requires in (context.narrow, omega (arith, context.long)))
     (λ c κs. let (_, (_, context)) = c.before.before.before.before.requires in context.few_fields)
     (λ c κs. let (_, (_, context)) = c.before.before.before.before.requires in context.few_fields)
     (λ c κs. let (_, (_, context)) = c.before.before.before.before.requires in (context.near_function, context.few_parameters))
-    (λ c κs. search needs) (λ c κs. let s = c.before.before.before.before in
+    (λ c κs. search rules) (λ c κs. let s = c.before.before.before.before in
     let less = revealed_below (node_reads _ _ _ s.requires.1.1 _ s.requires.1.0 _ c.before.node_at.ensures.same) c.match.keys7 in
     (omega arith, (omega arith, s.requires.1.1))) (λ c. let s = c.before.before.before.before in
     constant_typed _ _ _ _ (constant_is (node_reads _ _ _ s.requires.1.1 _ s.requires.1.0 _ c.before.node_at.ensures.same) c.match.keys1))
     (λ c. let s = c.before.before.before.before.before in
-    place_typed _ _ _ _ (field_is (node_reads _ _ _ s.requires.1.1 _ s.requires.1.0 _ c.before.before.node_at.ensures.same) c.before.match.keys2) c.field-type.ensures)
+    place_typed _ _ _ _ (field_is (node_reads _ _ _ s.requires.1.1 _ s.requires.1.0 _ c.before.before.node_at.ensures.same) c.before.match.keys2) c.field_type.ensures)
     (λ c. let s = c.before.before.before.before.before in
     entry_typed _ _ _ _ _ (entry_is (node_reads _ _ _ s.requires.1.1 _ s.requires.1.0 _ c.before.before.node_at.ensures.same) c.before.match.keys3) c.field-type2.ensures)
     (λ c. let s = c.before.before.before.before.before in
-    argument_typed _ _ _ _ (parameter_is (node_reads _ _ _ s.requires.1.1 _ s.requires.1.0 _ c.before.before.node_at.ensures.same) c.before.match.keys4) c.parameter-type.ensures)
+    argument_typed _ _ _ _ (parameter_is (node_reads _ _ _ s.requires.1.1 _ s.requires.1.0 _ c.before.before.node_at.ensures.same) c.before.match.keys4) c.parameter_type.ensures)
     (λ c. let s = c.before.before.before.before.before in
-    operator_typed _ _ _ _ _ _ (operator_is (node_reads _ _ _ s.requires.1.1 _ s.requires.1.0 _ c.before.before.node_at.ensures.same) c.before.match.keys5) c.operator-type.ensures)
+    operator_typed _ _ _ _ _ _ (operator_is (node_reads _ _ _ s.requires.1.1 _ s.requires.1.0 _ c.before.before.node_at.ensures.same) c.before.match.keys5) c.operator_type.ensures)
     (λ c. let s = c.before.before.before.before in
     negation_typed _ _ _ (negation_is (node_reads _ _ _ s.requires.1.1 _ s.requires.1.0 _ c.before.node_at.ensures.same) c.match.keys6))
     (λ c. let s = c.before.before.before.before.before in

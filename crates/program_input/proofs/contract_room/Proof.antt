@@ -2,5 +2,5 @@
 use Rattle.kit.specs.Names.{sym, ℕ, length-replicate}
 use Rattle.program_input.proofs.contract_room as own
 
-pub contract-room-spec : {M : Type 1} → own.Statement.statement M
-contract-room-spec = own.Tie.close (own.Tie.spec (λ c. sym (length-replicate {A = ℕ} 655865 0)))
+pub contract_room_spec : {M : Type 1} → own.Statement.statement M
+contract_room_spec = own.Tie.close (own.Tie.spec (λ c. sym (length-replicate {A = ℕ} 655865 0)))

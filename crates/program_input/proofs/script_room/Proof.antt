@@ -2,5 +2,5 @@
 use Rattle.kit.specs.Names.{sym, ℕ, length-replicate}
 use Rattle.program_input.proofs.script_room as own
 
-pub script-room-spec : {M : Type 1} → own.Statement.statement M
-script-room-spec = own.Tie.close (own.Tie.spec (λ c. sym (length-replicate {A = ℕ} 326661 0)))
+pub script_room_spec : {M : Type 1} → own.Statement.statement M
+script_room_spec = own.Tie.close (own.Tie.spec (λ c. sym (length-replicate {A = ℕ} 326661 0)))

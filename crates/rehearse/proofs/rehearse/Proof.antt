@@ -1,5 +1,5 @@
 -- Each turn runs one call more.
-use Rattle.kit.specs.Names.{◌≡◌, ◌-◌, ◌≤◌, length, needs}
+use Rattle.kit.specs.Names.{◌≡◌, ◌-◌, ◌≤◌, length, rules}
 use Rattle.rehearse.proofs.rehearse as own
 
 abbrev Inv-loop : own.Tie.InvT-loop
@@ -8,10 +8,10 @@ Inv-loop bytes script view₀ line₀ ledger₀ k₀ view line ledger k = (k ≤
 abbrev μ-loop : own.Tie.MeasureT-loop
 μ-loop bytes script view₀ line₀ ledger₀ k₀ view line ledger k = script.calls - k
 
-pub rehearse-spec : {M : Type 1} → own.Statement.statement M
-rehearse-spec =
+pub rehearse_spec : {M : Type 1} → own.Statement.statement M
+rehearse_spec =
     own.Tie.close (own.Tie.spec Inv-loop μ-loop
-    (λ c κs. search needs) (λ c κs. search needs) (λ c κs. search needs) (λ c κs. search needs) (λ c. search needs) (λ c κs. search needs)
-    (λ c. search needs) (λ c κs. search needs) (λ c κs. search needs) (λ c. search needs) (λ c. search needs) (λ c κs. search needs)
-    (λ c. search needs) (λ c. search needs) (λ c κs. search needs) (λ c. search needs) (λ c. search needs) (λ c κs. search needs)
-    (λ c. search needs) (λ c. search needs) (λ c. search needs) (λ c. search needs) (λ c. search needs))
+    (λ c κs. search rules) (λ c κs. search rules) (λ c κs. search rules) (λ c κs. search rules) (λ c. search rules) (λ c κs. search rules)
+    (λ c. search rules) (λ c κs. search rules) (λ c κs. search rules) (λ c. search rules) (λ c. search rules) (λ c κs. search rules)
+    (λ c. search rules) (λ c. search rules) (λ c κs. search rules) (λ c. search rules) (λ c. search rules) (λ c κs. search rules)
+    (λ c. search rules) (λ c. search rules) (λ c. search rules) (λ c. search rules) (λ c. search rules))

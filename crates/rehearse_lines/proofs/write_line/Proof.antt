@@ -1,10 +1,10 @@
 -- A line with room is appended at the front; another is not begun.
-use Rattle.kit.specs.Names.{arith, needs}
+use Rattle.kit.specs.Names.{arith, rules}
 use Rattle.rehearse_lines.proofs.Written.{no_room, line_written}
 use Rattle.rehearse_lines.proofs.write_line as own
 
-pub write-line-spec : {M : Type 1} → own.Statement.statement M
-write-line-spec =
-    own.Tie.close (own.Tie.spec (λ c. let args = c.before.before.before.args in no_room args.number args.view.now args.out.now (omega arith)) (λ c. search needs) (λ c. let args = c.before.before.before.before.args in no_room args.number args.view.now args.out.now (omega arith)) (λ c κs. search needs) (λ c. search needs) (λ c. let args = c.before.before.before.before.before.before.before.before.args in
+pub write_line_spec : {M : Type 1} → own.Statement.statement M
+write_line_spec =
+    own.Tie.close (own.Tie.spec (λ c. let args = c.before.before.before.args in no_room args.number args.view.now args.out.now (omega arith)) (λ c. search rules) (λ c. let args = c.before.before.before.before.args in no_room args.number args.view.now args.out.now (omega arith)) (λ c κs. search rules) (λ c. search rules) (λ c. let args = c.before.before.before.before.before.before.before.before.args in
     let fits-number = c.before.before.before.before.before.before.before.before.fits.number in
-    line_written args.number args.view.now args.out.now _ _ (omega (arith, fits-number)) (omega arith) c.before.before.append-line.ensures))
+    line_written args.number args.view.now args.out.now _ _ (omega (arith, fits-number)) (omega arith) c.before.before.append_line.ensures))

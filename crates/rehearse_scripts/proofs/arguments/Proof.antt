@@ -1,5 +1,5 @@
 -- Each turn reads one argument more.
-use Rattle.kit.specs.Names.{◌≡◌, ap, sym, ◌∙◌, ◌++◌, ℕ, ◌+◌, ◌*◌, ◌-◌, ◌≤◌, arith, length, take, length-set, length-replicate, needs}
+use Rattle.kit.specs.Names.{◌≡◌, ap, sym, ◌∙◌, ◌++◌, ℕ, ◌+◌, ◌*◌, ◌-◌, ◌≤◌, arith, length, take, length-set, length-replicate, rules}
 use Rattle.rehearse_scripts.specs.Scripts.{numbers_at, arguments_of}
 use Rattle.rehearse_scripts.proofs.Calls.{arguments_next, arguments_done}
 use Rattle.rehearse_scripts.proofs.Reading.{arguments_start_law}
@@ -11,21 +11,21 @@ Inv-loop bytes k count made₀ at₀ i₀ made at i = ((i ≤ count) × (count �
 abbrev μ-loop : own.Tie.MeasureT-loop
 μ-loop bytes k count made₀ at₀ i₀ made at i = count - i
 
-pub arguments-spec : {M : Type 1} → own.Statement.statement M
-arguments-spec =
-    own.Tie.close (own.Tie.spec Inv-loop μ-loop (λ c κs. search needs) (λ c. search needs)
-    (λ c. let read-call = c.before.read-call.ensures in
+pub arguments_spec : {M : Type 1} → own.Statement.statement M
+arguments_spec =
+    own.Tie.close (own.Tie.spec Inv-loop μ-loop (λ c κs. search rules) (λ c. search rules)
+    (λ c. let read-call = c.before.read_call.ensures in
     ((omega arith, omega (arith, c.struct_known.given)), (omega (arith, read-call.near), (sym (length-replicate {0} {A = ℕ} 255 0), arguments_start_law _ _ _ read-call))))
-    (λ c κs. search needs) (λ c. search needs) (λ c. search needs) (λ c. search needs) (λ c. search needs) (λ c. search needs)
+    (λ c κs. search rules) (λ c. search rules) (λ c. search rules) (λ c. search rules) (λ c. search rules) (λ c. search rules)
     (λ c. let k = c.before.before in (
       (omega arith, omega arith),
       (
         omega arith,
         (
           simp length-set k.loop.inv.1.1.0,
-          arguments_next _ _ _ k.loop.i k.loop.made _ _ c.before.loop-test.taken (omega arith) c.four-bytes-at.ensures k.loop.inv.1.1.1,
+          arguments_next _ _ _ k.loop.i k.loop.made _ _ c.before.loop-test.taken (omega arith) c.four_bytes_at.ensures k.loop.inv.1.1.1,
         ),
       ),
     )) (λ c. let k = c.before in
     let whole = arguments_done _ _ _ k.loop.i k.loop.made _ k.loop.inv.0.0 c.loop-test.left k.loop.inv.1.1.1 in
-    record { room = k.loop.inv.1.1.0; stand = ap (λ (n : ℕ). take n k.loop.made) (sym k.before.before.read-call.ensures.arguments) ∙ whole }))
+    record { room = k.loop.inv.1.1.0; stand = ap (λ (n : ℕ). take n k.loop.made) (sym k.before.before.read_call.ensures.arguments) ∙ whole }))

@@ -2,5 +2,5 @@
 use Rattle.kit.specs.Names.{sym, ℕ, length-replicate}
 use Rattle.report_contract.proofs.text_room as own
 
-pub text-room-spec : {M : Type 1} → own.Statement.statement M
-text-room-spec = own.Tie.close (own.Tie.spec (λ c. sym (length-replicate {0} {A = ℕ} 131 0)))
+pub text_room_spec : {M : Type 1} → own.Statement.statement M
+text_room_spec = own.Tie.close (own.Tie.spec (λ c. sym (length-replicate {0} {A = ℕ} 131 0)))

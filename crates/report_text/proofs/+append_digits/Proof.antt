@@ -1,5 +1,5 @@
 -- The digits of a number: none, one, or those of its tenth and its last.
-use Rattle.kit.specs.Names.{ℕ, ◌<◌, arith, needs, In, Measures, is, falls, and}
+use Rattle.kit.specs.Names.{ℕ, ◌<◌, arith, rules, In, Measures, is, falls, and}
 use Rattle.report_text.proofs.Digits.{one_room, front_room, last_room, none_appended, one_appended, more_appended}
 use Rattle.report_text.proofs.append_digits.Reads as append-digits
 use Rattle.report_text.proofs.append_digits.Kinds as append-digits-kinds
@@ -17,26 +17,26 @@ append-digits-at t = and 1 append-digits-kinds.ps (is 1 append-digits-kinds.ps �
 abbrev append-digits-below : ℕ → In 1 append-digits-kinds.ps
 append-digits-below t = and 1 append-digits-kinds.ps (falls 1 append-digits-kinds.ps ◌<◌ μ-append-digits t) append-digits.Pre
 
-pub +append-digits-spec : {M : Type 1} → statement M
-+append-digits-spec = close μ-append-digits λ t. append-digits-lts.spec (
+pub +append_digits_spec : {M : Type 1} → statement M
++append_digits_spec = close μ-append-digits λ t. append-digits-lts.spec (
   append-byte-reads.Asked,
   append-byte-reads.Learnt,
   append-digits-below t,
   append-digits.Post,
 )
     (append-digits-at t) append-digits.Post
-    (λ c. search needs) (λ c. search needs)
+    (λ c. search rules) (λ c. search rules)
     (λ c κs. let (_, out-room) = c.before.before.before.before.requires in one_room _ _ _ (omega arith) _ (omega arith) out-room)
-    (λ c. search needs)
+    (λ c. search rules)
     (λ c κs. let (_, out-room) = c.before.before.before.before.requires in
     let room = front_room _ _ _ (omega arith) _ (omega arith) out-room in (omega arith, omega arith))
-    (λ c. search needs) (λ c. search needs)
+    (λ c. search rules) (λ c. search rules)
     (λ c κs. let (_, out-room) = c.before.before.before.before.before.before.before.before.requires in
-    last_room _ _ _ (omega arith) _ _ _ (omega arith) out-room c.before.before.before.append-digits.ensures)
+    last_room _ _ _ (omega arith) _ _ _ (omega arith) out-room c.before.before.before.append_digits.ensures)
     (λ c. none_appended _ _ _ _ c.if1.true)
-    (λ c. search needs)
-    (λ c. one_appended _ _ _ (omega arith) _ _ _ (omega arith) c.before.before.append-byte.ensures)
-    (λ c. search needs)
+    (λ c. search rules)
+    (λ c. one_appended _ _ _ (omega arith) _ _ _ (omega arith) c.before.before.append_byte.ensures)
+    (λ c. search rules)
     (λ c. let (_, out-room) = c.before.before.before.before.before.before.before.before.before.before.before.requires in
-    let append-digits-2 = c.before.before.before.before.before.before.append-digits.ensures in
+    let append-digits-2 = c.before.before.before.before.before.before.append_digits.ensures in
     more_appended _ _ _ (omega arith) _ _ _ _ _ (omega arith) out-room append-digits-2 c.before.before.append-byte2.ensures)

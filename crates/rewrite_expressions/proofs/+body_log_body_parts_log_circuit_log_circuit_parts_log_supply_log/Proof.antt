@@ -98,20 +98,20 @@ read-returns t c =
     let (_, ready) = start.requires in
     let read_code = c.before.before.before.before.before.before.before.before.before.read_code.ensures in
     let if1-left = c.before.before.before.before.before.before.before.before.if1.false in
-    let body-parts-log-2 = c.before.before.before.before.before.before.body-parts-log.ensures in
-    read_done _ _ args.source.now args.guard _ _ read_code _ _ if1-left ready _ _ body-parts-log-2 _ _ c.before.before.log-entry.ensures
+    let body-parts-log-2 = c.before.before.before.before.before.before.body_parts_log.ensures in
+    read_done _ _ args.source.now args.guard _ _ read_code _ _ if1-left ready _ _ body-parts-log-2 _ _ c.before.before.log_entry.ensures
 
 supply-returns : (t : ℕ) → supply-log-lts.Need-returns (supply-log-claims t) (supply-log-at t) supply-log.Post
 supply-returns t c =
     let start = c.before.before.before.before.before.before.before.before.before.before.before.before.before.before.before in
     let args-guard = start.args.guard in let (_, ready-to-supply) = start.requires in
-    let log-entry = c.before.before.before.before.before.before.before.before.before.before.log-entry.ensures in
-    let circuit-log-2 = c.before.before.before.before.before.before.circuit-log.ensures in
+    let log-entry = c.before.before.before.before.before.before.before.before.before.before.log_entry.ensures in
+    let circuit-log-2 = c.before.before.before.before.before.before.circuit_log.ensures in
     supplied_done _ _ _ _ args-guard _ (omega arith) _ _ ready-to-supply _ _ log-entry _ _ circuit-log-2 _ _ c.before.before.log-entry2.ensures
 
-pub +body-log-body-parts-log-circuit-log-circuit-parts-log-supply-log-spec :
+pub +body_log_body_parts_log_circuit_log_circuit_parts_log_supply_log_spec :
     {M : Type 1} → statement M
-+body-log-body-parts-log-circuit-log-circuit-parts-log-supply-log-spec =
++body_log_body_parts_log_circuit_log_circuit_parts_log_supply_log_spec =
     close μ-body-log μ-body-parts-log μ-circuit-log μ-circuit-parts-log μ-supply-log (λ t. body-log-lts.spec (
       supplied-code-reads.Asked,
       supplied-code-reads.Learnt,
@@ -125,37 +125,37 @@ pub +body-log-body-parts-log-circuit-log-circuit-parts-log-supply-log-spec :
     (λ c. omega arith)
     (λ c κs. let start = c.before.before.before.before.before.before in let args = start.args in let (_, ready) = start.requires in
     (omega arith, supplied_ready _ _ args.source.now args.guard _ _ c.before.before.supplied_code.ensures _ _ c.before.if1.false ready))
-    (λ c. c.before.before.body-parts-log.auto.1.1.1.1.1.0)
+    (λ c. c.before.before.body_parts_log.auto.1.1.1.1.1.0)
     (λ c. let args = c.before.before.before.before.before.before.before.before.before.args in
     let supplied_code = c.before.before.before.before.before.supplied_code.ensures in
-    kept_logged _ _ args.source.now args.guard _ _ supplied_code _ _ _ _ c.before.before.before.before.if1.true c.before.before.body-parts-log.ensures)
-    (λ c. c.before.before.supply-log.auto.1.1.1.1.1.1.0)
+    kept_logged _ _ args.source.now args.guard _ _ supplied_code _ _ _ _ c.before.before.before.before.if1.true c.before.before.body_parts_log.ensures)
+    (λ c. c.before.before.supply_log.auto.1.1.1.1.1.1.0)
     (λ c. let args = c.before.before.before.before.before.before.before.before.before.args in
     let supplied_code = c.before.before.before.before.before.supplied_code.ensures in
-    supplied_logged _ _ args.source.now args.guard _ _ supplied_code _ _ _ _ c.before.before.before.before.if1.false c.before.before.supply-log.ensures))
+    supplied_logged _ _ args.source.now args.guard _ _ supplied_code _ _ _ _ c.before.before.before.before.if1.false c.before.before.supply_log.ensures))
     (λ t. body-parts-log-lts.spec (parts-of-reads.Asked, parts-of-reads.Learnt, body-log-below t, body-log.Post)
     (body-parts-log-at t) body-parts-log.Post (λ c κs. let (_, ready) = c.before.before.before.requires in (ready.inside, ready.context))
     (λ c. let (_, ready) = c.before.before.before.before.before.before.requires in
-    none_logged _ _ _ _ _ _ c.before.before.parts-of.ensures _ _ ready c.if1.true)
-    (λ c κs. let (_, ready) = c.before.before.before.before.before.before.before.requires in let parts-of = c.before.before.before.parts-of.ensures in
+    none_logged _ _ _ _ _ _ c.before.before.parts_of.ensures _ _ ready c.if1.true)
+    (λ c κs. let (_, ready) = c.before.before.before.before.before.before.before.requires in let parts-of = c.before.before.before.parts_of.ensures in
     let if1-left = c.before.if1.false in let less = first_below _ _ _ _ _ _ parts-of _ _ ready if1-left in
     (omega arith, first_ready _ _ _ _ _ _ parts-of _ _ ready if1-left))
-    (λ c. c.before.before.before.before.body-log.auto.1.1.1.1.1.0)
+    (λ c. c.before.before.before.before.body_log.auto.1.1.1.1.1.0)
     (λ c. let (_, ready) = c.before.before.before.before.before.before.before.before.before.before.before.before.requires in
-    let parts-of = c.before.before.before.before.before.before.before.before.parts-of.ensures in
+    let parts-of = c.before.before.before.before.before.before.before.before.parts_of.ensures in
     let if1-left = c.before.before.before.before.before.before.if1.false in
-    one_logged _ _ _ _ _ _ parts-of _ _ ready if1-left _ _ c.before.before.before.before.body-log.ensures c.if2.true)
+    one_logged _ _ _ _ _ _ parts-of _ _ ready if1-left _ _ c.before.before.before.before.body_log.ensures c.if2.true)
     (λ c κs. let (_, ready) = c.before.before.before.before.before.before.before.before.before.before.before.before.before.requires in
-    let parts-of = c.before.before.before.before.before.before.before.before.before.parts-of.ensures in
+    let parts-of = c.before.before.before.before.before.before.before.before.before.parts_of.ensures in
     let if1-left = c.before.before.before.before.before.before.before.if1.false in
-    let body-log-2 = c.before.before.before.before.before.body-log.ensures in let if2-left = c.before.if2.false in
+    let body-log-2 = c.before.before.before.before.before.body_log.ensures in let if2-left = c.before.if2.false in
     let less = second_below _ _ _ _ _ _ parts-of _ _ ready if1-left _ _ body-log-2 if2-left in
     (omega arith, second_ready _ _ _ _ _ _ parts-of _ _ ready if1-left _ _ body-log-2 if2-left))
-    (λ c. c.before.before.body-log2.auto.1.1.1.1.1.0 ∙ c.before.before.before.before.before.before.before.before.body-log.auto.1.1.1.1.1.0)
+    (λ c. c.before.before.body-log2.auto.1.1.1.1.1.0 ∙ c.before.before.before.before.before.before.before.before.body_log.auto.1.1.1.1.1.0)
     (λ c. let (_, ready) = c.before.before.before.before.before.before.before.before.before.before.before.before.before.before.before.before.requires in
-    let parts-of = c.before.before.before.before.before.before.before.before.before.before.before.before.parts-of.ensures in
+    let parts-of = c.before.before.before.before.before.before.before.before.before.before.before.before.parts_of.ensures in
     let if1-left = c.before.before.before.before.before.before.before.before.before.before.if1.false in
-    let body-log-2 = c.before.before.before.before.before.before.before.before.body-log.ensures in
+    let body-log-2 = c.before.before.before.before.before.before.before.before.body_log.ensures in
     two_logged _ _ _ _ _ _ parts-of _ _ ready if1-left _ _ body-log-2 c.before.before.before.before.if2.false _ _ c.before.before.body-log2.ensures))
     (λ t. circuit-log-lts.spec (circuit-log-claims t) (circuit-log-at t) circuit-log.Post
     (λ c κs. let (_, ready) = c.before.before.before.requires in (ready.inside, ready.context))
@@ -167,49 +167,49 @@ pub +body-log-body-parts-log-circuit-log-circuit-parts-log-supply-log-spec :
     (λ c κs. let start = c.before.before.before.before.before.before.before.before.before.before in let args = start.args in
     let (_, ready) = start.requires in let read_code = c.before.before.before.before.before.before.read_code.ensures in
     let if1-left = c.before.before.before.before.before.if1.false in
-    let body-parts-log-2 = c.before.before.before.body-parts-log.ensures in
+    let body-parts-log-2 = c.before.before.before.body_parts_log.ensures in
     (read_room _ _ args.source.now args.guard _ _ read_code _ _ if1-left ready _ _ body-parts-log-2, read_small _ _ args.source.now args.guard _ _ read_code _ _ if1-left ready _ _ body-parts-log-2))
-    (λ c. c.before.before.circuit-parts-log.auto.1.1.1.1.1.0)
+    (λ c. c.before.before.circuit_parts_log.auto.1.1.1.1.1.0)
     (λ c. let args = c.before.before.before.before.before.before.before.before.before.args in
     let read_code = c.before.before.before.before.before.read_code.ensures in
-    circuit_logged _ _ args.source.now args.guard _ _ read_code _ _ _ _ c.before.before.before.before.if1.true c.before.before.circuit-parts-log.ensures)
-    (λ c. c.before.before.log-entry.auto.0 ∙ c.before.before.before.before.before.before.body-parts-log.auto.1.1.1.1.1.0)
+    circuit_logged _ _ args.source.now args.guard _ _ read_code _ _ _ _ c.before.before.before.before.if1.true c.before.before.circuit_parts_log.ensures)
+    (λ c. c.before.before.log_entry.auto.0 ∙ c.before.before.before.before.before.before.body_parts_log.auto.1.1.1.1.1.0)
     (read-returns t)) (λ t. circuit-parts-log-lts.spec (parts-of-reads.Asked, parts-of-reads.Learnt, circuit-log-below t, circuit-log.Post)
     (circuit-parts-log-at t) circuit-parts-log.Post
     (λ c κs. let (_, ready) = c.before.before.before.requires in (ready.inside, ready.context))
     (λ c. let (_, ready) = c.before.before.before.before.before.before.requires in
-    none_logged _ _ _ _ _ _ c.before.before.parts-of.ensures _ _ ready c.if1.true)
-    (λ c κs. let (_, ready) = c.before.before.before.before.before.before.before.requires in let parts-of = c.before.before.before.parts-of.ensures in
+    none_logged _ _ _ _ _ _ c.before.before.parts_of.ensures _ _ ready c.if1.true)
+    (λ c κs. let (_, ready) = c.before.before.before.before.before.before.before.requires in let parts-of = c.before.before.before.parts_of.ensures in
     let if1-left = c.before.if1.false in let less = first_below _ _ _ _ _ _ parts-of _ _ ready if1-left in
     (omega arith, first_ready _ _ _ _ _ _ parts-of _ _ ready if1-left))
-    (λ c. c.before.before.before.before.circuit-log.auto.1.1.1.1.1.0)
+    (λ c. c.before.before.before.before.circuit_log.auto.1.1.1.1.1.0)
     (λ c. let (_, ready) = c.before.before.before.before.before.before.before.before.before.before.before.before.requires in
-    let parts-of = c.before.before.before.before.before.before.before.before.parts-of.ensures in
+    let parts-of = c.before.before.before.before.before.before.before.before.parts_of.ensures in
     let if1-left = c.before.before.before.before.before.before.if1.false in
-    one_logged _ _ _ _ _ _ parts-of _ _ ready if1-left _ _ c.before.before.before.before.circuit-log.ensures c.if2.true)
+    one_logged _ _ _ _ _ _ parts-of _ _ ready if1-left _ _ c.before.before.before.before.circuit_log.ensures c.if2.true)
     (λ c κs. let (_, ready) = c.before.before.before.before.before.before.before.before.before.before.before.before.before.requires in
-    let parts-of = c.before.before.before.before.before.before.before.before.before.parts-of.ensures in
+    let parts-of = c.before.before.before.before.before.before.before.before.before.parts_of.ensures in
     let if1-left = c.before.before.before.before.before.before.before.if1.false in
-    let circuit-log-2 = c.before.before.before.before.before.circuit-log.ensures in let if2-left = c.before.if2.false in
+    let circuit-log-2 = c.before.before.before.before.before.circuit_log.ensures in let if2-left = c.before.if2.false in
     let less = second_below _ _ _ _ _ _ parts-of _ _ ready if1-left _ _ circuit-log-2 if2-left in
     (omega arith, second_ready _ _ _ _ _ _ parts-of _ _ ready if1-left _ _ circuit-log-2 if2-left))
-    (λ c. c.before.before.circuit-log2.auto.1.1.1.1.1.0 ∙ c.before.before.before.before.before.before.before.before.circuit-log.auto.1.1.1.1.1.0)
+    (λ c. c.before.before.circuit-log2.auto.1.1.1.1.1.0 ∙ c.before.before.before.before.before.before.before.before.circuit_log.auto.1.1.1.1.1.0)
     (λ c. let (_, ready) = c.before.before.before.before.before.before.before.before.before.before.before.before.before.before.before.before.requires in
-    let parts-of = c.before.before.before.before.before.before.before.before.before.before.before.before.parts-of.ensures in
+    let parts-of = c.before.before.before.before.before.before.before.before.before.before.before.before.parts_of.ensures in
     let if1-left = c.before.before.before.before.before.before.before.before.before.before.if1.false in
-    let circuit-log-2 = c.before.before.before.before.before.before.before.before.circuit-log.ensures in
+    let circuit-log-2 = c.before.before.before.before.before.before.before.before.circuit_log.ensures in
     two_logged _ _ _ _ _ _ parts-of _ _ ready if1-left _ _ circuit-log-2 c.before.before.before.before.if2.false _ _ c.before.before.circuit-log2.ensures))
     λ t. supply-log-lts.spec (supply-log-claims t) (supply-log-at t) supply-log.Post
     (λ c κs. let start = c.before.before.before.before in let args-guard = start.args.guard in let (_, ready-to-supply) = start.requires in
     (variable_slot _ _ _ _ args-guard _ (omega arith) _ _ ready-to-supply, variable_small _ _ _ _ args-guard _ (omega arith) _ _ ready-to-supply))
     (λ c κs. let start = c.before.before.before.before.before.before.before.before in let args-guard = start.args.guard in
     let (_, ready-to-supply) = start.requires in
-    (omega arith, inside_ready _ _ _ _ args-guard _ (omega arith) _ _ ready-to-supply _ _ c.before.before.before.log-entry.ensures))
+    (omega arith, inside_ready _ _ _ _ args-guard _ (omega arith) _ _ ready-to-supply _ _ c.before.before.before.log_entry.ensures))
     (λ c κs. let start = c.before.before.before.before.before.before.before.before.before.before.before.before in
     let args-guard = start.args.guard in let (_, ready-to-supply) = start.requires in
-    let log-entry = c.before.before.before.before.before.before.before.log-entry.ensures in
-    let circuit-log-2 = c.before.before.before.circuit-log.ensures in
+    let log-entry = c.before.before.before.before.before.before.before.log_entry.ensures in
+    let circuit-log-2 = c.before.before.before.circuit_log.ensures in
     (claimed_slot _ _ _ _ args-guard _ (omega arith) _ _ ready-to-supply _ _ log-entry _ _ circuit-log-2, claimed_small _ _ _ _ args-guard _ (omega arith) _ _ ready-to-supply _ _ log-entry _ _ circuit-log-2))
-    (λ c. let log-entry-kept = c.before.before.before.before.before.before.before.before.before.before.log-entry.auto.0 in
-    let circuit-log-kept = c.before.before.before.before.before.before.circuit-log.auto.1.1.1.1.1.0 in
+    (λ c. let log-entry-kept = c.before.before.before.before.before.before.before.before.before.before.log_entry.auto.0 in
+    let circuit-log-kept = c.before.before.before.before.before.before.circuit_log.auto.1.1.1.1.1.0 in
     c.before.before.log-entry2.auto.0 ∙ circuit-log-kept ∙ log-entry-kept) (supply-returns t)

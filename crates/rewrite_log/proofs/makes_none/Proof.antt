@@ -2,5 +2,5 @@
 use Rattle.kit.specs.Names.{eq-eqb, ne_eqb}
 use Rattle.rewrite_log.proofs.makes_none as own
 
-pub makes-none-spec : {M : Type 1} → own.Statement.statement M
-makes-none-spec = own.Tie.close (own.Tie.spec (λ c. rw (eq-eqb _ 1 c.if1.taken)) (λ c. rw (ne_eqb _ 1 c.if1.left)))
+pub makes_none_spec : {M : Type 1} → own.Statement.statement M
+makes_none_spec = own.Tie.close (own.Tie.spec (λ c. rw (eq-eqb _ 1 c.if1.taken)) (λ c. rw (ne_eqb _ 1 c.if1.left)))

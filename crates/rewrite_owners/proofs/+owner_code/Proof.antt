@@ -1,5 +1,5 @@
 -- `rewrite_owners::owner_code` meets its contract, by recursion with the node number falling.
-use Rattle.kit.specs.Names.{ℕ, ◌<◌, arith, needs, In, Measures, is, falls, and}
+use Rattle.kit.specs.Names.{ℕ, ◌<◌, arith, rules, In, Measures, is, falls, and}
 use Rattle.theory_trees.proofs.ByKind.{constant_is, field_is, entry_is, parameter_is, operator_is, negation_is, reveal_is, other_is, key_below, part_below, operands_below}
 use Rattle.file_accepted.proofs.Nodes.{node_reads}
 use Rattle.rewrite_owners.proofs.Names.{owned_constant, owned_me, owned_field, owned_entry, owned_parameter, owned_by_left, owned_by_right, owned_negation, owned_reveal}
@@ -28,37 +28,37 @@ owner-code-below t = and 2 owner-code-kinds.ps (falls 2 owner-code-kinds.ps ◌<
 abbrev owner-code-claims : ℕ → owner-code-lts.Claims
 owner-code-claims t = (node-at-reads.Asked, node-at-reads.Learnt, field-owner-reads.Asked, field-owner-reads.Learnt, place-code-reads.Asked, place-code-reads.Learnt, name-code-reads.Asked, name-code-reads.Learnt, parameter-code-reads.Asked, parameter-code-reads.Learnt, owner-code-below t, owner-code.Post, parts-code-reads.Asked, parts-code-reads.Learnt)
 
-pub +owner-code-spec : {M : Type 1} → statement M
-+owner-code-spec =
+pub +owner_code_spec : {M : Type 1} → statement M
++owner_code_spec =
     close μ-owner-code (λ t. owner-code-lts.spec (owner-code-claims t) (owner-code-at t) owner-code.Post
     (λ c κs. let (_, (_, context)) = c.before.before.requires in (context.narrow, omega (arith, context.long)))
     (λ c κs. let (_, (_, context)) = c.before.before.before.before.requires in (c.before.node_at.ensures.small_arg, record { at = context.field_listed }))
-    (λ c κs. search needs)
+    (λ c κs. search rules)
     (λ c κs. let (_, (_, context)) = c.before.before.before.before.requires in (c.before.node_at.ensures.small_arg, record { at = context.field_listed }))
     (λ c κs. let (_, (n-bound, context)) = c.before.before.before.before.before.requires in
     let less = key_below (node_reads _ _ _ context _ n-bound _ c.before.before.node_at.ensures.same) c.before.match.keys3 in
-    (omega arith, context)) (λ c κs. search needs)
+    (omega arith, context)) (λ c κs. search rules)
     (λ c κs. let (_, (_, context)) = c.before.before.before.before.requires in (context.near_function, context.few_parameters))
     (λ c κs. let (_, (n-bound, context)) = c.before.before.before.before.requires in
     let less = operands_below (node_reads _ _ _ context _ n-bound _ c.before.node_at.ensures.same) c.match.keys5 in
     (omega arith, (omega arith, context))) (λ c κs. let (_, (n-bound, context)) = c.before.before.before.before.before.before.requires in
     let less = operands_below (node_reads _ _ _ context _ n-bound _ c.before.before.before.node_at.ensures.same) c.before.before.match.keys5 in
-    (omega arith, (omega arith, context))) (λ c κs. search needs)
+    (omega arith, (omega arith, context))) (λ c κs. search rules)
     (λ c κs. let (_, (n-bound, context)) = c.before.before.before.before.requires in
     let less = part_below (node_reads _ _ _ context _ n-bound _ c.before.node_at.ensures.same) c.match.keys6 in
-    (omega arith, (omega arith, context))) (λ c κs. search needs) (λ c. search needs)
+    (omega arith, (omega arith, context))) (λ c κs. search rules) (λ c. search rules)
     (λ c. let (_, (n-bound, context)) = c.before.before.before.before.requires in
     owned_constant _ _ _ _ (constant_is (node_reads _ _ _ context _ n-bound _ c.before.node_at.ensures.same) c.match.keys1))
     (λ c. let (_, (n-bound, context)) = c.before.before.before.before.before.before.requires in
-    owned_field _ _ _ _ _ (field_is (node_reads _ _ _ context _ n-bound _ c.before.before.before.node_at.ensures.same) c.before.before.match.keys2) c.before.field-owner.ensures c.place_code.ensures)
+    owned_field _ _ _ _ _ (field_is (node_reads _ _ _ context _ n-bound _ c.before.before.before.node_at.ensures.same) c.before.before.match.keys2) c.before.field_owner.ensures c.place_code.ensures)
     (λ c. let (_, (n-bound, context)) = c.before.before.before.before.before.before.before.requires in
     owned_entry _ _ _ _ _ _ _ (entry_is (node_reads _ _ _ context _ n-bound _ c.before.before.before.before.node_at.ensures.same) c.before.before.before.match.keys3) c.before.before.field-owner2.ensures c.before.name_code.ensures c.place-code2.ensures)
     (λ c. let (_, (n-bound, context)) = c.before.before.before.before.before.requires in
-    owned_parameter _ _ _ _ (parameter_is (node_reads _ _ _ context _ n-bound _ c.before.before.node_at.ensures.same) c.before.match.keys4) c.parameter-code.ensures)
+    owned_parameter _ _ _ _ (parameter_is (node_reads _ _ _ context _ n-bound _ c.before.before.node_at.ensures.same) c.before.match.keys4) c.parameter_code.ensures)
     (λ c. let (_, (n-bound, context)) = c.before.before.before.before.before.before.before.before.requires in
-    owned_by_right _ _ _ _ _ _ (operator_is (node_reads _ _ _ context _ n-bound _ c.before.before.before.before.before.node_at.ensures.same) c.before.before.before.before.match.keys5) c.before.before.before.owner-code.ensures _ _ c.before.before.if1.true c.before.owner-code2.ensures c.parts_code.ensures)
+    owned_by_right _ _ _ _ _ _ (operator_is (node_reads _ _ _ context _ n-bound _ c.before.before.before.before.before.node_at.ensures.same) c.before.before.before.before.match.keys5) c.before.before.before.owner_code.ensures _ _ c.before.before.if1.true c.before.owner-code2.ensures c.parts_code.ensures)
     (λ c. let (_, (n-bound, context)) = c.before.before.before.before.before.before.requires in
-    owned_by_left _ _ _ _ _ _ (operator_is (node_reads _ _ _ context _ n-bound _ c.before.before.before.node_at.ensures.same) c.before.before.match.keys5) c.before.owner-code.ensures c.if1.false)
+    owned_by_left _ _ _ _ _ _ (operator_is (node_reads _ _ _ context _ n-bound _ c.before.before.before.node_at.ensures.same) c.before.before.match.keys5) c.before.owner_code.ensures c.if1.false)
     (λ c. let (_, (n-bound, context)) = c.before.before.before.before.before.before.requires in
     owned_negation _ _ _ _ _ (negation_is (node_reads _ _ _ context _ n-bound _ c.before.before.before.node_at.ensures.same) c.before.before.match.keys6) c.before.owner-code3.ensures c.parts-code2.ensures)
     (λ c. let (_, (n-bound, context)) = c.before.before.before.before.before.requires in let node-at-same = c.before.before.node_at.ensures.same in

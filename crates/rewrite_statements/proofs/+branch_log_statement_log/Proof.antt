@@ -53,8 +53,8 @@ statement-log-claims t = (
 branch-returns : (t : ℕ) → branch-log-lts.Need-returns (branch-log-claims t) (branch-log-at t) branch-log.Post
 branch-returns t c =
     let (_, ready) = c.before.before.before.before.before.before.before.before.before.before.before.requires in
-    let log-entry = c.before.before.before.before.before.before.log-entry.ensures in
-    branch_done _ _ _ _ _ _ ready _ _ log-entry _ _ c.before.before.statement-log.ensures
+    let log-entry = c.before.before.before.before.before.before.log_entry.ensures in
+    branch_done _ _ _ _ _ _ ready _ _ log-entry _ _ c.before.before.statement_log.ensures
 
 sequence-returns : (t : ℕ) → statement-log-lts.Need-returns (statement-log-claims t) (statement-log-at t) statement-log.Post
 sequence-returns t c =
@@ -62,18 +62,18 @@ sequence-returns t c =
     let args-guard = start.args.guard in let (_, ready) = start.requires in
     let node-at-same = c.before.before.before.before.before.before.before.before.before.node_at.ensures.same in
     let match-keys1 = c.before.before.before.before.before.before.before.before.match.keys1 in
-    let statement-log-2 = c.before.before.before.before.before.before.statement-log.ensures in
+    let statement-log-2 = c.before.before.before.before.before.before.statement_log.ensures in
     sequence_logged _ _ _ args-guard _ _ _ ready _ node-at-same match-keys1 _ _ statement-log-2 _ _ c.before.before.statement-log2.ensures
 
-pub +branch-log-statement-log-spec : {M : Type 1} → statement M
-+branch-log-statement-log-spec = close μ-branch-log μ-statement-log (λ t. branch-log-lts.spec (branch-log-claims t)
+pub +branch_log_statement_log_spec : {M : Type 1} → statement M
++branch_log_statement_log_spec = close μ-branch-log μ-statement-log (λ t. branch-log-lts.spec (branch-log-claims t)
     (branch-log-at t) branch-log.Post
     (λ c κs. let (_, ready) = c.before.before.before.before.requires in (guard_slot _ _ _ _ _ _ ready, guard_small _ _ _ _ _ _ ready))
     (λ c. let (_, ready) = c.before.before.before.before.before.before.before.requires in omega (arith, (guard_slot _ _ _ _ _ _ ready).few))
     (λ c. let (_, ready) = c.before.before.before.before.before.before.before.requires in omega (arith, (guard_slot _ _ _ _ _ _ ready).few))
     (λ c κs. let (_, ready) = c.before.before.before.before.before.before.before.before.requires in
-    (omega arith, inside_ready _ _ _ _ _ _ ready _ _ c.before.before.before.log-entry.ensures))
-    (λ c. c.before.before.statement-log.auto.1.1.1.1.1.0 ∙ c.before.before.before.before.before.before.log-entry.auto.0)
+    (omega arith, inside_ready _ _ _ _ _ _ ready _ _ c.before.before.before.log_entry.ensures))
+    (λ c. c.before.before.statement_log.auto.1.1.1.1.1.0 ∙ c.before.before.before.before.before.before.log_entry.auto.0)
     (branch-returns t)) λ t. statement-log-lts.spec (statement-log-claims t) (statement-log-at t) statement-log.Post
     (λ c κs. let (_, ready) = c.before.before.before.requires in (ready.context.narrow, omega (arith, ready.inside, ready.context.long)))
     (λ c κs. let guard = c.before.before.before.before.before.before.args.guard in let (_, ready) = c.before.before.before.before.before.before.requires in
@@ -81,22 +81,22 @@ pub +branch-log-statement-log-spec : {M : Type 1} → statement M
     let less = steps_less _ _ _ guard _ _ _ ready _ same kind in (omega arith, first_ready _ _ _ guard _ _ _ ready _ same kind))
     (λ c κs. let guard = c.before.before.before.before.before.before.before.before.before.before.args.guard in let (_, ready) = c.before.before.before.before.before.before.before.before.before.before.requires in
     let same = c.before.before.before.before.before.before.node_at.ensures.same in let kind = c.before.before.before.before.before.match.keys1 in
-    let less = steps_less _ _ _ guard _ _ _ ready _ same kind in (omega arith, second_ready _ _ _ guard _ _ _ ready _ same kind _ _ c.before.before.before.statement-log.ensures))
+    let less = steps_less _ _ _ guard _ _ _ ready _ same kind in (omega arith, second_ready _ _ _ guard _ _ _ ready _ same kind _ _ c.before.before.before.statement_log.ensures))
     (λ c κs. let (_, ready) = c.before.before.before.before.before.before.requires in
     condition_ready _ _ _ c.before.before.before.before.before.before.args.guard _ _ _ ready _ c.before.before.node_at.ensures.same c.before.match.keys2)
     (λ c κs. let guard = c.before.before.before.before.before.before.before.before.before.before.args.guard in let (_, ready) = c.before.before.before.before.before.before.before.before.before.before.requires in
     let same = c.before.before.before.before.before.before.node_at.ensures.same in let kind = c.before.before.before.before.before.match.keys2 in
-    let less = branches_less _ _ _ guard _ _ _ ready _ same kind in (omega arith, then_ready _ _ _ guard _ _ _ ready _ same kind _ _ c.before.before.before.condition-log.ensures))
+    let less = branches_less _ _ _ guard _ _ _ ready _ same kind in (omega arith, then_ready _ _ _ guard _ _ _ ready _ same kind _ _ c.before.before.before.condition_log.ensures))
     (λ c κs. let guard = c.before.before.before.before.before.before.before.before.before.before.before.before.before.before.args.guard in let (_, ready) = c.before.before.before.before.before.before.before.before.before.before.before.before.before.before.requires in
     let same = c.before.before.before.before.before.before.before.before.before.before.node_at.ensures.same in let kind = c.before.before.before.before.before.before.before.before.before.match.keys2 in
     let less = branches_less _ _ _ guard _ _ _ ready _ same kind in
-    (omega arith, else_ready _ _ _ guard _ _ _ ready _ same kind _ _ c.before.before.before.before.before.before.before.condition-log.ensures _ _ c.before.before.before.branch-log.ensures))
+    (omega arith, else_ready _ _ _ guard _ _ _ ready _ same kind _ _ c.before.before.before.before.before.before.before.condition_log.ensures _ _ c.before.before.before.branch_log.ensures))
     (λ c κs. let (_, ready) = c.before.before.before.before.before.before.requires in let rest = c.before.match.rest in
     others_ready _ _ _ c.before.before.before.before.before.before.args.guard _ _ _ ready _ c.before.before.node_at.ensures.same rest.0.1 rest.1)
-    (λ c. c.before.before.statement-log2.auto.1.1.1.1.1.0 ∙ c.before.before.before.before.before.before.statement-log.auto.1.1.1.1.1.0)
+    (λ c. c.before.before.statement-log2.auto.1.1.1.1.1.0 ∙ c.before.before.before.before.before.before.statement_log.auto.1.1.1.1.1.0)
     (sequence-returns t)
-    (λ c. c.before.before.branch-log2.auto.1.1.1.1.0 ∙ c.before.before.before.before.before.before.branch-log.auto.1.1.1.1.0 ∙ c.before.before.before.before.before.before.before.before.before.before.condition-log.auto.1.1.1.1.1.0)
+    (λ c. c.before.before.branch-log2.auto.1.1.1.1.0 ∙ c.before.before.before.before.before.before.branch_log.auto.1.1.1.1.0 ∙ c.before.before.before.before.before.before.before.before.before.before.condition_log.auto.1.1.1.1.1.0)
     (λ c. let guard = c.before.before.before.before.before.before.before.before.before.before.before.before.before.before.before.before.before.args.guard in let (_, ready) = c.before.before.before.before.before.before.before.before.before.before.before.before.before.before.before.before.before.requires in
     let same = c.before.before.before.before.before.before.before.before.before.before.before.before.before.node_at.ensures.same in let kind = c.before.before.before.before.before.before.before.before.before.before.before.before.match.keys2 in
-    conditional_logged _ _ _ guard _ _ _ ready _ same kind _ _ c.before.before.before.before.before.before.before.before.before.before.condition-log.ensures _ _ c.before.before.before.before.before.before.branch-log.ensures _ _ c.before.before.branch-log2.ensures)
-    (λ c. c.before.before.simple-log.auto.1.1.1.1.1.0) (λ c. c.before.before.simple-log.ensures)
+    conditional_logged _ _ _ guard _ _ _ ready _ same kind _ _ c.before.before.before.before.before.before.before.before.before.before.condition_log.ensures _ _ c.before.before.before.before.before.before.branch_log.ensures _ _ c.before.before.branch-log2.ensures)
+    (λ c. c.before.before.simple_log.auto.1.1.1.1.1.0) (λ c. c.before.before.simple_log.ensures)

@@ -2,5 +2,5 @@
 use Rattle.kit.specs.Names.{sym, ℕ, length-replicate}
 use Rattle.rules_links.proofs.class_room as own
 
-pub class-room-spec : {M : Type 1} → own.Statement.statement M
-class-room-spec = own.Tie.close (own.Tie.spec (λ c. sym (length-replicate {0} {A = ℕ} 74 0)))
+pub class_room_spec : {M : Type 1} → own.Statement.statement M
+class_room_spec = own.Tie.close (own.Tie.spec (λ c. sym (length-replicate {0} {A = ℕ} 74 0)))

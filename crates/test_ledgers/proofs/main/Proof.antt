@@ -1,5 +1,5 @@
 -- Each turn compares one file more, and the room keeps its length.
-use Rattle.kit.specs.Names.{◌≡◌, ◌-◌, ◌≤◌, length, needs}
+use Rattle.kit.specs.Names.{◌≡◌, ◌-◌, ◌≤◌, length, rules}
 use Rattle.test_ledgers.proofs.main as own
 
 abbrev Inv-loop : own.Tie.InvT-loop
@@ -11,6 +11,6 @@ abbrev μ-loop : own.Tie.MeasureT-loop
 pub main_spec : {M : Type 1} → own.Statement.statement M
 main_spec =
     own.Tie.close (own.Tie.spec Inv-loop μ-loop
-    (λ c κs. search needs) (λ c. search needs) (λ c. search needs) (λ c. search needs) (λ c κs. search needs)
-    (λ c. search needs) (λ c. search needs) (λ c κs. search needs) (λ c. search needs) (λ c. search needs)
-    (λ c. (search needs, search needs)) (λ c. search needs))
+    (λ c κs. search rules) (λ c. search rules) (λ c. search rules) (λ c. search rules) (λ c κs. search rules)
+    (λ c. search rules) (λ c. search rules) (λ c κs. search rules) (λ c. search rules) (λ c. search rules)
+    (λ c. (search rules, search rules)) (λ c. search rules))

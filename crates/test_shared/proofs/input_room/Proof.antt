@@ -2,5 +2,5 @@
 use Rattle.kit.specs.Names.{sym, ℕ, length-replicate}
 use Rattle.test_shared.proofs.input_room as own
 
-pub input-room-spec : {M : Type 1} → own.Statement.statement M
-input-room-spec = own.Tie.close (own.Tie.spec (λ c. sym (length-replicate {0} {A = ℕ} 700000 0)))
+pub input_room_spec : {M : Type 1} → own.Statement.statement M
+input_room_spec = own.Tie.close (own.Tie.spec (λ c. sym (length-replicate {0} {A = ℕ} 700000 0)))

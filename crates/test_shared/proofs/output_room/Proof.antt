@@ -2,5 +2,5 @@
 use Rattle.kit.specs.Names.{sym, ℕ, length-replicate}
 use Rattle.test_shared.proofs.output_room as own
 
-pub output-room-spec : {M : Type 1} → own.Statement.statement M
-output-room-spec = own.Tie.close (own.Tie.spec (λ c. sym (length-replicate {0} {A = ℕ} 49152 0)))
+pub output_room_spec : {M : Type 1} → own.Statement.statement M
+output_room_spec = own.Tie.close (own.Tie.spec (λ c. sym (length-replicate {0} {A = ℕ} 49152 0)))

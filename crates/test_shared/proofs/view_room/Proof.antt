@@ -2,5 +2,5 @@
 use Rattle.kit.specs.Names.{sym, ℕ, length-replicate}
 use Rattle.test_shared.proofs.view_room as own
 
-pub view-room-spec : {M : Type 1} → own.Statement.statement M
-view-room-spec = own.Tie.close (own.Tie.spec (λ c. sym (length-replicate {0} {A = ℕ} 20565 0)))
+pub view_room_spec : {M : Type 1} → own.Statement.statement M
+view_room_spec = own.Tie.close (own.Tie.spec (λ c. sym (length-replicate {0} {A = ℕ} 20565 0)))

@@ -1,5 +1,5 @@
 -- Each turn shows one content more.
-use Rattle.kit.specs.Names.{◌≡◌, refl, ◌∙◌, ◌≤◌, ◌-◌, ◌+◌, ◌*◌, ◌/◌, arith, length, drop, needs}
+use Rattle.kit.specs.Names.{◌≡◌, refl, ◌∙◌, ◌≤◌, ◌-◌, ◌+◌, ◌*◌, ◌/◌, arith, length, drop, rules}
 use Rattle.memory_buffer.specs.Buffer.{stored}
 use Rattle.ledger_contents.specs.Contents.{contents_of}
 use Rattle.view_item.specs.Items.{shown}
@@ -14,12 +14,12 @@ Inv-loop flat party out₀ at i₀ out i =
 abbrev μ-loop : own.Tie.MeasureT-loop
 μ-loop flat party out₀ at i₀ out i = length flat / 5 - i
 
-pub put-items-spec : {M : Type 1} → own.Statement.statement M
-put-items-spec =
-    own.Tie.close (own.Tie.spec Inv-loop μ-loop (λ c. (omega arith, (refl, items_start _ _ _ _))) (λ c κs. search needs) (λ c. search needs)
-    (λ c. search needs) (λ c κs. search needs) (λ c. search needs) (λ c. search needs)
-    (λ c. let read = c.before.before.before.before in let put = c.before.before.put-content in let (_, (kept, left)) = read.before.before.loop.inv in
-    let next = items_next _ _ _ _ _ _ _ _ (omega arith) (omega arith) read.content-at.ensures put.ensures left in
+pub put_items_spec : {M : Type 1} → own.Statement.statement M
+put_items_spec =
+    own.Tie.close (own.Tie.spec Inv-loop μ-loop (λ c. (omega arith, (refl, items_start _ _ _ _))) (λ c κs. search rules) (λ c. search rules)
+    (λ c. search rules) (λ c κs. search rules) (λ c. search rules) (λ c. search rules)
+    (λ c. let read = c.before.before.before.before in let put = c.before.before.put_content in let (_, (kept, left)) = read.before.before.loop.inv in
+    let next = items_next _ _ _ _ _ _ _ _ (omega arith) (omega arith) read.content_at.ensures put.ensures left in
     (omega arith, (put.kept.0 ∙ kept, next)))
     (λ c. c.before.loop.inv.1.0)
     (λ c. items_done _ _ _ _ _ _ (omega arith) c.before.loop.inv.1.1))

@@ -1,11 +1,11 @@
 use Rattle.walk_contents.proofs.ConstraintParts.{me_address, low_address, final_address_law, middle_address, high_address}
-use Rattle.kit.specs.Names.{needs}
+use Rattle.kit.specs.Names.{rules}
 use Rattle.walk_claims.proofs.address_of as own
 
-pub address-of-spec : {M : Type 1} → own.Statement.statement M
-address-of-spec =
+pub address_of_spec : {M : Type 1} → own.Statement.statement M
+address_of_spec =
     own.Tie.close (own.Tie.spec
-    (λ c κs. search needs) (λ c κs. search needs) (λ c κs. search needs) (λ c κs. search needs) (λ c κs. search needs)
+    (λ c κs. search rules) (λ c κs. search rules) (λ c κs. search rules) (λ c κs. search rules) (λ c κs. search rules)
     (λ c. let args = c.before.before.before.args in
     λ z. me_address args.addresses.now args.code _ c.before.if1.taken c.number_at.ensures)
     (λ c. let args = c.before.before.before.before.args in

@@ -1,6 +1,6 @@
-use Rattle.kit.specs.Names.{needs}
+use Rattle.kit.specs.Names.{rules}
 use Rattle.walk_contents.proofs.is_cell_of as own
 
-pub is-cell-of-spec : {M : Type 1} → own.Statement.statement M
-is-cell-of-spec =
-    own.Tie.close (own.Tie.spec (λ c. search needs) (λ c. search needs) (λ c κs. search needs) (λ c. search needs) (λ c. rw c.before.before.content.given.1 c.cell-matches.ensures))
+pub is_cell_of_spec : {M : Type 1} → own.Statement.statement M
+is_cell_of_spec =
+    own.Tie.close (own.Tie.spec (λ c. search rules) (λ c. search rules) (λ c κs. search rules) (λ c. search rules) (λ c. rw c.before.before.content.given.1 c.cell_matches.ensures))

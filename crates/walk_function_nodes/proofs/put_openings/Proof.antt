@@ -1,5 +1,5 @@
 -- The loop's invariant: so many constraints are stored.
-use Rattle.kit.specs.Names.{◌≡◌, refl, ◌-◌, ◌≤◌, arith, length, needs}
+use Rattle.kit.specs.Names.{◌≡◌, refl, ◌-◌, ◌≤◌, arith, length, rules}
 use Rattle.memory_buffer.specs.Buffer.{stored}
 use Rattle.walk_function_nodes.specs.Functions.{opening_numbers}
 use Rattle.walk_function_nodes.proofs.Openings.{openings_none, openings_next, openings_done}
@@ -11,11 +11,11 @@ Inv-loop numbers₀ private i₀ numbers i = (i ≤ private) × ((length numbers
 abbrev μ-loop : own.Tie.MeasureT-loop
 μ-loop numbers₀ private i₀ numbers i = private - i
 
-pub put-openings-spec : {M : Type 1} → own.Statement.statement M
-put-openings-spec =
+pub put_openings_spec : {M : Type 1} → own.Statement.statement M
+put_openings_spec =
     own.Tie.close (own.Tie.spec Inv-loop μ-loop (λ c. (omega arith, (refl, openings_none c.before.args.numbers.now)))
-    (λ c. search needs) (λ c. search needs) (λ c κs. search needs) (λ c. search needs) (λ c. search needs)
+    (λ c. search rules) (λ c. search rules) (λ c κs. search rules) (λ c. search rules) (λ c. search rules)
     (λ c. let (_, (_, numbers-is)) = c.before.before.before.before.before.loop.inv in
-    (omega arith, (search needs, openings_next _ _ _ _ (omega arith) numbers-is c.before.before.put_four.ensures)))
-    (λ c. search needs)
+    (omega arith, (search rules, openings_next _ _ _ _ (omega arith) numbers-is c.before.before.put_four.ensures)))
+    (λ c. search rules)
     (λ c. let (i-bound, (_, numbers-is)) = c.before.loop.inv in openings_done _ _ _ _ i-bound (omega arith) numbers-is))

@@ -1,5 +1,5 @@
 -- Statements by the kind of their node, sequences, conditionals and branches: the node number falls.
-use Rattle.kit.specs.Names.{sym, ◌∙◌, ◌+◌, ◌*◌, ◌-◌, ℕ, ◌<◌, arith, length, needs, In, Measures, is, falls, and}
+use Rattle.kit.specs.Names.{sym, ◌∙◌, ◌+◌, ◌*◌, ◌-◌, ℕ, ◌<◌, arith, length, rules, In, Measures, is, falls, and}
 use borrow.Rule.Slice.PartMut.{put_mid, take_put}
 use Rattle.theory_laws.proofs.Records.{kind_as}
 use Rattle.rewrite_simple_statements.proofs.ByKind.{others_simple}
@@ -99,33 +99,33 @@ write-statement-claims t = (node-at-reads.Asked, node-at-reads.Learnt, write-seq
 write-conditional-sub-write-branches : (t : ℕ) → write-conditional-lts.Need-overflow-sub-write-branches (write-conditional-claims t) (write-conditional-at t) write-conditional.Post
 write-conditional-sub-write-branches t c =
     let (_, (kind, ready)) = c.before.before.before.before.before.before.before.before.before.before.before.before.before.before.before.before.before.requires in
-    let fits = condition_fits _ _ _ _ _ _ _ _ _ _ ready _ c.before.before.before.before.before.before.before.before.before.before.node_at.ensures.same kind _ _ _ c.before.before.before.before.before.before.before.write-condition.ensures in
-    omega (arith, fits.0, c.before.before.before.before.before.before.before.write-condition.auto.1.1.1.1.1.0)
+    let fits = condition_fits _ _ _ _ _ _ _ _ _ _ ready _ c.before.before.before.before.before.before.before.before.before.before.node_at.ensures.same kind _ _ _ c.before.before.before.before.before.before.before.write_condition.ensures in
+    omega (arith, fits.0, c.before.before.before.before.before.before.before.write_condition.auto.1.1.1.1.1.0)
 
-pub +write-branch-write-branches-write-conditional-write-sequence-write-statement-spec :
+pub +write_branch_write_branches_write_conditional_write_sequence_write_statement_spec :
     {M : Type 1} → statement M
-+write-branch-write-branches-write-conditional-write-sequence-write-statement-spec =
++write_branch_write_branches_write_conditional_write_sequence_write_statement_spec =
     close μ-write-branch μ-write-branches μ-write-conditional μ-write-sequence μ-write-statement
     (λ t. write-branch-lts.spec (write-branch-claims t) (write-branch-at t) write-branch.Post
     (λ c κs. let (_, ready) = c.before.before.before.before.before.before.before.requires in guard_room _ _ _ _ _ _ _ _ _ _ ready)
     (λ c. let (_, ready) = c.before.before.before.before.before.before.before.before.before.before.before.requires in let space = inside_place _ _ _ _ _ _ _ _ _ _ ready in omega (arith, c.before.before.before.before.before.before.before.before.before.before.before.well-formed.1.1.1.0))
-    (λ c. let (_, ready) = c.before.before.before.before.before.before.before.before.before.before.before.requires in let inside = inside_ready _ _ _ _ _ _ _ _ _ _ ready _ _ c.before.before.before.put-guard.ensures in omega (arith, inside.few))
+    (λ c. let (_, ready) = c.before.before.before.before.before.before.before.before.before.before.before.requires in let inside = inside_ready _ _ _ _ _ _ _ _ _ _ ready _ _ c.before.before.before.put_guard.ensures in omega (arith, inside.few))
     (λ c. let good = c.before.before.before.before.before.before.before.before.before.before.before.well-formed.1.1.1.1.1.1.0 in let (_, ready) = c.before.before.before.before.before.before.before.before.before.before.before.requires in
-    let put-guard = c.before.before.before.put-guard in
+    let put-guard = c.before.before.before.put_guard in
     let inside = inside_ready _ _ _ _ _ _ _ _ _ _ ready _ _ put-guard.ensures in let room = inside.room in
     omega (arith, room.bytes, put-guard.auto.1.0, good))
     (λ c. let (_, ready) = c.before.before.before.before.before.before.before.before.before.before.before.requires in
-    let inside = inside_ready _ _ _ _ _ _ _ _ _ _ ready _ _ c.before.before.before.put-guard.ensures in
+    let inside = inside_ready _ _ _ _ _ _ _ _ _ _ ready _ _ c.before.before.before.put_guard.ensures in
     let room = inside.room in omega (arith, room.numbers))
     (λ c κs. let (measure, ready) = c.before.before.before.before.before.before.before.before.before.before.before.before.before.requires in
-    (omega arith, inside_ready _ _ _ _ _ _ _ _ _ _ ready _ _ c.before.before.before.before.before.put-guard.ensures))
+    (omega arith, inside_ready _ _ _ _ _ _ _ _ _ _ ready _ _ c.before.before.before.before.before.put_guard.ensures))
     (λ c κs. let (_, ready) = c.before.before.before.before.before.before.before.before.before.before.before.before.before.before.before.before.before.before.before.requires in
-    branch_parent _ _ _ _ _ _ _ _ _ _ ready _ _ c.before.before.before.before.before.before.before.before.before.before.before.put-guard.ensures _ _ c.before.before.before.before.before.write-statement.ensures)
-    (λ c. c.before.before.before.before.before.before.before.before.before.write-statement.auto.1.1.1.1.1.0)
-    (λ c. c.before.before.before.put-above-two.auto.1.1.1.1.0 ∙ c.before.before.before.before.before.before.before.before.before.write-statement.auto.1.1.1.1.1.1.0 ∙ c.before.before.before.before.before.before.before.before.before.before.before.before.before.before.before.put-guard.auto.1.0)
+    branch_parent _ _ _ _ _ _ _ _ _ _ ready _ _ c.before.before.before.before.before.before.before.before.before.before.before.put_guard.ensures _ _ c.before.before.before.before.before.write_statement.ensures)
+    (λ c. c.before.before.before.before.before.before.before.before.before.write_statement.auto.1.1.1.1.1.0)
+    (λ c. c.before.before.before.put_above_two.auto.1.1.1.1.0 ∙ c.before.before.before.before.before.before.before.before.before.write_statement.auto.1.1.1.1.1.1.0 ∙ c.before.before.before.before.before.before.before.before.before.before.before.before.before.before.before.put_guard.auto.1.0)
     (λ c. let (_, ready) = c.before.before.before.before.before.before.before.before.before.before.before.before.before.before.before.before.before.before.before.before.before.before.before.requires in
-    let above = c.before.before.before.put-above-two.ensures in
-    branch_written _ _ _ _ _ _ _ _ _ _ ready _ _ c.before.before.before.before.before.before.before.before.before.before.before.before.before.before.before.put-guard.ensures _ _ c.before.before.before.before.before.before.before.before.before.write-statement.ensures _ _ above.0 above.1))
+    let above = c.before.before.before.put_above_two.ensures in
+    branch_written _ _ _ _ _ _ _ _ _ _ ready _ _ c.before.before.before.before.before.before.before.before.before.before.before.before.before.before.before.put_guard.ensures _ _ c.before.before.before.before.before.before.before.before.before.write_statement.ensures _ _ above.0 above.1))
     (λ t. write-branches-lts.spec (write-branches-claims t) (write-branches-at t) write-branches.Post
     (λ c κs. let (_, ready) = c.before.before.before.before.before.before.requires in (ready.context.narrow, omega (arith, ready.inside, ready.context.long)))
     (λ c. let (_, ready) = c.before.before.before.before.before.before.before.requires in
@@ -138,106 +138,106 @@ pub +write-branch-write-branches-write-conditional-write-sequence-write-statemen
     let same = c.before.before.node_at.ensures.same in let less = branches_less _ _ _ _ _ _ _ _ _ _ _ _ same ready in
     (omega arith, then_ready _ _ _ _ _ _ _ _ _ _ _ _ same ready))
     (λ c. let (_, ready) = c.before.before.before.before.before.before.before.before.before.before.before.before.before.before.before.requires in
-    let room = else_room _ _ _ _ _ _ _ _ _ _ _ _ c.before.before.before.before.before.before.before.before.node_at.ensures.same ready _ _ c.before.before.before.before.before.write-branch.ensures in
+    let room = else_room _ _ _ _ _ _ _ _ _ _ _ _ c.before.before.before.before.before.before.before.before.node_at.ensures.same ready _ _ c.before.before.before.before.before.write_branch.ensures in
     omega (arith, room.numbers))
     (λ c. let good = c.before.before.before.before.before.before.before.before.before.before.before.before.before.before.before.well-formed.1.1.1.1.1.1.1.0 in let (_, ready) = c.before.before.before.before.before.before.before.before.before.before.before.before.before.before.before.requires in
-    let branch = c.before.before.before.before.before.write-branch in
+    let branch = c.before.before.before.before.before.write_branch in
     let room = else_room _ _ _ _ _ _ _ _ _ _ _ _ c.before.before.before.before.before.before.before.before.node_at.ensures.same ready _ _ branch.ensures in
     omega (arith, room.bytes, branch.auto.1.1.1.1.1.1.0, good))
     (λ c. let (_, ready) = c.before.before.before.before.before.before.before.before.before.before.before.before.before.before.before.before.requires in
-    let room = else_room _ _ _ _ _ _ _ _ _ _ _ _ c.before.before.before.before.before.before.before.before.before.node_at.ensures.same ready _ _ c.before.before.before.before.before.before.write-branch.ensures in
+    let room = else_room _ _ _ _ _ _ _ _ _ _ _ _ c.before.before.before.before.before.before.before.before.before.node_at.ensures.same ready _ _ c.before.before.before.before.before.before.write_branch.ensures in
     omega (arith, room.numbers))
     (λ c κs. let (measure, ready) = c.before.before.before.before.before.before.before.before.before.before.before.before.before.before.before.before.before.before.before.requires in
     let same = c.before.before.before.before.before.before.before.before.before.before.before.before.node_at.ensures.same in
-    let branch = c.before.before.before.before.before.before.before.before.before.write-branch in
+    let branch = c.before.before.before.before.before.before.before.before.before.write_branch in
     let less = branches_less _ _ _ _ _ _ _ _ _ _ _ _ same ready in
     (omega arith, else_ready _ _ _ _ _ _ _ _ _ _ _ _ same ready _ _ branch.ensures _ branch.auto.1.1.1.1.1.0))
     (λ c κs. let (_, ready) = c.before.before.before.before.before.before.before.before.before.before.before.before.before.before.before.before.before.before.before.before.before.before.before.before.before.requires in
-    branches_parent _ _ _ _ _ _ _ _ _ _ _ _ c.before.before.before.before.before.before.before.before.before.before.before.before.before.before.before.before.before.before.node_at.ensures.same ready _ _ c.before.before.before.before.before.before.before.before.before.before.before.before.before.before.before.write-branch.ensures _ _ c.before.before.before.before.before.write-branch2.ensures)
-    (λ c. c.before.before.before.before.before.before.before.before.before.write-branch2.auto.1.1.1.1.1.0 ∙ c.before.before.before.before.before.before.before.before.before.before.before.before.before.before.before.before.before.before.before.write-branch.auto.1.1.1.1.1.0)
-    (λ c. c.before.before.before.put-above-three.auto.1.1.1.1.0 ∙ c.before.before.before.before.before.before.before.before.before.write-branch2.auto.1.1.1.1.1.1.0 ∙ c.before.before.before.before.before.before.before.before.before.before.before.before.before.before.before.before.before.before.before.write-branch.auto.1.1.1.1.1.1.0)
+    branches_parent _ _ _ _ _ _ _ _ _ _ _ _ c.before.before.before.before.before.before.before.before.before.before.before.before.before.before.before.before.before.before.node_at.ensures.same ready _ _ c.before.before.before.before.before.before.before.before.before.before.before.before.before.before.before.write_branch.ensures _ _ c.before.before.before.before.before.write-branch2.ensures)
+    (λ c. c.before.before.before.before.before.before.before.before.before.write-branch2.auto.1.1.1.1.1.0 ∙ c.before.before.before.before.before.before.before.before.before.before.before.before.before.before.before.before.before.before.before.write_branch.auto.1.1.1.1.1.0)
+    (λ c. c.before.before.before.put_above_three.auto.1.1.1.1.0 ∙ c.before.before.before.before.before.before.before.before.before.write-branch2.auto.1.1.1.1.1.1.0 ∙ c.before.before.before.before.before.before.before.before.before.before.before.before.before.before.before.before.before.before.before.write_branch.auto.1.1.1.1.1.1.0)
     (λ c. let (_, ready) = c.before.before.before.before.before.before.before.before.before.before.before.before.before.before.before.before.before.before.before.before.before.before.before.before.before.before.before.before.before.requires in
-    let above = c.before.before.before.put-above-three.ensures in
-    branches_written _ _ _ _ _ _ _ _ _ _ _ _ c.before.before.before.before.before.before.before.before.before.before.before.before.before.before.before.before.before.before.before.before.before.before.node_at.ensures.same ready _ _ c.before.before.before.before.before.before.before.before.before.before.before.before.before.before.before.before.before.before.before.write-branch.ensures _ _ c.before.before.before.before.before.before.before.before.before.write-branch2.ensures _ _ above.0 above.1))
+    let above = c.before.before.before.put_above_three.ensures in
+    branches_written _ _ _ _ _ _ _ _ _ _ _ _ c.before.before.before.before.before.before.before.before.before.before.before.before.before.before.before.before.before.before.before.before.before.before.node_at.ensures.same ready _ _ c.before.before.before.before.before.before.before.before.before.before.before.before.before.before.before.before.before.before.before.write_branch.ensures _ _ c.before.before.before.before.before.before.before.before.before.write-branch2.ensures _ _ above.0 above.1))
     (λ t. write-conditional-lts.spec (write-conditional-claims t) (write-conditional-at t) write-conditional.Post
     (λ c κs. let (_, (_, ready)) = c.before.before.before.before.before.before.requires in (ready.context.narrow, omega (arith, ready.inside, ready.context.long)))
     (λ c κs. let (_, (kind, ready)) = c.before.before.before.before.before.before.before.before.before.requires in condition_ready _ _ _ _ _ _ _ _ _ _ ready _ c.before.before.node_at.ensures.same kind)
     (λ c. let (_, (kind, ready)) = c.before.before.before.before.before.before.before.before.before.before.before.before.before.before.before.before.requires in
-    let fits = condition_fits _ _ _ _ _ _ _ _ _ _ ready _ c.before.before.before.before.before.before.before.before.before.node_at.ensures.same kind _ _ _ c.before.before.before.before.before.before.write-condition.ensures in
+    let fits = condition_fits _ _ _ _ _ _ _ _ _ _ ready _ c.before.before.before.before.before.before.before.before.before.node_at.ensures.same kind _ _ _ c.before.before.before.before.before.before.write_condition.ensures in
     omega (arith, fits.1.1))
     (λ c. let good = c.before.before.before.before.before.before.before.before.before.before.before.before.before.before.before.before.well-formed.1.1.1.1.1.1.0 in let (_, (kind, ready)) = c.before.before.before.before.before.before.before.before.before.before.before.before.before.before.before.before.requires in
-    let fits = condition_fits _ _ _ _ _ _ _ _ _ _ ready _ c.before.before.before.before.before.before.before.before.before.node_at.ensures.same kind _ _ _ c.before.before.before.before.before.before.write-condition.ensures in
+    let fits = condition_fits _ _ _ _ _ _ _ _ _ _ ready _ c.before.before.before.before.before.before.before.before.before.node_at.ensures.same kind _ _ _ c.before.before.before.before.before.before.write_condition.ensures in
     omega (arith, fits.1.0, good))
     (λ c. let (_, (kind, ready)) = c.before.before.before.before.before.before.before.before.before.before.before.before.before.before.before.before.before.requires in
-    let fits = condition_fits _ _ _ _ _ _ _ _ _ _ ready _ c.before.before.before.before.before.before.before.before.before.before.node_at.ensures.same kind _ _ _ c.before.before.before.before.before.before.before.write-condition.ensures in
+    let fits = condition_fits _ _ _ _ _ _ _ _ _ _ ready _ c.before.before.before.before.before.before.before.before.before.before.node_at.ensures.same kind _ _ _ c.before.before.before.before.before.before.before.write_condition.ensures in
     omega (arith, fits.1.1))
     (λ c. let (_, (kind, ready)) = c.before.before.before.before.before.before.before.before.before.before.before.before.before.before.before.before.before.requires in
-    let fits = condition_fits _ _ _ _ _ _ _ _ _ _ ready _ c.before.before.before.before.before.before.before.before.before.before.node_at.ensures.same kind _ _ _ c.before.before.before.before.before.before.before.write-condition.ensures in
-    omega (arith, fits.1.1)) (write-conditional-sub-write-branches t) (λ c. write-conditional-sub-write-branches t c) (λ c. search needs)
+    let fits = condition_fits _ _ _ _ _ _ _ _ _ _ ready _ c.before.before.before.before.before.before.before.before.before.before.node_at.ensures.same kind _ _ _ c.before.before.before.before.before.before.before.write_condition.ensures in
+    omega (arith, fits.1.1)) (write-conditional-sub-write-branches t) (λ c. write-conditional-sub-write-branches t c) (λ c. search rules)
     (λ c κs. let (measure, (kind, ready)) = c.before.before.before.before.before.before.before.before.before.before.before.before.before.before.before.before.before.before.before.requires in
-    let condition = c.before.before.before.before.before.before.before.before.before.write-condition in
+    let condition = c.before.before.before.before.before.before.before.before.before.write_condition in
     (omega arith, branches_ready _ _ _ _ _ _ _ _ _ _ ready _ c.before.before.before.before.before.before.before.before.before.before.before.before.node_at.ensures.same kind _ _ _ condition.ensures _ (sym c.before.write-branches-arg.given.1) condition.auto.1.1.1.1.1.0))
     (λ c. let (_, (kind, ready)) = c.before.before.before.before.before.before.before.before.before.before.before.before.before.before.before.before.before.before.before.before.before.before.before.before.before.requires in
-    let close = close_room _ _ _ _ _ _ _ _ _ _ ready _ c.before.before.before.before.before.before.before.before.before.before.before.before.before.before.before.before.before.before.node_at.ensures.same kind _ _ _ c.before.before.before.before.before.before.before.before.before.before.before.before.before.before.before.write-condition.ensures _ _ c.before.before.before.before.before.write-branches.ensures in
+    let close = close_room _ _ _ _ _ _ _ _ _ _ ready _ c.before.before.before.before.before.before.before.before.before.before.before.before.before.before.before.before.before.before.node_at.ensures.same kind _ _ _ c.before.before.before.before.before.before.before.before.before.before.before.before.before.before.before.write_condition.ensures _ _ c.before.before.before.before.before.write_branches.ensures in
     omega (arith, close.0, close.1.1.0))
     (λ c. let (_, (kind, ready)) = c.before.before.before.before.before.before.before.before.before.before.before.before.before.before.before.before.before.before.before.before.before.before.before.before.before.requires in
-    let close = close_room _ _ _ _ _ _ _ _ _ _ ready _ c.before.before.before.before.before.before.before.before.before.before.before.before.before.before.before.before.before.before.node_at.ensures.same kind _ _ _ c.before.before.before.before.before.before.before.before.before.before.before.before.before.before.before.write-condition.ensures _ _ c.before.before.before.before.before.write-branches.ensures in
+    let close = close_room _ _ _ _ _ _ _ _ _ _ ready _ c.before.before.before.before.before.before.before.before.before.before.before.before.before.before.before.before.before.before.node_at.ensures.same kind _ _ _ c.before.before.before.before.before.before.before.before.before.before.before.before.before.before.before.write_condition.ensures _ _ c.before.before.before.before.before.write_branches.ensures in
     omega (arith, close.0))
     (λ c. let (_, (kind, ready)) = c.before.before.before.before.before.before.before.before.before.before.before.before.before.before.before.before.before.before.before.before.before.before.before.before.before.before.before.before.requires in
-    let close = close_room _ _ _ _ _ _ _ _ _ _ ready _ c.before.before.before.before.before.before.before.before.before.before.before.before.before.before.before.before.before.before.before.before.before.node_at.ensures.same kind _ _ _ c.before.before.before.before.before.before.before.before.before.before.before.before.before.before.before.before.before.before.write-condition.ensures _ _ c.before.before.before.before.before.before.before.before.write-branches.ensures in
+    let close = close_room _ _ _ _ _ _ _ _ _ _ ready _ c.before.before.before.before.before.before.before.before.before.before.before.before.before.before.before.before.before.before.before.before.before.node_at.ensures.same kind _ _ _ c.before.before.before.before.before.before.before.before.before.before.before.before.before.before.before.before.before.before.write_condition.ensures _ _ c.before.before.before.before.before.before.before.before.write_branches.ensures in
     omega (arith, close.1.1.0))
     (λ c. let good = c.before.before.before.before.before.before.before.before.before.before.before.before.before.before.before.before.before.before.before.before.before.before.before.before.before.before.before.before.well-formed.1.1.1.1.1.1.0 in let (_, (kind, ready)) = c.before.before.before.before.before.before.before.before.before.before.before.before.before.before.before.before.before.before.before.before.before.before.before.before.before.before.before.before.requires in
-    let condition = c.before.before.before.before.before.before.before.before.before.before.before.before.before.before.before.before.before.before.write-condition in
-    let branches = c.before.before.before.before.before.before.before.before.write-branches in
+    let condition = c.before.before.before.before.before.before.before.before.before.before.before.before.before.before.before.before.before.before.write_condition in
+    let branches = c.before.before.before.before.before.before.before.before.write_branches in
     let close = close_room _ _ _ _ _ _ _ _ _ _ ready _ c.before.before.before.before.before.before.before.before.before.before.before.before.before.before.before.before.before.before.before.before.before.node_at.ensures.same kind _ _ _ condition.ensures _ _ branches.ensures in
     omega (arith, close.1.1.1, branches.auto.1.1.1.1.1.1.1.0, condition.auto.1.1.1.1.1.1.0, good))
     (λ c κs. let (_, (kind, ready)) = c.before.before.before.before.before.before.before.before.before.before.before.before.before.before.before.before.before.before.before.before.before.before.before.before.before.before.before.before.requires in
-    let close = close_room _ _ _ _ _ _ _ _ _ _ ready _ c.before.before.before.before.before.before.before.before.before.before.before.before.before.before.before.before.before.before.before.before.before.node_at.ensures.same kind _ _ _ c.before.before.before.before.before.before.before.before.before.before.before.before.before.before.before.before.before.before.write-condition.ensures _ _ c.before.before.before.before.before.before.before.before.write-branches.ensures in
+    let close = close_room _ _ _ _ _ _ _ _ _ _ ready _ c.before.before.before.before.before.before.before.before.before.before.before.before.before.before.before.before.before.before.before.before.before.node_at.ensures.same kind _ _ _ c.before.before.before.before.before.before.before.before.before.before.before.before.before.before.before.before.before.before.write_condition.ensures _ _ c.before.before.before.before.before.before.before.before.write_branches.ensures in
     (omega (arith, close.1.0, c.before.before.before.before.before.before.before.roots2.given.1), close.1.1))
     (λ c. let (_, (kind, ready)) = c.before.before.before.before.before.before.before.before.before.before.before.before.before.before.before.before.before.before.before.before.before.before.before.before.before.before.before.before.before.before.before.before.before.before.requires in
-    let close = close_room _ _ _ _ _ _ _ _ _ _ ready _ c.before.before.before.before.before.before.before.before.before.before.before.before.before.before.before.before.before.before.before.before.before.before.before.before.before.before.before.node_at.ensures.same kind _ _ _ c.before.before.before.before.before.before.before.before.before.before.before.before.before.before.before.before.before.before.before.before.before.before.before.before.write-condition.ensures _ _ c.before.before.before.before.before.before.before.before.before.before.before.before.before.before.write-branches.ensures in
+    let close = close_room _ _ _ _ _ _ _ _ _ _ ready _ c.before.before.before.before.before.before.before.before.before.before.before.before.before.before.before.before.before.before.before.before.before.before.before.before.before.before.before.node_at.ensures.same kind _ _ _ c.before.before.before.before.before.before.before.before.before.before.before.before.before.before.before.before.before.before.before.before.before.before.before.before.write_condition.ensures _ _ c.before.before.before.before.before.before.before.before.before.before.before.before.before.before.write_branches.ensures in
     omega (arith, close.0, close.1.1.0))
     (λ c. let (_, (kind, ready)) = c.before.before.before.before.before.before.before.before.before.before.before.before.before.before.before.before.before.before.before.before.before.before.before.before.before.before.before.before.before.before.before.before.before.before.requires in
-    let close = close_room _ _ _ _ _ _ _ _ _ _ ready _ c.before.before.before.before.before.before.before.before.before.before.before.before.before.before.before.before.before.before.before.before.before.before.before.before.before.before.before.node_at.ensures.same kind _ _ _ c.before.before.before.before.before.before.before.before.before.before.before.before.before.before.before.before.before.before.before.before.before.before.before.before.write-condition.ensures _ _ c.before.before.before.before.before.before.before.before.before.before.before.before.before.before.write-branches.ensures in
+    let close = close_room _ _ _ _ _ _ _ _ _ _ ready _ c.before.before.before.before.before.before.before.before.before.before.before.before.before.before.before.before.before.before.before.before.before.before.before.before.before.before.before.node_at.ensures.same kind _ _ _ c.before.before.before.before.before.before.before.before.before.before.before.before.before.before.before.before.before.before.before.before.before.before.before.before.write_condition.ensures _ _ c.before.before.before.before.before.before.before.before.before.before.before.before.before.before.write_branches.ensures in
     omega (arith, close.0, close.1.1.0))
-    (λ c. c.before.before.before.before.before.before.before.before.before.before.before.before.before.roots2.given.1 ∙ c.before.before.before.before.before.before.before.before.before.before.before.before.before.before.before.before.before.before.before.before.before.before.before.before.write-condition.auto.1.1.1.1.1.0)
-    (λ c. c.before.before.before.before.before.close-steps.auto.1.1.1.0 ∙ c.before.before.before.before.before.before.before.before.before.before.before.before.before.before.write-branches.auto.1.1.1.1.1.1.1.0 ∙ c.before.before.before.before.before.before.before.before.before.before.before.before.before.before.before.before.before.before.before.before.before.before.before.before.write-condition.auto.1.1.1.1.1.1.0)
+    (λ c. c.before.before.before.before.before.before.before.before.before.before.before.before.before.roots2.given.1 ∙ c.before.before.before.before.before.before.before.before.before.before.before.before.before.before.before.before.before.before.before.before.before.before.before.before.write_condition.auto.1.1.1.1.1.0)
+    (λ c. c.before.before.before.before.before.close_steps.auto.1.1.1.0 ∙ c.before.before.before.before.before.before.before.before.before.before.before.before.before.before.write_branches.auto.1.1.1.1.1.1.1.0 ∙ c.before.before.before.before.before.before.before.before.before.before.before.before.before.before.before.before.before.before.before.before.before.before.before.before.write_condition.auto.1.1.1.1.1.1.0)
     (λ c. let (_, (kind, ready)) = c.before.before.before.before.before.before.before.before.before.before.before.before.before.before.before.before.before.before.before.before.before.before.before.before.before.before.before.before.before.before.before.before.before.before.requires in
     let same = c.before.before.before.before.before.before.before.before.before.before.before.before.before.before.before.before.before.before.before.before.before.before.before.before.before.before.before.node_at.ensures.same in
-    let condition = c.before.before.before.before.before.before.before.before.before.before.before.before.before.before.before.before.before.before.before.before.before.before.before.before.write-condition in
-    let branches = c.before.before.before.before.before.before.before.before.before.before.before.before.before.before.write-branches in
+    let condition = c.before.before.before.before.before.before.before.before.before.before.before.before.before.before.before.before.before.before.before.before.before.before.before.before.write_condition in
+    let branches = c.before.before.before.before.before.before.before.before.before.before.before.before.before.before.write_branches in
     let kept = condition.new.1.1.1.1.1.0 in let changed = branches.new.1.1.1.1.1.1.0 in
     let count = condition.result.count in
     let close = close_room _ _ _ _ _ _ _ _ _ _ ready _ same kind _ _ _ condition.ensures _ _ branches.ensures in
     conditional_written _ _ _ _ _ _ _ _ _ _ ready _ same kind _ _ _ condition.ensures _ _ branches.ensures
-    (put_mid count (length kept - count) kept changed) _ (take_put count (length kept - count) kept changed close.1.0) c.before.before.before.before.before.close-steps.ensures))
+    (put_mid count (length kept - count) kept changed) _ (take_put count (length kept - count) kept changed close.1.0) c.before.before.before.before.before.close_steps.ensures))
     (λ t. write-sequence-lts.spec (write-sequence-claims t) (write-sequence-at t) write-sequence.Post
     (λ c κs. let (_, (_, ready)) = c.before.before.before.before.before.before.requires in (ready.context.narrow, omega (arith, ready.inside, ready.context.long)))
     (λ c κs. let (measure, (kind, ready)) = c.before.before.before.before.before.before.before.before.before.requires in
     let same = c.before.before.node_at.ensures.same in let less = parts_less _ _ _ _ _ _ _ _ _ _ ready _ same kind in
     (omega arith, first_ready _ _ _ _ _ _ _ _ _ _ ready _ same kind))
     (λ c. let (_, (kind, ready)) = c.before.before.before.before.before.before.before.before.before.before.before.before.before.before.before.before.requires in
-    let room = second_room _ _ _ _ _ _ _ _ _ _ ready _ c.before.before.before.before.before.before.before.before.before.node_at.ensures.same kind _ _ c.before.before.before.before.before.before.write-statement.ensures in
+    let room = second_room _ _ _ _ _ _ _ _ _ _ ready _ c.before.before.before.before.before.before.before.before.before.node_at.ensures.same kind _ _ c.before.before.before.before.before.before.write_statement.ensures in
     omega (arith, room.numbers))
     (λ c. let good = c.before.before.before.before.before.before.before.before.before.before.before.before.before.before.before.before.well-formed.1.1.1.1.1.1.0 in let (_, (kind, ready)) = c.before.before.before.before.before.before.before.before.before.before.before.before.before.before.before.before.requires in
-    let first = c.before.before.before.before.before.before.write-statement in
+    let first = c.before.before.before.before.before.before.write_statement in
     let room = second_room _ _ _ _ _ _ _ _ _ _ ready _ c.before.before.before.before.before.before.before.before.before.node_at.ensures.same kind _ _ first.ensures in
     omega (arith, room.bytes, first.auto.1.1.1.1.1.1.0, good))
     (λ c. let (_, (kind, ready)) = c.before.before.before.before.before.before.before.before.before.before.before.before.before.before.before.before.before.requires in
-    let room = second_room _ _ _ _ _ _ _ _ _ _ ready _ c.before.before.before.before.before.before.before.before.before.before.node_at.ensures.same kind _ _ c.before.before.before.before.before.before.before.write-statement.ensures in
+    let room = second_room _ _ _ _ _ _ _ _ _ _ ready _ c.before.before.before.before.before.before.before.before.before.before.node_at.ensures.same kind _ _ c.before.before.before.before.before.before.before.write_statement.ensures in
     omega (arith, room.numbers))
     (λ c κs. let (measure, (kind, ready)) = c.before.before.before.before.before.before.before.before.before.before.before.before.before.before.before.before.before.before.before.requires in
     let same = c.before.before.before.before.before.before.before.before.before.before.before.before.node_at.ensures.same in
-    let first = c.before.before.before.before.before.before.before.before.before.write-statement in
+    let first = c.before.before.before.before.before.before.before.before.before.write_statement in
     let less = parts_less _ _ _ _ _ _ _ _ _ _ ready _ same kind in
     (omega arith, second_ready _ _ _ _ _ _ _ _ _ _ ready _ same kind _ _ first.ensures _ first.auto.1.1.1.1.1.0))
     (λ c κs. let (_, (kind, ready)) = c.before.before.before.before.before.before.before.before.before.before.before.before.before.before.before.before.before.before.before.before.before.before.before.before.before.requires in
-    parent_ready _ _ _ _ _ _ _ _ _ _ ready _ c.before.before.before.before.before.before.before.before.before.before.before.before.before.before.before.before.before.before.node_at.ensures.same kind _ _ c.before.before.before.before.before.before.before.before.before.before.before.before.before.before.before.write-statement.ensures _ _ c.before.before.before.before.before.write-statement2.ensures)
-    (λ c. c.before.before.before.before.before.before.before.before.before.write-statement2.auto.1.1.1.1.1.0 ∙ c.before.before.before.before.before.before.before.before.before.before.before.before.before.before.before.before.before.before.before.write-statement.auto.1.1.1.1.1.0)
-    (λ c. c.before.before.before.put-above-two.auto.1.1.1.1.0 ∙ c.before.before.before.before.before.before.before.before.before.write-statement2.auto.1.1.1.1.1.1.0 ∙ c.before.before.before.before.before.before.before.before.before.before.before.before.before.before.before.before.before.before.before.write-statement.auto.1.1.1.1.1.1.0)
+    parent_ready _ _ _ _ _ _ _ _ _ _ ready _ c.before.before.before.before.before.before.before.before.before.before.before.before.before.before.before.before.before.before.node_at.ensures.same kind _ _ c.before.before.before.before.before.before.before.before.before.before.before.before.before.before.before.write_statement.ensures _ _ c.before.before.before.before.before.write-statement2.ensures)
+    (λ c. c.before.before.before.before.before.before.before.before.before.write-statement2.auto.1.1.1.1.1.0 ∙ c.before.before.before.before.before.before.before.before.before.before.before.before.before.before.before.before.before.before.before.write_statement.auto.1.1.1.1.1.0)
+    (λ c. c.before.before.before.put_above_two.auto.1.1.1.1.0 ∙ c.before.before.before.before.before.before.before.before.before.write-statement2.auto.1.1.1.1.1.1.0 ∙ c.before.before.before.before.before.before.before.before.before.before.before.before.before.before.before.before.before.before.before.write_statement.auto.1.1.1.1.1.1.0)
     (λ c. let (_, (kind, ready)) = c.before.before.before.before.before.before.before.before.before.before.before.before.before.before.before.before.before.before.before.before.before.before.before.before.before.before.before.before.before.requires in
-    let above = c.before.before.before.put-above-two.ensures in
-    sequence_written _ _ _ _ _ _ _ _ _ _ ready _ c.before.before.before.before.before.before.before.before.before.before.before.before.before.before.before.before.before.before.before.before.before.before.node_at.ensures.same kind _ _ c.before.before.before.before.before.before.before.before.before.before.before.before.before.before.before.before.before.before.before.write-statement.ensures _ _ c.before.before.before.before.before.before.before.before.before.write-statement2.ensures _ _ above.0 above.1))
+    let above = c.before.before.before.put_above_two.ensures in
+    sequence_written _ _ _ _ _ _ _ _ _ _ ready _ c.before.before.before.before.before.before.before.before.before.before.before.before.before.before.before.before.before.before.before.before.before.before.node_at.ensures.same kind _ _ c.before.before.before.before.before.before.before.before.before.before.before.before.before.before.before.before.before.before.before.write_statement.ensures _ _ c.before.before.before.before.before.before.before.before.before.write-statement2.ensures _ _ above.0 above.1))
     λ t. write-statement-lts.spec (write-statement-claims t) (write-statement-at t) write-statement.Post
     (λ c κs. let (_, ready) = c.before.before.before.before.before.before.requires in (ready.context.narrow, omega (arith, ready.inside, ready.context.long)))
     (λ c κs. let (measure, ready) = c.before.before.before.before.before.before.before.before.before.before.requires in
@@ -246,12 +246,12 @@ pub +write-branch-write-branches-write-conditional-write-sequence-write-statemen
     (omega arith, (kind_as _ _ 21 c.before.before.before.node_at.ensures.same c.before.before.match.keys2, ready)))
     (λ c κs. let (_, ready) = c.before.before.before.before.before.before.before.before.before.before.requires in let rest = c.before.before.match.rest in
     (others_simple _ _ _ ready.context _ ready.inside _ c.before.before.before.node_at.ensures.same rest.0.1 rest.1, ready))
-    (λ c. c.before.before.before.before.write-sequence.auto.1.1.1.1.1.0)
-    (λ c. c.before.before.before.before.write-sequence.auto.1.1.1.1.1.1.0)
-    (λ c. c.before.before.before.before.write-sequence.ensures)
-    (λ c. c.before.before.before.before.write-conditional.auto.1.1.1.1.1.0)
-    (λ c. c.before.before.before.before.write-conditional.auto.1.1.1.1.1.1.0)
-    (λ c. c.before.before.before.before.write-conditional.ensures)
-    (λ c. c.before.before.before.before.write-simple.auto.1.1.1.1.1.0)
-    (λ c. c.before.before.before.before.write-simple.auto.1.1.1.1.1.1.0)
-    (λ c. c.before.before.before.before.write-simple.ensures)
+    (λ c. c.before.before.before.before.write_sequence.auto.1.1.1.1.1.0)
+    (λ c. c.before.before.before.before.write_sequence.auto.1.1.1.1.1.1.0)
+    (λ c. c.before.before.before.before.write_sequence.ensures)
+    (λ c. c.before.before.before.before.write_conditional.auto.1.1.1.1.1.0)
+    (λ c. c.before.before.before.before.write_conditional.auto.1.1.1.1.1.1.0)
+    (λ c. c.before.before.before.before.write_conditional.ensures)
+    (λ c. c.before.before.before.before.write_simple.auto.1.1.1.1.1.0)
+    (λ c. c.before.before.before.before.write_simple.auto.1.1.1.1.1.1.0)
+    (λ c. c.before.before.before.before.write_simple.ensures)

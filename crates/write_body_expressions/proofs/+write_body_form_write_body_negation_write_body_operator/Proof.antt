@@ -79,8 +79,8 @@ write-body-negation-claims t = (node-at-reads.Asked, node-at-reads.Learnt, is-pu
 abbrev write-body-operator-claims : ℕ → write-body-operator-lts.Claims
 write-body-operator-claims t = (node-at-reads.Asked, node-at-reads.Learnt, is-public-reads.Asked, is-public-reads.Learnt, body-count-reads.Asked, body-count-reads.Learnt, write-body-form-below t, write-body-form.Post, put-above-two-reads.Asked, put-above-two-reads.Learnt, put-leaf-reads.Asked, put-leaf-reads.Learnt)
 
-pub +write-body-form-write-body-negation-write-body-operator-spec : {M : Type 1} → statement M
-+write-body-form-write-body-negation-write-body-operator-spec =
+pub +write_body_form_write_body_negation_write_body_operator_spec : {M : Type 1} → statement M
++write_body_form_write_body_negation_write_body_operator_spec =
     close μ-write-body-form μ-write-body-negation μ-write-body-operator (λ t. write-body-form-lts.spec (write-body-form-claims t)
     (write-body-form-at t) write-body-form.Post
     (λ c κs. let (_, (_, (context, _))) = c.before.before.before.requires in (context.narrow, omega (arith, context.long)))
@@ -95,7 +95,7 @@ pub +write-body-form-write-body-negation-write-body-operator-spec : {M : Type 1}
     (λ c κs. let (_, (n-bound, (context, (_, room)))) = c.before.before.before.before.before.before.before.before.before.before.before.requires in
     let node-at-same = c.before.before.before.before.before.before.before.node_at.ensures.same in
     let match-keys3 = c.before.before.before.before.before.match.keys3 in
-    room_above_one _ _ _ _ _ _ (room_as _ _ _ _ _ (entry_body _ _ _ context _ n-bound _ node-at-same _ match-keys3) room) _ _ c.before.before.before.write-body-form.ensures)
+    room_above_one _ _ _ _ _ _ (room_as _ _ _ _ _ (entry_body _ _ _ context _ n-bound _ node-at-same _ match-keys3) room) _ _ c.before.before.before.write_body_form.ensures)
     (λ c κs. let (_, (_, (_, (_, room)))) = c.before.before.before.before.before.before.before.requires in room_any _ _ _ _ room)
     (λ c κs. let (_, (n-bound, (context, (i-bound, room)))) = c.before.before.before.before.before.before.before.requires in
     (omega arith, (kind_as _ _ 6 c.before.before.before.node_at.ensures.same c.before.match.keys5, (n-bound, (context, (i-bound, room))))))
@@ -103,29 +103,29 @@ pub +write-body-form-write-body-negation-write-body-operator-spec : {M : Type 1}
     (omega arith, (kind_as _ _ 7 c.before.before.before.node_at.ensures.same c.before.match.keys6, (n-bound, (context, (i-bound, room))))))
     (λ c κs. let (_, (_, (_, (_, room)))) = c.before.before.before.before.before.before.before.requires in room_any _ _ _ _ room)
     (λ c κs. let (_, (_, (_, (_, room)))) = c.before.before.before.before.before.before.before.requires in room_any _ _ _ _ room)
-    (λ c. c.before.before.put-leaf.auto.1.1.1.1.0)
+    (λ c. c.before.before.put_leaf.auto.1.1.1.1.0)
     (λ c. let (_, (n-bound, (context, _))) = c.before.before.before.before.before.before.before.before.before.before.requires in
-    let node_at_law = c.before.before.before.before.before.before.node_at.ensures in let put-leaf = c.before.before.put-leaf.ensures in
+    let node_at_law = c.before.before.before.before.before.before.node_at.ensures in let put-leaf = c.before.before.put_leaf.ensures in
     numbered_as _ _ _ _ _ _ _ _ (constant_body _ _ _ context _ n-bound _ node_at_law.same _ c.before.before.before.before.match.keys1 node_at_law.small_first) put-leaf.1 (numbered_leaf _ _ _ _ _ _ _ _ put-leaf.0))
     (λ c. c.before.before.put-leaf2.auto.1.1.1.1.0)
     (λ c. let (_, (n-bound, (context, _))) = c.before.before.before.before.before.before.before.before.before.before.requires in
     let node-at-same = c.before.before.before.before.before.before.node_at.ensures.same in
     let put-leaf2 = c.before.before.put-leaf2.ensures in
     numbered_as _ _ _ _ _ _ _ _ (field_body _ _ _ context _ n-bound _ node-at-same _ c.before.before.before.before.match.keys2) put-leaf2.1 (numbered_leaf _ _ _ _ _ _ _ _ put-leaf2.0))
-    (λ c. c.before.before.put-above-one.auto.1.1.1.0 ∙ c.before.before.before.before.before.before.write-body-form.auto.1.1.1.1.1.0)
+    (λ c. c.before.before.put_above_one.auto.1.1.1.0 ∙ c.before.before.before.before.before.before.write_body_form.auto.1.1.1.1.1.0)
     (λ c. let (_, (n-bound, (context, (_, room)))) = c.before.before.before.before.before.before.before.before.before.before.before.before.before.before.requires in
     let node-at-same = c.before.before.before.before.before.before.before.before.before.before.node_at.ensures.same in
     let match-keys3 = c.before.before.before.before.before.before.before.before.match.keys3 in
-    let write-body-form-2 = c.before.before.before.before.before.before.write-body-form.ensures in
-    let put-above-one = c.before.before.put-above-one.ensures in
+    let write-body-form-2 = c.before.before.before.before.before.before.write_body_form.ensures in
+    let put-above-one = c.before.before.put_above_one.ensures in
     numbered_as _ _ _ _ _ _ _ _ (entry_body _ _ _ context _ n-bound _ node-at-same _ match-keys3) put-above-one.1 (numbered_one _ _ _ _ _ _ (room_as _ _ _ _ _ (entry_body _ _ _ context _ n-bound _ node-at-same _ match-keys3) room) _ _ _ write-body-form-2 put-above-one.0))
     (λ c. c.before.before.put-leaf3.auto.1.1.1.1.0)
     (λ c. let (_, (n-bound, (context, _))) = c.before.before.before.before.before.before.before.before.before.before.requires in
     let node-at-same = c.before.before.before.before.before.before.node_at.ensures.same in
     let put-leaf3 = c.before.before.put-leaf3.ensures in
     numbered_as _ _ _ _ _ _ _ _ (parameter_body _ _ _ context _ n-bound _ node-at-same _ c.before.before.before.before.match.keys4) put-leaf3.1 (numbered_leaf _ _ _ _ _ _ _ _ put-leaf3.0))
-    (λ c. c.before.before.write-body-operator.auto.1.1.1.1.1.0) (λ c. c.before.before.write-body-operator.ensures)
-    (λ c. c.before.before.write-body-negation.auto.1.1.1.1.1.0) (λ c. c.before.before.write-body-negation.ensures)
+    (λ c. c.before.before.write_body_operator.auto.1.1.1.1.1.0) (λ c. c.before.before.write_body_operator.ensures)
+    (λ c. c.before.before.write_body_negation.auto.1.1.1.1.1.0) (λ c. c.before.before.write_body_negation.ensures)
     (λ c. c.before.before.put-leaf4.auto.1.1.1.1.0)
     (λ c. let (_, (n-bound, (context, _))) = c.before.before.before.before.before.before.before.before.before.before.requires in
     let node-at-same = c.before.before.before.before.before.before.node_at.ensures.same in
@@ -149,20 +149,20 @@ pub +write-body-form-write-body-negation-write-body-operator-spec : {M : Type 1}
     let node-at-same = c.before.before.before.before.before.before.before.node_at.ensures.same in
     let is_public_law = c.before.before.before.before.before.before.is_public.ensures in
     let if1-taken = c.before.before.before.before.before.if1.true in
-    room_above_one _ _ _ _ _ _ (room_as _ _ _ _ _ (negation_body _ _ _ context _ n-bound _ node-at-same _ is_public_law if1-taken _ (kind_as _ _ 7 (sym node-at-same) kind-at-is)) room) _ _ c.before.before.before.write-body-form.ensures)
+    room_above_one _ _ _ _ _ _ (room_as _ _ _ _ _ (negation_body _ _ _ context _ n-bound _ node-at-same _ is_public_law if1-taken _ (kind_as _ _ 7 (sym node-at-same) kind-at-is)) room) _ _ c.before.before.before.write_body_form.ensures)
     (λ c κs. let (_, (_, (_, (_, (_, room))))) = c.before.before.before.before.before.before.before.requires in room_any _ _ _ _ room)
-    (λ c. c.before.before.put-above-one.auto.1.1.1.0 ∙ c.before.before.before.before.before.before.write-body-form.auto.1.1.1.1.1.0)
+    (λ c. c.before.before.put_above_one.auto.1.1.1.0 ∙ c.before.before.before.before.before.before.write_body_form.auto.1.1.1.1.1.0)
     (λ c. let (_, (kind-at-is, (n-bound, (context, (_, room))))) = c.before.before.before.before.before.before.before.before.before.before.before.before.before.before.requires in
     let node-at-same = c.before.before.before.before.before.before.before.before.before.before.node_at.ensures.same in
     let is_public_law = c.before.before.before.before.before.before.before.before.before.is_public.ensures in
     let if1-taken = c.before.before.before.before.before.before.before.before.if1.true in
-    let write-body-form-2 = c.before.before.before.before.before.before.write-body-form.ensures in
-    let put-above-one = c.before.before.put-above-one.ensures in
+    let write-body-form-2 = c.before.before.before.before.before.before.write_body_form.ensures in
+    let put-above-one = c.before.before.put_above_one.ensures in
     numbered_as _ _ _ _ _ _ _ _ (negation_body _ _ _ context _ n-bound _ node-at-same _ is_public_law if1-taken _ (kind_as _ _ 7 (sym node-at-same) kind-at-is)) put-above-one.1 (numbered_one _ _ _ _ _ _ (room_as _ _ _ _ _ (negation_body _ _ _ context _ n-bound _ node-at-same _ is_public_law if1-taken _ (kind_as _ _ 7 (sym node-at-same) kind-at-is)) room) _ _ _ write-body-form-2 put-above-one.0))
-    (λ c. c.before.before.put-leaf.auto.1.1.1.1.0)
+    (λ c. c.before.before.put_leaf.auto.1.1.1.1.0)
     (λ c. let (_, (kind-at-is, (n-bound, (context, _)))) = c.before.before.before.before.before.before.before.before.before.before.requires in
     let node-at-same = c.before.before.before.before.before.before.node_at.ensures.same in
-    let is_public_law = c.before.before.before.before.before.is_public.ensures in let put-leaf = c.before.before.put-leaf.ensures in
+    let is_public_law = c.before.before.before.before.before.is_public.ensures in let put-leaf = c.before.before.put_leaf.ensures in
     numbered_as _ _ _ _ _ _ _ _ (supplied_negation_body _ _ _ context _ n-bound _ node-at-same _ is_public_law c.before.before.before.before.if1.false _ (kind_as _ _ 7 (sym node-at-same) kind-at-is)) put-leaf.1 (numbered_leaf _ _ _ _ _ _ _ _ put-leaf.0)))
     λ t. write-body-operator-lts.spec (write-body-operator-claims t) (write-body-operator-at t) write-body-operator.Post
     (λ c κs. let (_, (_, (_, (context, _)))) = c.before.before.before.requires in (context.narrow, omega (arith, context.long)))
@@ -187,20 +187,20 @@ pub +write-body-form-write-body-negation-write-body-operator-spec : {M : Type 1}
     let node-at-same = c.before.before.before.before.before.before.before.before.node_at.ensures.same in
     let is_public_law = c.before.before.before.before.before.before.is_public.ensures in
     let if1-taken = c.before.before.before.before.before.if1.true in
-    let right = room_right _ _ _ _ _ _ _ (room_as _ _ _ _ _ (operator_body _ _ _ context _ n-bound _ node-at-same _ is_public_law if1-taken _ (kind_as _ _ 6 (sym node-at-same) kind-at-is) _ c.before.before.before.before.body_count.ensures) room) _ _ c.before.before.write-body-form.ensures in
+    let right = room_right _ _ _ _ _ _ _ (room_as _ _ _ _ _ (operator_body _ _ _ context _ n-bound _ node-at-same _ is_public_law if1-taken _ (kind_as _ _ 6 (sym node-at-same) kind-at-is) _ c.before.before.before.before.body_count.ensures) room) _ _ c.before.before.write_body_form.ensures in
     omega (arith, right.numbers))
     (λ c. let good = c.before.before.before.before.before.before.before.before.before.before.before.before.well-formed in
     let (_, (kind-at-is, (n-bound, (context, (_, room))))) = c.before.before.before.before.before.before.before.before.before.before.before.before.requires in
     let node-at-same = c.before.before.before.before.before.before.before.before.node_at.ensures.same in
     let is_public_law = c.before.before.before.before.before.before.is_public.ensures in
     let if1-taken = c.before.before.before.before.before.if1.true in
-    let right = room_right _ _ _ _ _ _ _ (room_as _ _ _ _ _ (operator_body _ _ _ context _ n-bound _ node-at-same _ is_public_law if1-taken _ (kind_as _ _ 6 (sym node-at-same) kind-at-is) _ c.before.before.before.before.body_count.ensures) room) _ _ c.before.before.write-body-form.ensures in
+    let right = room_right _ _ _ _ _ _ _ (room_as _ _ _ _ _ (operator_body _ _ _ context _ n-bound _ node-at-same _ is_public_law if1-taken _ (kind_as _ _ 6 (sym node-at-same) kind-at-is) _ c.before.before.before.before.body_count.ensures) room) _ _ c.before.before.write_body_form.ensures in
     omega (arith, right.bytes, good))
     (λ c. let (_, (kind-at-is, (n-bound, (context, (_, room))))) = c.before.before.before.before.before.before.before.before.before.before.before.before.requires in
     let node-at-same = c.before.before.before.before.before.before.before.before.node_at.ensures.same in
     let is_public_law = c.before.before.before.before.before.before.is_public.ensures in
     let if1-taken = c.before.before.before.before.before.if1.true in
-    let right = room_right _ _ _ _ _ _ _ (room_as _ _ _ _ _ (operator_body _ _ _ context _ n-bound _ node-at-same _ is_public_law if1-taken _ (kind_as _ _ 6 (sym node-at-same) kind-at-is) _ c.before.before.before.before.body_count.ensures) room) _ _ c.before.before.write-body-form.ensures in
+    let right = room_right _ _ _ _ _ _ _ (room_as _ _ _ _ _ (operator_body _ _ _ context _ n-bound _ node-at-same _ is_public_law if1-taken _ (kind_as _ _ 6 (sym node-at-same) kind-at-is) _ c.before.before.before.before.body_count.ensures) room) _ _ c.before.before.write_body_form.ensures in
     omega (arith, right.numbers))
     (λ c κs. let (_, (kind-at-is, (n-bound, (context, (i-bound, room))))) = c.before.before.before.before.before.before.before.before.before.before.before.before.before.requires in
     let node-at-same = c.before.before.before.before.before.before.before.before.before.node_at.ensures.same in
@@ -209,29 +209,29 @@ pub +write-body-form-write-body-negation-write-body-operator-spec : {M : Type 1}
     let body_count_law = c.before.before.before.before.before.body_count.ensures in
     let less = operands_below (node_reads _ _ _ context _ n-bound _ node-at-same) (kind_as _ _ 6 (sym node-at-same) kind-at-is) in
     let count = operator_count_law _ _ _ context _ n-bound _ node-at-same _ is_public_law if1-taken (kind_as _ _ 6 (sym node-at-same) kind-at-is) in
-    (omega arith, (omega arith, (context, (omega (arith, i-bound, body_count_law), room_right _ _ _ _ _ _ _ (room_as _ _ _ _ _ (operator_body _ _ _ context _ n-bound _ node-at-same _ is_public_law if1-taken _ (kind_as _ _ 6 (sym node-at-same) kind-at-is) _ body_count_law) room) _ _ c.before.before.before.write-body-form.ensures)))))
+    (omega arith, (omega arith, (context, (omega (arith, i-bound, body_count_law), room_right _ _ _ _ _ _ _ (room_as _ _ _ _ _ (operator_body _ _ _ context _ n-bound _ node-at-same _ is_public_law if1-taken _ (kind_as _ _ 6 (sym node-at-same) kind-at-is) _ body_count_law) room) _ _ c.before.before.before.write_body_form.ensures)))))
     (λ c κs. let (_, (kind-at-is, (n-bound, (context, (_, room))))) = c.before.before.before.before.before.before.before.before.before.before.before.before.before.before.before.before.before.requires in
     let node-at-same = c.before.before.before.before.before.before.before.before.before.before.before.before.before.node_at.ensures.same in
     let is_public_law = c.before.before.before.before.before.before.before.before.before.before.before.is_public.ensures in
     let if1-taken = c.before.before.before.before.before.before.before.before.before.before.if1.true in
     let body_count_law = c.before.before.before.before.before.before.before.before.before.body_count.ensures in
-    let write-body-form-2 = c.before.before.before.before.before.before.before.write-body-form.ensures in
+    let write-body-form-2 = c.before.before.before.before.before.before.before.write_body_form.ensures in
     room_above_two _ _ _ _ _ _ _ (room_as _ _ _ _ _ (operator_body _ _ _ context _ n-bound _ node-at-same _ is_public_law if1-taken _ (kind_as _ _ 6 (sym node-at-same) kind-at-is) _ body_count_law) room) _ _ write-body-form-2 _ _ c.before.before.before.write-body-form2.ensures)
     (λ c κs. let (_, (_, (_, (_, (_, room))))) = c.before.before.before.before.before.before.before.before.requires in room_any _ _ _ _ room)
-    (λ c. let write-body-form-kept = c.before.before.before.before.before.before.before.before.before.before.write-body-form.auto.1.1.1.1.1.0 in
+    (λ c. let write-body-form-kept = c.before.before.before.before.before.before.before.before.before.before.write_body_form.auto.1.1.1.1.1.0 in
     let write-body-form2-kept = c.before.before.before.before.before.before.write-body-form2.auto.1.1.1.1.1.0 in
-    c.before.before.put-above-two.auto.1.1.1.1.0 ∙ write-body-form2-kept ∙ write-body-form-kept)
+    c.before.before.put_above_two.auto.1.1.1.1.0 ∙ write-body-form2-kept ∙ write-body-form-kept)
     (λ c. let (_, (kind-at-is, (n-bound, (context, (_, room))))) = c.before.before.before.before.before.before.before.before.before.before.before.before.before.before.before.before.before.before.before.before.requires in
     let node-at-same = c.before.before.before.before.before.before.before.before.before.before.before.before.before.before.before.before.node_at.ensures.same in
     let is_public_law = c.before.before.before.before.before.before.before.before.before.before.before.before.before.before.is_public.ensures in
     let if1-taken = c.before.before.before.before.before.before.before.before.before.before.before.before.before.if1.true in
     let body_count_law = c.before.before.before.before.before.before.before.before.before.before.before.before.body_count.ensures in
-    let write-body-form-2 = c.before.before.before.before.before.before.before.before.before.before.write-body-form.ensures in
+    let write-body-form-2 = c.before.before.before.before.before.before.before.before.before.before.write_body_form.ensures in
     let write-body-form2 = c.before.before.before.before.before.before.write-body-form2.ensures in
-    let put-above-two = c.before.before.put-above-two.ensures in
+    let put-above-two = c.before.before.put_above_two.ensures in
     numbered_as _ _ _ _ _ _ _ _ (operator_body _ _ _ context _ n-bound _ node-at-same _ is_public_law if1-taken _ (kind_as _ _ 6 (sym node-at-same) kind-at-is) _ body_count_law) put-above-two.1 (numbered_two _ _ _ _ _ _ _ (room_as _ _ _ _ _ (operator_body _ _ _ context _ n-bound _ node-at-same _ is_public_law if1-taken _ (kind_as _ _ 6 (sym node-at-same) kind-at-is) _ body_count_law) room) _ _ write-body-form-2 _ _ write-body-form2 _ put-above-two.0))
-    (λ c. c.before.before.put-leaf.auto.1.1.1.1.0)
+    (λ c. c.before.before.put_leaf.auto.1.1.1.1.0)
     (λ c. let (_, (kind-at-is, (n-bound, (context, _)))) = c.before.before.before.before.before.before.before.before.before.before.before.requires in
     let node-at-same = c.before.before.before.before.before.before.before.node_at.ensures.same in
-    let is_public_law = c.before.before.before.before.before.is_public.ensures in let put-leaf = c.before.before.put-leaf.ensures in
+    let is_public_law = c.before.before.before.before.before.is_public.ensures in let put-leaf = c.before.before.put_leaf.ensures in
     numbered_as _ _ _ _ _ _ _ _ (supplied_operator_body _ _ _ context _ n-bound _ node-at-same _ is_public_law c.before.before.before.before.if1.false _ (kind_as _ _ 6 (sym node-at-same) kind-at-is)) put-leaf.1 (numbered_leaf _ _ _ _ _ _ _ _ put-leaf.0))

@@ -66,11 +66,11 @@ operator-returns : (t : ℕ) → write-circuit-operator-lts.Need-returns-2 (writ
 operator-returns t c =
     let (_, (kind-at-is, (n-bound, (context, (_, room))))) = c.before.before.before.before.before.before.before.before.before.before.before.before.before.before.before.before.before.before.before.before.before.requires in
     let node-at-same = c.before.before.before.before.before.before.before.before.before.before.before.before.before.before.before.before.before.node_at.ensures.same in
-    let is-public-division = c.before.before.before.before.before.before.before.before.before.before.before.before.before.before.before.is-public-division.ensures in
+    let is-public-division = c.before.before.before.before.before.before.before.before.before.before.before.before.before.before.before.is_public_division.ensures in
     let if1-left = c.before.before.before.before.before.before.before.before.before.before.before.before.before.before.if1.false in
-    let left = c.before.before.before.before.before.before.before.before.before.before.before.before.write-circuit-form.ensures in
+    let left = c.before.before.before.before.before.before.before.before.before.before.before.before.write_circuit_form.ensures in
     let right = c.before.before.before.before.before.before.write-circuit-form2.ensures in
-    let put-above-two = c.before.before.put-above-two.ensures in
+    let put-above-two = c.before.before.put_above_two.ensures in
     let count = operator_variables _ _ _ context _ n-bound _ node-at-same _ is-public-division if1-left (kind_as _ _ 6 (sym node-at-same) kind-at-is) in
     let tree = operator_circuit _ _ _ context _ n-bound _ node-at-same _ is-public-division if1-left _ (kind_as _ _ 6 (sym node-at-same) kind-at-is) _ left.next in
     record {
@@ -78,8 +78,8 @@ operator-returns t c =
       next = omega (arith, left.next, right.next);
     }
 
-pub +write-circuit-form-write-circuit-operator-spec : {M : Type 1} → statement M
-+write-circuit-form-write-circuit-operator-spec =
+pub +write_circuit_form_write_circuit_operator_spec : {M : Type 1} → statement M
++write_circuit_form_write_circuit_operator_spec =
     close μ-write-circuit-form μ-write-circuit-operator (λ t. write-circuit-form-lts.spec (write-circuit-form-claims t)
     (write-circuit-form-at t) write-circuit-form.Post
     (λ c κs. let (_, (_, (context, _))) = c.before.before.before.requires in (context.narrow, omega (arith, context.long)))
@@ -115,7 +115,7 @@ pub +write-circuit-form-write-circuit-operator-spec : {M : Type 1} → statement
     (λ c κs. let (_, (n-bound, (context, (_, room)))) = c.before.before.before.before.before.before.before.before.before.before.before.requires in
     let node-at-same = c.before.before.before.before.before.before.before.node_at.ensures.same in
     let match-keys6 = c.before.before.before.before.before.match.keys6 in
-    room_above_one _ _ _ _ _ _ (room_as _ _ _ _ _ (negation_circuit _ _ _ context _ n-bound _ node-at-same _ match-keys6) room) _ _ c.before.before.before.write-circuit-form.ensures.form)
+    room_above_one _ _ _ _ _ _ (room_as _ _ _ _ _ (negation_circuit _ _ _ context _ n-bound _ node-at-same _ match-keys6) room) _ _ c.before.before.before.write_circuit_form.ensures.form)
     (λ c κs. let (_, (n-bound, (context, (i-bound, room)))) = c.before.before.before.before.before.before.before.requires in
     let node-at-same = c.before.before.before.node_at.ensures.same in let match-keys7 = c.before.match.keys7 in
     let less = revealed_below (node_reads _ _ _ context _ n-bound _ node-at-same) match-keys7 in
@@ -127,10 +127,10 @@ pub +write-circuit-form-write-circuit-operator-spec : {M : Type 1} → statement
     let node_at_law = c.before.before.before.before.before.before.node_at.ensures in let match-keys1 = c.before.before.before.before.match.keys1 in let put_plain = c.before.before.put_plain.ensures in
     let count = constant_variables _ _ _ context _ n-bound _ node_at_law.same match-keys1 in
     record { form = numbered_as _ _ _ _ _ _ _ _ (constant_circuit _ _ _ context _ n-bound _ node_at_law.same _ match-keys1 node_at_law.small_first) refl (put_plain.0 _); next = omega (arith, put_plain.1) })
-    (λ c. c.before.before.put-variable.auto.1.1.0)
+    (λ c. c.before.before.put_variable.auto.1.1.0)
     (λ c. let (_, (n-bound, (context, _))) = c.before.before.before.before.before.before.before.before.before.before.before.requires in
     let node-at-same = c.before.before.before.before.before.before.before.node_at.ensures.same in
-    let match-keys2 = c.before.before.before.before.before.match.keys2 in let put-variable = c.before.before.put-variable.ensures in
+    let match-keys2 = c.before.before.before.before.before.match.keys2 in let put-variable = c.before.before.put_variable.ensures in
     let count = field_variables _ _ _ context _ n-bound _ node-at-same match-keys2 in
     record { form = numbered_as _ _ _ _ _ _ _ _ (field_circuit _ _ _ context _ n-bound _ node-at-same _ c.before.before.before.before.is_public.ensures _ match-keys2) refl (put-variable.0 _); next = omega (arith, put-variable.1) })
     (λ c. c.before.before.put-variable2.auto.1.1.0)
@@ -146,13 +146,13 @@ pub +write-circuit-form-write-circuit-operator-spec : {M : Type 1} → statement
     let match-keys4 = c.before.before.before.before.before.match.keys4 in let put-variable = c.before.before.put-variable3.ensures in
     let count = parameter_variables _ _ _ context _ n-bound _ node-at-same match-keys4 in
     record { form = numbered_as _ _ _ _ _ _ _ _ (parameter_circuit _ _ _ context _ n-bound _ node-at-same _ c.before.before.before.before.is-public3.ensures _ match-keys4) refl (put-variable.0 _); next = omega (arith, put-variable.1) })
-    (λ c. c.before.before.write-circuit-operator.auto.1.1.1.1.1.0) (λ c. c.before.before.write-circuit-operator.ensures)
-    (λ c. c.before.before.put-above-one.auto.1.1.1.0 ∙ c.before.before.before.before.before.before.write-circuit-form.auto.1.1.1.1.1.0)
+    (λ c. c.before.before.write_circuit_operator.auto.1.1.1.1.1.0) (λ c. c.before.before.write_circuit_operator.ensures)
+    (λ c. c.before.before.put_above_one.auto.1.1.1.0 ∙ c.before.before.before.before.before.before.write_circuit_form.auto.1.1.1.1.1.0)
     (λ c. let (_, (n-bound, (context, (_, room)))) = c.before.before.before.before.before.before.before.before.before.before.before.before.before.before.requires in
     let node-at-same = c.before.before.before.before.before.before.before.before.before.before.node_at.ensures.same in
     let match-keys6 = c.before.before.before.before.before.before.before.before.match.keys6 in
-    let part = c.before.before.before.before.before.before.write-circuit-form.ensures in
-    let put-above-one = c.before.before.put-above-one.ensures in
+    let part = c.before.before.before.before.before.before.write_circuit_form.ensures in
+    let put-above-one = c.before.before.put_above_one.ensures in
     let count = negation_variables _ _ _ context _ n-bound _ node-at-same match-keys6 in record {
       form = numbered_as _ _ _ _ _ _ _ _ (negation_circuit _ _ _ context _ n-bound _ node-at-same _ match-keys6) put-above-one.1 (numbered_one _ _ _ _ _ _ (room_as _ _ _ _ _ (negation_circuit _ _ _ context _ n-bound _ node-at-same _ match-keys6) room) _ _ _ part.form put-above-one.0);
       next = omega (arith, part.next);
@@ -176,75 +176,75 @@ pub +write-circuit-form-write-circuit-operator-spec : {M : Type 1} → statement
     (λ c κs. let (_, (kind-at-is, (n-bound, (context, (i-bound, _))))) = c.before.before.before.before.before.before.before.requires in
     let node-at-same = c.before.before.before.node_at.ensures.same in
     let less = operands_below (node_reads _ _ _ context _ n-bound _ node-at-same) (kind_as _ _ 6 (sym node-at-same) kind-at-is) in
-    let count = division_variables _ _ _ context _ n-bound _ node-at-same _ c.before.is-public-division.ensures c.if1.true (kind_as _ _ 6 (sym node-at-same) kind-at-is) in
+    let count = division_variables _ _ _ context _ n-bound _ node-at-same _ c.before.is_public_division.ensures c.if1.true (kind_as _ _ 6 (sym node-at-same) kind-at-is) in
     (omega arith, (context, omega (arith, i-bound))))
     (λ c. let (_, (kind-at-is, (n-bound, (context, (i-bound, _))))) = c.before.before.before.before.before.before.before.before.requires in
     let node-at-same = c.before.before.before.before.node_at.ensures.same in
-    let count = division_variables _ _ _ context _ n-bound _ node-at-same _ c.before.before.is-public-division.ensures c.before.if1.true (kind_as _ _ 6 (sym node-at-same) kind-at-is) in
+    let count = division_variables _ _ _ context _ n-bound _ node-at-same _ c.before.before.is_public_division.ensures c.before.if1.true (kind_as _ _ 6 (sym node-at-same) kind-at-is) in
     omega (arith, i-bound, c.body_count.ensures))
     (λ c κs. let (_, (kind-at-is, (n-bound, (context, (i-bound, _))))) = c.before.before.before.before.before.before.before.before.requires in
     let node-at-same = c.before.before.before.before.node_at.ensures.same in
     let less = operands_below (node_reads _ _ _ context _ n-bound _ node-at-same) (kind_as _ _ 6 (sym node-at-same) kind-at-is) in
-    let count = division_variables _ _ _ context _ n-bound _ node-at-same _ c.before.before.is-public-division.ensures c.before.if1.true (kind_as _ _ 6 (sym node-at-same) kind-at-is) in
+    let count = division_variables _ _ _ context _ n-bound _ node-at-same _ c.before.before.is_public_division.ensures c.before.if1.true (kind_as _ _ 6 (sym node-at-same) kind-at-is) in
     (omega arith, (context, omega (arith, i-bound))))
     (λ c. let (_, (kind-at-is, (n-bound, (context, (i-bound, _))))) = c.before.before.before.before.before.before.before.before.before.requires in
     let node-at-same = c.before.before.before.before.before.node_at.ensures.same in
-    let count = division_variables _ _ _ context _ n-bound _ node-at-same _ c.before.before.before.is-public-division.ensures c.before.before.if1.true (kind_as _ _ 6 (sym node-at-same) kind-at-is) in
+    let count = division_variables _ _ _ context _ n-bound _ node-at-same _ c.before.before.before.is_public_division.ensures c.before.before.if1.true (kind_as _ _ 6 (sym node-at-same) kind-at-is) in
     omega (arith, i-bound, c.before.body_count.ensures, c.body-count2.ensures))
     (λ c κs. let (_, (kind-at-is, (n-bound, (context, (i-bound, room))))) = c.before.before.before.before.before.before.before.before.before.before.requires in
     let node-at-same = c.before.before.before.before.before.before.node_at.ensures.same in
-    let count = division_variables _ _ _ context _ n-bound _ node-at-same _ c.before.before.before.before.is-public-division.ensures c.before.before.before.if1.true (kind_as _ _ 6 (sym node-at-same) kind-at-is) in
+    let count = division_variables _ _ _ context _ n-bound _ node-at-same _ c.before.before.before.before.is_public_division.ensures c.before.before.before.if1.true (kind_as _ _ 6 (sym node-at-same) kind-at-is) in
     (omega (arith, i-bound, c.before.before.body_count.ensures, c.before.body-count2.ensures), room_any _ _ _ _ room))
     (λ c κs. let (_, (kind-at-is, (n-bound, (context, (i-bound, room))))) = c.before.before.before.before.before.before.before.before.requires in
     let node-at-same = c.before.before.before.before.node_at.ensures.same in
-    let is-public-division = c.before.before.is-public-division.ensures in let if1-left = c.before.if1.false in
+    let is-public-division = c.before.before.is_public_division.ensures in let if1-left = c.before.if1.false in
     let less = operands_below (node_reads _ _ _ context _ n-bound _ node-at-same) (kind_as _ _ 6 (sym node-at-same) kind-at-is) in
     let count = operator_variables _ _ _ context _ n-bound _ node-at-same _ is-public-division if1-left (kind_as _ _ 6 (sym node-at-same) kind-at-is) in
     (omega arith, (omega arith, (context, (omega (arith, i-bound), room_left _ _ _ _ _ _ _ (room_as _ _ _ _ _ (operator_circuit _ _ _ context _ n-bound _ node-at-same _ is-public-division if1-left _ (kind_as _ _ 6 (sym node-at-same) kind-at-is) _ refl) room))))))
     (λ c. let (_, (kind-at-is, (n-bound, (context, (_, room))))) = c.before.before.before.before.before.before.before.before.before.before.before.before.requires in
     let node-at-same = c.before.before.before.before.before.before.before.before.node_at.ensures.same in
-    let is-public-division = c.before.before.before.before.before.before.is-public-division.ensures in
+    let is-public-division = c.before.before.before.before.before.before.is_public_division.ensures in
     let if1-left = c.before.before.before.before.before.if1.false in
-    let right = room_right _ _ _ _ _ _ _ (room_as _ _ _ _ _ (operator_circuit _ _ _ context _ n-bound _ node-at-same _ is-public-division if1-left _ (kind_as _ _ 6 (sym node-at-same) kind-at-is) _ refl) room) _ _ c.before.before.before.write-circuit-form.ensures.form in
+    let right = room_right _ _ _ _ _ _ _ (room_as _ _ _ _ _ (operator_circuit _ _ _ context _ n-bound _ node-at-same _ is-public-division if1-left _ (kind_as _ _ 6 (sym node-at-same) kind-at-is) _ refl) room) _ _ c.before.before.before.write_circuit_form.ensures.form in
     omega (arith, right.numbers))
     (λ c. let good = c.before.before.before.before.before.before.before.before.before.before.before.before.well-formed in
     let (_, (kind-at-is, (n-bound, (context, (_, room))))) = c.before.before.before.before.before.before.before.before.before.before.before.before.requires in
     let node-at-same = c.before.before.before.before.before.before.before.before.node_at.ensures.same in
-    let is-public-division = c.before.before.before.before.before.before.is-public-division.ensures in
+    let is-public-division = c.before.before.before.before.before.before.is_public_division.ensures in
     let if1-left = c.before.before.before.before.before.if1.false in
-    let right = room_right _ _ _ _ _ _ _ (room_as _ _ _ _ _ (operator_circuit _ _ _ context _ n-bound _ node-at-same _ is-public-division if1-left _ (kind_as _ _ 6 (sym node-at-same) kind-at-is) _ refl) room) _ _ c.before.before.before.write-circuit-form.ensures.form in
+    let right = room_right _ _ _ _ _ _ _ (room_as _ _ _ _ _ (operator_circuit _ _ _ context _ n-bound _ node-at-same _ is-public-division if1-left _ (kind_as _ _ 6 (sym node-at-same) kind-at-is) _ refl) room) _ _ c.before.before.before.write_circuit_form.ensures.form in
     omega (arith, right.bytes, good))
     (λ c. let (_, (kind-at-is, (n-bound, (context, (_, room))))) = c.before.before.before.before.before.before.before.before.before.before.before.before.before.requires in
     let node-at-same = c.before.before.before.before.before.before.before.before.before.node_at.ensures.same in
-    let is-public-division = c.before.before.before.before.before.before.before.is-public-division.ensures in
+    let is-public-division = c.before.before.before.before.before.before.before.is_public_division.ensures in
     let if1-left = c.before.before.before.before.before.before.if1.false in
-    let right = room_right _ _ _ _ _ _ _ (room_as _ _ _ _ _ (operator_circuit _ _ _ context _ n-bound _ node-at-same _ is-public-division if1-left _ (kind_as _ _ 6 (sym node-at-same) kind-at-is) _ refl) room) _ _ c.before.before.before.before.write-circuit-form.ensures.form in
+    let right = room_right _ _ _ _ _ _ _ (room_as _ _ _ _ _ (operator_circuit _ _ _ context _ n-bound _ node-at-same _ is-public-division if1-left _ (kind_as _ _ 6 (sym node-at-same) kind-at-is) _ refl) room) _ _ c.before.before.before.before.write_circuit_form.ensures.form in
     omega (arith, right.numbers))
     (λ c κs. let (_, (kind-at-is, (n-bound, (context, (i-bound, room))))) = c.before.before.before.before.before.before.before.before.before.before.before.before.before.before.requires in
     let node-at-same = c.before.before.before.before.before.before.before.before.before.before.node_at.ensures.same in
-    let is-public-division = c.before.before.before.before.before.before.before.before.is-public-division.ensures in
+    let is-public-division = c.before.before.before.before.before.before.before.before.is_public_division.ensures in
     let if1-left = c.before.before.before.before.before.before.before.if1.false in
-    let left = c.before.before.before.before.before.write-circuit-form.ensures in
+    let left = c.before.before.before.before.before.write_circuit_form.ensures in
     let less = operands_below (node_reads _ _ _ context _ n-bound _ node-at-same) (kind_as _ _ 6 (sym node-at-same) kind-at-is) in
     let count = operator_variables _ _ _ context _ n-bound _ node-at-same _ is-public-division if1-left (kind_as _ _ 6 (sym node-at-same) kind-at-is) in
     (omega arith, (omega arith, (context, (omega (arith, i-bound, left.next), room_right _ _ _ _ _ _ _ (room_as _ _ _ _ _ (operator_circuit _ _ _ context _ n-bound _ node-at-same _ is-public-division if1-left _ (kind_as _ _ 6 (sym node-at-same) kind-at-is) _ left.next) room) _ _ left.form)))))
     (λ c κs. let (_, (kind-at-is, (n-bound, (context, (_, room))))) = c.before.before.before.before.before.before.before.before.before.before.before.before.before.before.before.before.before.before.requires in
     let node-at-same = c.before.before.before.before.before.before.before.before.before.before.before.before.before.before.node_at.ensures.same in
-    let is-public-division = c.before.before.before.before.before.before.before.before.before.before.before.before.is-public-division.ensures in
+    let is-public-division = c.before.before.before.before.before.before.before.before.before.before.before.before.is_public_division.ensures in
     let if1-left = c.before.before.before.before.before.before.before.before.before.before.before.if1.false in
-    let left = c.before.before.before.before.before.before.before.before.before.write-circuit-form.ensures in
+    let left = c.before.before.before.before.before.before.before.before.before.write_circuit_form.ensures in
     room_above_two _ _ _ _ _ _ _ (room_as _ _ _ _ _ (operator_circuit _ _ _ context _ n-bound _ node-at-same _ is-public-division if1-left _ (kind_as _ _ 6 (sym node-at-same) kind-at-is) _ left.next) room) _ _ left.form _ _ c.before.before.before.write-circuit-form2.ensures.form)
-    (λ c. c.before.before.put-variable.auto.1.1.0)
+    (λ c. c.before.before.put_variable.auto.1.1.0)
     (λ c. let (_, (kind-at-is, (n-bound, (context, _)))) = c.before.before.before.before.before.before.before.before.before.before.before.before.before.requires in
     let node-at-same = c.before.before.before.before.before.before.before.before.before.node_at.ensures.same in
-    let is-public-division = c.before.before.before.before.before.before.before.is-public-division.ensures in
+    let is-public-division = c.before.before.before.before.before.before.before.is_public_division.ensures in
     let if1-taken = c.before.before.before.before.before.before.if1.true in
-    let body_count_law = c.before.before.before.before.before.body_count.ensures in let body-count2 = c.before.before.before.before.body-count2.ensures in let put-variable = c.before.before.put-variable.ensures in
+    let body_count_law = c.before.before.before.before.before.body_count.ensures in let body-count2 = c.before.before.before.before.body-count2.ensures in let put-variable = c.before.before.put_variable.ensures in
     let count = division_variables _ _ _ context _ n-bound _ node-at-same _ is-public-division if1-taken (kind_as _ _ 6 (sym node-at-same) kind-at-is) in
     record {
       form = numbered_as _ _ _ _ _ _ _ _ (division_circuit _ _ _ context _ n-bound _ node-at-same _ is-public-division if1-taken _ (kind_as _ _ 6 (sym node-at-same) kind-at-is) _ _ body_count_law body-count2) refl (put-variable.0 _);
       next = omega (arith, put-variable.1, body_count_law, body-count2);
     })
-    (λ c. let write-circuit-form-kept = c.before.before.before.before.before.before.before.before.before.before.before.before.write-circuit-form.auto.1.1.1.1.1.0 in
+    (λ c. let write-circuit-form-kept = c.before.before.before.before.before.before.before.before.before.before.before.before.write_circuit_form.auto.1.1.1.1.1.0 in
     let write-circuit-form2-kept = c.before.before.before.before.before.before.write-circuit-form2.auto.1.1.1.1.1.0 in
-    c.before.before.put-above-two.auto.1.1.1.1.0 ∙ write-circuit-form2-kept ∙ write-circuit-form-kept) (operator-returns t)
+    c.before.before.put_above_two.auto.1.1.1.1.0 ∙ write-circuit-form2-kept ∙ write-circuit-form-kept) (operator-returns t)

@@ -2,5 +2,5 @@
 use Rattle.kit.specs.Names.{arith, eq-eqb, ne_eqb}
 use Rattle.write_fields.proofs.written_type as own
 
-pub written-type-spec : {M : Type 1} → own.Statement.statement M
-written-type-spec = own.Tie.close (own.Tie.spec (λ c. (rw (eq-eqb _ 0 c.if1.taken), omega arith)) (λ c. (rw (ne_eqb _ 0 c.if1.left), omega arith)))
+pub written_type_spec : {M : Type 1} → own.Statement.statement M
+written_type_spec = own.Tie.close (own.Tie.spec (λ c. (rw (eq-eqb _ 0 c.if1.taken), omega arith)) (λ c. (rw (ne_eqb _ 0 c.if1.left), omega arith)))

@@ -2,5 +2,5 @@
 use Rattle.kit.specs.Names.{sym, ℕ, length-replicate}
 use Rattle.write_output.proofs.short_written_room as own
 
-pub short-written-room-spec : {M : Type 1} → own.Statement.statement M
-short-written-room-spec = own.Tie.close (own.Tie.spec (λ c. sym (length-replicate {0} {A = ℕ} 9172 0)))
+pub short_written_room_spec : {M : Type 1} → own.Statement.statement M
+short_written_room_spec = own.Tie.close (own.Tie.spec (λ c. sym (length-replicate {0} {A = ℕ} 9172 0)))

@@ -2,5 +2,5 @@
 use Rattle.kit.specs.Names.{sym, ℕ, length-replicate}
 use Rattle.write_output.proofs.tiny_written_room as own
 
-pub tiny-written-room-spec : {M : Type 1} → own.Statement.statement M
-tiny-written-room-spec = own.Tie.close (own.Tie.spec (λ c. sym (length-replicate {0} {A = ℕ} 2016 0)))
+pub tiny_written_room_spec : {M : Type 1} → own.Statement.statement M
+tiny_written_room_spec = own.Tie.close (own.Tie.spec (λ c. sym (length-replicate {0} {A = ℕ} 2016 0)))

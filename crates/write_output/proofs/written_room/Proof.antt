@@ -2,5 +2,5 @@
 use Rattle.kit.specs.Names.{sym, ℕ, length-replicate}
 use Rattle.write_output.proofs.written_room as own
 
-pub written-room-spec : {M : Type 1} → own.Statement.statement M
-written-room-spec = own.Tie.close (own.Tie.spec (λ c. sym (length-replicate {0} {A = ℕ} 37844 0)))
+pub written_room_spec : {M : Type 1} → own.Statement.statement M
+written_room_spec = own.Tie.close (own.Tie.spec (λ c. sym (length-replicate {0} {A = ℕ} 37844 0)))

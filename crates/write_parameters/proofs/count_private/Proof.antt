@@ -1,5 +1,5 @@
 -- The loop's invariant: those counted and those left are all.
-use Rattle.kit.specs.Names.{◌≡◌, ◌+◌, ◌*◌, ◌≤◌, arith, needs}
+use Rattle.kit.specs.Names.{◌≡◌, ◌+◌, ◌*◌, ◌≤◌, arith, rules}
 use Rattle.write_parameters.specs.Parameters.{private_count}
 use Rattle.write_parameters.proofs.Parameters.{private_next, private_done}
 use Rattle.write_parameters.proofs.count_private as own
@@ -11,13 +11,13 @@ Inv-loop file start count place₀ left₀ private₀ place left private =
 abbrev μ-loop : own.Tie.MeasureT-loop
 μ-loop file start count place₀ left₀ private₀ place left private = left
 
-pub count-private-spec : {M : Type 1} → own.Statement.statement M
-count-private-spec =
+pub count_private_spec : {M : Type 1} → own.Statement.statement M
+count_private_spec =
     own.Tie.close (own.Tie.spec Inv-loop μ-loop (λ c. (omega arith, omega arith, omega arith))
-    (λ c. search needs) (λ c κs. search needs) (λ c κs. search needs) (λ c. search needs) (λ c. search needs) (λ c. search needs)
-    (λ c. search needs)
+    (λ c. search rules) (λ c κs. search rules) (λ c κs. search rules) (λ c. search rules) (λ c. search rules) (λ c. search rules)
+    (λ c. search rules)
     (λ c. let args-file = c.before.before.before.before.before.args.file.now in let loop = c.before.before.before.loop in
     let (private_is_law, _, _) = c.before.before.before.loop.inv in
-    (private_next args-file _ loop.left loop.place _ _ _ (omega arith) c.one-if-private.ensures.0 c.before.byte_at.ensures.0 private_is_law, omega arith, omega arith))
+    (private_next args-file _ loop.left loop.place _ _ _ (omega arith) c.one_if_private.ensures.0 c.before.byte_at.ensures.0 private_is_law, omega arith, omega arith))
     (λ c. let loop = c.before.loop in let (private_is_law, _, _) = c.before.loop.inv in
     private_done c.before.before.before.args.file.now _ loop.left loop.place _ (omega arith) private_is_law))

@@ -22,8 +22,8 @@ put-steps-below t = and 5 put-steps-kinds.ps (falls 5 put-steps-kinds.ps ◌<◌
 abbrev put-steps-claims : ℕ → put-steps-lts.Claims
 put-steps-claims t = (put-step-reads.Asked, put-step-reads.Learnt, put-number-reads.Asked, put-number-reads.Learnt, put-steps-below t, put-steps.Post)
 
-pub +put-steps-spec : {M : Type 1} → statement M
-+put-steps-spec =
+pub +put_steps_spec : {M : Type 1} → statement M
++put_steps_spec =
     close μ-put-steps (λ t. put-steps-lts.spec (put-steps-claims t) (put-steps-at t) put-steps.Post
     (λ c. let (_, (_, (readable, _))) = c.before.before.before.before.before.before.requires in let some = c.if1.false in
     omega (arith, c.before.before.before.before.before.before.well-formed.1.1.0, readable.space))
@@ -103,7 +103,7 @@ pub +put-steps-spec : {M : Type 1} → statement M
     let if2-taken = c.before.before.before.before.before.before.before.before.before.before.before.if2.true in
     let put_step = c.before.before.before.before.before.before.put_step in
     let fits = root_fits _ _ _ _ _ _ _ (room_same _ _ _ _ _ _ _ (steps_read _ _ _ _ _ if1-left if2-taken) steps-room) _ _ put_step.ensures _ refl in
-    let later = room_steps _ _ _ _ _ _ _ (room_same _ _ _ _ _ _ _ (steps_read _ _ _ _ _ if1-left if2-taken) steps-room) _ _ put_step.ensures _ c.before.before.put-number.ensures in
+    let later = room_steps _ _ _ _ _ _ _ (room_same _ _ _ _ _ _ _ (steps_read _ _ _ _ _ if1-left if2-taken) steps-room) _ _ put_step.ensures _ c.before.before.put_number.ensures in
     omega (arith, later.bytes, put_step.auto.1.1.1.1.1.1.0, good))
     (λ c. let (_, (_, (_, steps-room))) = c.before.before.before.before.before.before.before.before.before.before.before.before.before.before.before.before.before.before.before.requires in
     let if1-left = c.before.before.before.before.before.before.before.before.before.before.before.before.before.if1.false in
@@ -115,22 +115,22 @@ pub +put-steps-spec : {M : Type 1} → statement M
     let if1-left = c.before.before.before.before.before.before.before.before.before.before.before.before.before.before.before.if1.false in
     let if2-taken = c.before.before.before.before.before.before.before.before.before.before.before.before.before.if2.true in
     let put_step = c.before.before.before.before.before.before.before.before.put_step.ensures in let some = if1-left in
-    (omega arith, (context, ((readable_next _ _ _ _ _ if1-left readable), room_steps _ _ _ _ _ _ _ (room_same _ _ _ _ _ _ _ (steps_read _ _ _ _ _ if1-left if2-taken) steps-room) _ _ put_step _ c.before.before.before.before.put-number.ensures))))
+    (omega arith, (context, ((readable_next _ _ _ _ _ if1-left readable), room_steps _ _ _ _ _ _ _ (room_same _ _ _ _ _ _ _ (steps_read _ _ _ _ _ if1-left if2-taken) steps-room) _ _ put_step _ c.before.before.before.before.put_number.ensures))))
     (λ c. let good = c.before.before.before.before.before.before.before.before.before.before.before.before.before.before.before.before.before.before.before.before.before.before.before.before.before.before.before.well-formed.1.1.1.1.0 in
     let (_, (_, (_, steps-room))) = c.before.before.before.before.before.before.before.before.before.before.before.before.before.before.before.before.before.before.before.before.before.before.before.before.before.before.before.requires in
     let if1-left = c.before.before.before.before.before.before.before.before.before.before.before.before.before.before.before.before.before.before.before.before.before.if1.false in
     let if2-taken = c.before.before.before.before.before.before.before.before.before.before.before.before.before.before.before.before.before.before.before.if2.true in
     let put_step = c.before.before.before.before.before.before.before.before.before.before.before.before.before.before.put_step.ensures in
-    let put-number = c.before.before.before.before.before.before.before.before.before.before.put-number in
-    let put-steps-count = c.before.before.before.before.before.put-steps.ensures.count in
+    let put-number = c.before.before.before.before.before.before.before.before.before.before.put_number in
+    let put-steps-count = c.before.before.before.before.before.put_steps.ensures.count in
     let later = room_steps _ _ _ _ _ _ _ (room_same _ _ _ _ _ _ _ (steps_read _ _ _ _ _ if1-left if2-taken) steps-room) _ _ put_step _ put-number.ensures in
     omega (arith, later.space, put-steps-count, put-number.auto.0, good))
     (λ c. let (_, (_, (_, steps-room))) = c.before.before.before.before.before.before.before.before.before.before.before.before.before.before.before.before.before.before.before.before.before.before.before.before.before.before.before.before.requires in
     let if1-left = c.before.before.before.before.before.before.before.before.before.before.before.before.before.before.before.before.before.before.before.before.before.before.if1.false in
     let if2-taken = c.before.before.before.before.before.before.before.before.before.before.before.before.before.before.before.before.before.before.before.before.if2.true in
     let put_step = c.before.before.before.before.before.before.before.before.before.before.before.before.before.before.before.put_step.ensures in
-    let put-number = c.before.before.before.before.before.before.before.before.before.before.before.put-number.ensures in
-    let put-steps-nodes = c.before.before.before.before.before.before.put-steps.ensures.nodes in
+    let put-number = c.before.before.before.before.before.before.before.before.before.before.before.put_number.ensures in
+    let put-steps-nodes = c.before.before.before.before.before.before.put_steps.ensures.nodes in
     let later = room_steps _ _ _ _ _ _ _ (room_same _ _ _ _ _ _ _ (steps_read _ _ _ _ _ if1-left if2-taken) steps-room) _ _ put_step _ put-number in
     omega (arith, later.numbers, put-steps-nodes))
     (λ c. let (_, (_, (readable, _))) = c.before.before.before.before.before.before.before.before.requires in
@@ -141,16 +141,16 @@ pub +put-steps-spec : {M : Type 1} → statement M
     let if1-left = c.before.before.before.before.if1.false in let some = if1-left in
     (omega arith, (context, ((readable_next _ _ _ _ _ if1-left readable), room_same _ _ _ _ _ _ _ (steps_other _ _ _ _ _ if1-left c.before.before.if2.false) steps-room))))
     (λ c. put_same _ _ _ _ _ _ _ _ _ _ (steps_none _ _ _ _ _ c.if1.true) (put_none _ _ _ _ _))
-    (λ c. c.before.before.before.before.before.before.put-steps.auto.1.1.1.1.0 ∙ c.before.before.before.before.before.before.before.before.before.before.before.put-number.auto.0)
+    (λ c. c.before.before.before.before.before.before.put_steps.auto.1.1.1.1.0 ∙ c.before.before.before.before.before.before.before.before.before.before.before.put_number.auto.0)
     (λ c. let put-step-kept = c.before.before.before.before.before.before.before.before.before.before.before.before.before.before.before.put_step.auto.1.1.1.1.1.1.0 in
-    let put-steps-kept = c.before.before.before.before.before.before.put-steps.auto.1.1.1.1.1.0 in
+    let put-steps-kept = c.before.before.before.before.before.before.put_steps.auto.1.1.1.1.1.0 in
     put-steps-kept ∙ put-step-kept)
     (λ c. let (_, (_, (_, steps-room))) = c.before.before.before.before.before.before.before.before.before.before.before.before.before.before.before.before.before.before.before.before.before.before.before.before.before.before.before.before.requires in
     let if1-left = c.before.before.before.before.before.before.before.before.before.before.before.before.before.before.before.before.before.before.before.before.before.before.if1.false in
     let if2-taken = c.before.before.before.before.before.before.before.before.before.before.before.before.before.before.before.before.before.before.before.before.if2.true in
     let put_step = c.before.before.before.before.before.before.before.before.before.before.before.before.before.before.before.put_step.ensures in
-    let put-number = c.before.before.before.before.before.before.before.before.before.before.before.put-number.ensures in
-    let put-steps-2 = c.before.before.before.before.before.before.put-steps.ensures in
+    let put-number = c.before.before.before.before.before.before.before.before.before.before.before.put_number.ensures in
+    let put-steps-2 = c.before.before.before.before.before.before.put_steps.ensures in
     put_same _ _ _ _ _ _ _ _ _ _ (steps_read _ _ _ _ _ if1-left if2-taken) (put_first _ _ _ _ _ _ _ (room_same _ _ _ _ _ _ _ (steps_read _ _ _ _ _ if1-left if2-taken) steps-room) _ _ put_step _ put-number _ _ _ put-steps-2))
     (λ c. c.before.before.before.before.put-steps2.auto.1.1.1.1.0)
     (λ c. c.before.before.before.before.put-steps2.auto.1.1.1.1.1.0)

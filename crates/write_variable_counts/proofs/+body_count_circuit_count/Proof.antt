@@ -40,8 +40,8 @@ body-count-claims t = (node-at-reads.Asked, node-at-reads.Learnt, body-count-bel
 abbrev circuit-count-claims : ℕ → circuit-count-lts.Claims
 circuit-count-claims t = (node-at-reads.Asked, node-at-reads.Learnt, body-count-below t, body_count_law.Post, is-public-division-reads.Asked, is-public-division-reads.Learnt, circuit-count-below t, circuit-count.Post)
 
-pub +body-count-circuit-count-spec : {M : Type 1} → statement M
-+body-count-circuit-count-spec =
+pub +body_count_circuit_count_spec : {M : Type 1} → statement M
++body_count_circuit_count_spec =
     close μ-body-count μ-circuit-count (λ t. body-count-lts.spec (body-count-claims t) (body-count-at t) body_count_law.Post
     (λ c κs. let (_, (_, (context, _))) = c.before.before.requires in (context.narrow, omega (arith, context.long)))
     (λ c κs. let start = c.before.before.before.before in let args = start.args in let (_, (n-bound, (context, _))) = start.requires in
@@ -71,7 +71,7 @@ pub +body-count-circuit-count-spec : {M : Type 1} → statement M
     (λ c. let start = c.before.before.before.before.before.before.before in let args = start.args in
     let (_, (n-bound, (context, body-count-bound))) = start.requires in
     let h = body_supplied_operator (scope_in args.file.now args.function_at) _ _ _ _ (operator_is (node_reads _ _ _ context _ n-bound _ c.before.before.before.before.node_at.ensures.same) c.before.before.before.match.keys5) (sym c.before.before.is_public.ensures ∙ c.before.if1.false) in
-    omega (arith, c.circuit-count.ensures, body-count-bound))
+    omega (arith, c.circuit_count.ensures, body-count-bound))
     (λ c κs. let (_, (n-bound, (context, _))) = c.before.before.before.before.requires in (n-bound, context))
     (λ c κs. let start = c.before.before.before.before.before.before in let args = start.args in let (_, (n-bound, (context, _))) = start.requires in
     let node-at-same = c.before.before.before.node_at.ensures.same in let match-keys6 = c.before.before.match.keys6 in
@@ -105,7 +105,7 @@ pub +body-count-circuit-count-spec : {M : Type 1} → statement M
     omega (arith, c.before.body-count2.ensures, c.body-count3.ensures))
     (λ c. let start = c.before.before.before.before.before.before.before in let args = start.args in let (_, (n-bound, (context, _))) = start.requires in
     let h = body_supplied_operator (scope_in args.file.now args.function_at) _ _ _ _ (operator_is (node_reads _ _ _ context _ n-bound _ c.before.before.before.before.node_at.ensures.same) c.before.before.before.match.keys5) (sym c.before.before.is_public.ensures ∙ c.before.if1.false) in
-    omega (arith, c.circuit-count.ensures))
+    omega (arith, c.circuit_count.ensures))
     (λ c. let (_, (n-bound, (context, _))) = c.before.before.before.before.before.before.before.requires in
     c.body-count4.ensures ∙ body_negation _ _ _ (negation_is (node_reads _ _ _ context _ n-bound _ c.before.before.before.before.node_at.ensures.same) c.before.before.before.match.keys6) (sym c.before.before.is-public2.ensures ∙ c.before.if2.true))
     (λ c. let start = c.before.before.before.before.before.before.before in let args = start.args in let (_, (n-bound, (context, _))) = start.requires in
@@ -131,38 +131,38 @@ pub +body-count-circuit-count-spec : {M : Type 1} → statement M
     (λ c κs. let start = c.before.before.before.before.before.before in let args = start.args in let (_, (n-bound, (context, _))) = start.requires in
     let node-at-same = c.before.before.before.node_at.ensures.same in let match-keys5 = c.before.before.match.keys5 in
     let less = operands_below (node_reads _ _ _ context _ n-bound _ node-at-same) match-keys5 in
-    let h = circuit_division (scope_in args.file.now args.function_at) _ _ _ _ (operator_is (node_reads _ _ _ context _ n-bound _ node-at-same) match-keys5) (sym c.before.is-public-division.ensures ∙ c.if1.true) in
+    let h = circuit_division (scope_in args.file.now args.function_at) _ _ _ _ (operator_is (node_reads _ _ _ context _ n-bound _ node-at-same) match-keys5) (sym c.before.is_public_division.ensures ∙ c.if1.true) in
     (omega arith, (omega arith, (context, omega arith))))
     (λ c κs. let start = c.before.before.before.before.before.before.before in let args = start.args in let (_, (n-bound, (context, _))) = start.requires in
     let node-at-same = c.before.before.before.before.node_at.ensures.same in let match-keys5 = c.before.before.before.match.keys5 in
     let less = operands_below (node_reads _ _ _ context _ n-bound _ node-at-same) match-keys5 in
-    let h = circuit_division (scope_in args.file.now args.function_at) _ _ _ _ (operator_is (node_reads _ _ _ context _ n-bound _ node-at-same) match-keys5) (sym c.before.before.is-public-division.ensures ∙ c.before.if1.true) in
+    let h = circuit_division (scope_in args.file.now args.function_at) _ _ _ _ (operator_is (node_reads _ _ _ context _ n-bound _ node-at-same) match-keys5) (sym c.before.before.is_public_division.ensures ∙ c.before.if1.true) in
     (omega arith, (omega arith, (context, omega arith))))
     (λ c. let start = c.before.before.before.before.before.before.before.before in let args = start.args in
     let (_, (n-bound, (context, circuit-count-bound))) = start.requires in
     let node-at-same = c.before.before.before.before.before.node_at.ensures.same in
-    let h = circuit_division (scope_in args.file.now args.function_at) _ _ _ _ (operator_is (node_reads _ _ _ context _ n-bound _ node-at-same) c.before.before.before.before.match.keys5) (sym c.before.before.before.is-public-division.ensures ∙ c.before.before.if1.true) in
+    let h = circuit_division (scope_in args.file.now args.function_at) _ _ _ _ (operator_is (node_reads _ _ _ context _ n-bound _ node-at-same) c.before.before.before.before.match.keys5) (sym c.before.before.before.is_public_division.ensures ∙ c.before.before.if1.true) in
     omega (arith, c.before.body-count2.ensures, c.body-count3.ensures, circuit-count-bound))
     (λ c. let start = c.before.before.before.before.before.before.before.before in let args = start.args in
     let (_, (n-bound, (context, circuit-count-bound))) = start.requires in
     let node-at-same = c.before.before.before.before.before.node_at.ensures.same in
-    let h = circuit_division (scope_in args.file.now args.function_at) _ _ _ _ (operator_is (node_reads _ _ _ context _ n-bound _ node-at-same) c.before.before.before.before.match.keys5) (sym c.before.before.before.is-public-division.ensures ∙ c.before.before.if1.true) in
+    let h = circuit_division (scope_in args.file.now args.function_at) _ _ _ _ (operator_is (node_reads _ _ _ context _ n-bound _ node-at-same) c.before.before.before.before.match.keys5) (sym c.before.before.before.is_public_division.ensures ∙ c.before.before.if1.true) in
     omega (arith, c.before.body-count2.ensures, c.body-count3.ensures, circuit-count-bound))
     (λ c κs. let start = c.before.before.before.before.before.before in let args = start.args in let (_, (n-bound, (context, _))) = start.requires in
     let node-at-same = c.before.before.before.node_at.ensures.same in let match-keys5 = c.before.before.match.keys5 in
     let less = operands_below (node_reads _ _ _ context _ n-bound _ node-at-same) match-keys5 in
-    let h = circuit_operator (scope_in args.file.now args.function_at) _ _ _ _ (operator_is (node_reads _ _ _ context _ n-bound _ node-at-same) match-keys5) (sym c.before.is-public-division.ensures ∙ c.if1.false) in
+    let h = circuit_operator (scope_in args.file.now args.function_at) _ _ _ _ (operator_is (node_reads _ _ _ context _ n-bound _ node-at-same) match-keys5) (sym c.before.is_public_division.ensures ∙ c.if1.false) in
     (omega arith, (omega arith, (context, omega arith))))
     (λ c κs. let start = c.before.before.before.before.before.before.before in let args = start.args in let (_, (n-bound, (context, _))) = start.requires in
     let node-at-same = c.before.before.before.before.node_at.ensures.same in let match-keys5 = c.before.before.before.match.keys5 in
     let less = operands_below (node_reads _ _ _ context _ n-bound _ node-at-same) match-keys5 in
-    let h = circuit_operator (scope_in args.file.now args.function_at) _ _ _ _ (operator_is (node_reads _ _ _ context _ n-bound _ node-at-same) match-keys5) (sym c.before.before.is-public-division.ensures ∙ c.before.if1.false) in
+    let h = circuit_operator (scope_in args.file.now args.function_at) _ _ _ _ (operator_is (node_reads _ _ _ context _ n-bound _ node-at-same) match-keys5) (sym c.before.before.is_public_division.ensures ∙ c.before.if1.false) in
     (omega arith, (omega arith, (context, omega arith))))
     (λ c. let start = c.before.before.before.before.before.before.before.before in let args = start.args in
     let (_, (n-bound, (context, circuit-count-bound))) = start.requires in
     let node-at-same = c.before.before.before.before.before.node_at.ensures.same in
-    let h = circuit_operator (scope_in args.file.now args.function_at) _ _ _ _ (operator_is (node_reads _ _ _ context _ n-bound _ node-at-same) c.before.before.before.before.match.keys5) (sym c.before.before.before.is-public-division.ensures ∙ c.before.before.if1.false) in
-    omega (arith, c.before.circuit-count.ensures, c.circuit-count2.ensures, circuit-count-bound))
+    let h = circuit_operator (scope_in args.file.now args.function_at) _ _ _ _ (operator_is (node_reads _ _ _ context _ n-bound _ node-at-same) c.before.before.before.before.match.keys5) (sym c.before.before.before.is_public_division.ensures ∙ c.before.before.if1.false) in
+    omega (arith, c.before.circuit_count.ensures, c.circuit-count2.ensures, circuit-count-bound))
     (λ c κs. let start = c.before.before.before.before in let args = start.args in let (_, (n-bound, (context, _))) = start.requires in
     let node-at-same = c.before.node_at.ensures.same in
     let less = part_below (node_reads _ _ _ context _ n-bound _ node-at-same) c.match.keys6 in
@@ -182,12 +182,12 @@ pub +body-count-circuit-count-spec : {M : Type 1} → statement M
     circuit_parameter _ _ _ (parameter_is (node_reads _ _ _ context _ n-bound _ c.before.node_at.ensures.same) c.match.keys4))
     (λ c. let start = c.before.before.before.before.before.before.before.before in let args = start.args in
     let (_, (n-bound, (context, _))) = start.requires in let node-at-same = c.before.before.before.before.before.node_at.ensures.same in
-    let h = circuit_division (scope_in args.file.now args.function_at) _ _ _ _ (operator_is (node_reads _ _ _ context _ n-bound _ node-at-same) c.before.before.before.before.match.keys5) (sym c.before.before.before.is-public-division.ensures ∙ c.before.before.if1.true) in
+    let h = circuit_division (scope_in args.file.now args.function_at) _ _ _ _ (operator_is (node_reads _ _ _ context _ n-bound _ node-at-same) c.before.before.before.before.match.keys5) (sym c.before.before.before.is_public_division.ensures ∙ c.before.before.if1.true) in
     omega (arith, c.before.body-count2.ensures, c.body-count3.ensures))
     (λ c. let start = c.before.before.before.before.before.before.before.before in let args = start.args in
     let (_, (n-bound, (context, _))) = start.requires in let node-at-same = c.before.before.before.before.before.node_at.ensures.same in
-    let h = circuit_operator (scope_in args.file.now args.function_at) _ _ _ _ (operator_is (node_reads _ _ _ context _ n-bound _ node-at-same) c.before.before.before.before.match.keys5) (sym c.before.before.before.is-public-division.ensures ∙ c.before.before.if1.false) in
-    omega (arith, c.before.circuit-count.ensures, c.circuit-count2.ensures))
+    let h = circuit_operator (scope_in args.file.now args.function_at) _ _ _ _ (operator_is (node_reads _ _ _ context _ n-bound _ node-at-same) c.before.before.before.before.match.keys5) (sym c.before.before.before.is_public_division.ensures ∙ c.before.before.if1.false) in
+    omega (arith, c.before.circuit_count.ensures, c.circuit-count2.ensures))
     (λ c. let (_, (n-bound, (context, _))) = c.before.before.before.before.before.requires in
     c.circuit-count3.ensures ∙ circuit_negation _ _ _ (negation_is (node_reads _ _ _ context _ n-bound _ c.before.before.node_at.ensures.same) c.before.match.keys6))
     (λ c. let (_, (n-bound, (context, _))) = c.before.before.before.before.before.requires in

@@ -1,5 +1,5 @@
 -- The loop's invariant: those counted and those left are all.
-use Rattle.kit.specs.Names.{◌≡◌, ◌+◌, ◌-◌, ◌≤◌, arith, length, drop, needs}
+use Rattle.kit.specs.Names.{◌≡◌, ◌+◌, ◌-◌, ◌≤◌, arith, length, drop, rules}
 use Rattle.write_variables.specs.PerEntry.{per_entry, of_tag, count_tag}
 use Rattle.write_variables.proofs.PerEntry.{count_next, count_done}
 use Rattle.write_variables.proofs.count_tag as own
@@ -10,11 +10,11 @@ Inv-loop log tag count₀ i₀ count i = (count + length (per_entry (of_tag tag)
 abbrev μ-loop : own.Tie.MeasureT-loop
 μ-loop log tag count₀ i₀ count i = length log - i
 
-pub count-tag-spec : {M : Type 1} → own.Statement.statement M
-count-tag-spec =
+pub count_tag_spec : {M : Type 1} → own.Statement.statement M
+count_tag_spec =
     own.Tie.close (own.Tie.spec Inv-loop μ-loop (λ c. (omega arith, omega arith, omega arith))
-    (λ c. search needs) (λ c. search needs) (λ c. search needs) (λ c κs. search needs) (λ c. search needs) (λ c. search needs)
-    (λ c. search needs)
+    (λ c. search rules) (λ c. search rules) (λ c. search rules) (λ c κs. search rules) (λ c. search rules) (λ c. search rules)
+    (λ c. search rules)
     (λ c. let args = c.before.before.before.before.before.args in let (count_is, _, _) = c.before.before.before.loop.inv in
     (count_next args.log.now args.tag _ _ _ (omega arith) c.one_if_same.ensures.0 count_is, omega arith, omega arith))
     (λ c. let args = c.before.before.before.args in let (count_is, _, _) = c.before.loop.inv in

@@ -1,5 +1,5 @@
 -- Each kind changes its own part.
-use Rattle.kit.specs.Names.{refl, needs}
+use Rattle.kit.specs.Names.{refl, rules}
 use Rattle.test_ledgers.specs.Damage.{damaged_head}
 use Rattle.test_ledgers.proofs.Damages.{head_of, other_head}
 use Rattle.test_ledgers.proofs.damage.damaged_head as own
@@ -47,7 +47,7 @@ returns-10 c = head_of c.before.args.l c.before.args.kind 10 _ c.match.keys10 re
 returns-11 : own.Tie.Need-returns-11
 returns-11 c = other_head c.before.args.l c.before.args.kind c.match.rest.0.0.0.0.0.0.0.0.0.1 c.match.rest.0.0.0.0.0.0.0.0.1 c.match.rest.0.0.0.0.0.0.0.1 c.match.rest.0.0.0.0.0.0.1 c.match.rest.0.0.0.0.0.1 c.match.rest.0.0.0.0.1 c.match.rest.0.0.0.1 c.match.rest.0.0.1 c.match.rest.0.1 c.match.rest.1
 
-pub damaged-head-spec : {M : Type 1} → own.Statement.statement M
-damaged-head-spec =
+pub damaged_head_spec : {M : Type 1} → own.Statement.statement M
+damaged_head_spec =
     own.Tie.close (own.Tie.spec
-    (λ c. search needs) returns returns-2 returns-3 returns-4 returns-5 returns-6 returns-7 returns-8 returns-9 returns-10 returns-11)
+    (λ c. search rules) returns returns-2 returns-3 returns-4 returns-5 returns-6 returns-7 returns-8 returns-9 returns-10 returns-11)

@@ -1,5 +1,5 @@
 -- Each kind changes one item.
-use Rattle.kit.specs.Names.{refl, needs}
+use Rattle.kit.specs.Names.{refl, rules}
 use Rattle.test_ledgers.specs.Damage.{plain_place, cell_place, damaged_item}
 use Rattle.test_ledgers.proofs.Damages.{parameter_of_law, variable_of_law, place_of, other_item}
 use Rattle.test_ledgers.proofs.damage.damaged_item as own
@@ -8,7 +8,7 @@ returns : own.Tie.Need-returns
 unfolding damaged_item
 returns c =
     parameter_of_law c.before.before.before.args.l c.before.before.before.args.kind 12 _ _ (plain_place 7)
-    c.before.before.match.keys1 c.before.plain.ensures c.with-parameter.ensures refl
+    c.before.before.match.keys1 c.before.plain.ensures c.with_parameter.ensures refl
 
 returns-2 : own.Tie.Need-returns-2
 unfolding damaged_item
@@ -20,7 +20,7 @@ returns-3 : own.Tie.Need-returns-3
 unfolding damaged_item
 returns-3 c =
     variable_of_law c.before.before.before.args.l c.before.before.before.args.kind 14 _ _ (plain_place 7)
-    c.before.before.match.keys3 c.before.plain2.ensures 1 c.with-variable.ensures refl
+    c.before.before.match.keys3 c.before.plain2.ensures 1 c.with_variable.ensures refl
 
 returns-4 : own.Tie.Need-returns-4
 unfolding damaged_item
@@ -38,7 +38,7 @@ returns-6 : own.Tie.Need-returns-6
 unfolding damaged_item
 returns-6 c =
     place_of c.before.before.before.args.l c.before.before.before.args.kind 17 _ _ (plain_place 16)
-    c.before.before.match.keys6 c.before.plain3.ensures 0 c.with-place.ensures refl
+    c.before.before.match.keys6 c.before.plain3.ensures 0 c.with_place.ensures refl
 
 returns-7 : own.Tie.Need-returns-7
 unfolding damaged_item
@@ -65,11 +65,11 @@ returns-10 c =
     given.0.0.0.0.0.0.0.0.1 given.0.0.0.0.0.0.0.1 given.0.0.0.0.0.0.1 given.0.0.0.0.0.1 given.0.0.0.0.1 given.0.0.0.1 given.0.0.1 given.0.1 given.1 _ _
     c.before.cell5.ensures c.with-place5.ensures
 
-pub damaged-item-spec : {M : Type 1} → own.Statement.statement M
-damaged-item-spec =
+pub damaged_item_spec : {M : Type 1} → own.Statement.statement M
+damaged_item_spec =
     own.Tie.close (own.Tie.spec
-    (λ c κs. search needs) (λ c κs. search needs) (λ c κs. search needs) (λ c κs. search needs) (λ c κs. search needs)
-    (λ c κs. search needs) (λ c κs. search needs) (λ c κs. search needs) (λ c κs. search needs) (λ c κs. search needs)
-    (λ c κs. search needs) (λ c κs. search needs) (λ c κs. search needs) (λ c κs. search needs) (λ c κs. search needs)
-    (λ c κs. search needs) (λ c κs. search needs) (λ c κs. search needs) (λ c κs. search needs) (λ c κs. search needs)
+    (λ c κs. search rules) (λ c κs. search rules) (λ c κs. search rules) (λ c κs. search rules) (λ c κs. search rules)
+    (λ c κs. search rules) (λ c κs. search rules) (λ c κs. search rules) (λ c κs. search rules) (λ c κs. search rules)
+    (λ c κs. search rules) (λ c κs. search rules) (λ c κs. search rules) (λ c κs. search rules) (λ c κs. search rules)
+    (λ c κs. search rules) (λ c κs. search rules) (λ c κs. search rules) (λ c κs. search rules) (λ c κs. search rules)
     returns returns-2 returns-3 returns-4 returns-5 returns-6 returns-7 returns-8 returns-9 returns-10)

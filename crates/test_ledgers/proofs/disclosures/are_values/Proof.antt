@@ -1,5 +1,5 @@
 -- Each turn compares one value more.
-use Rattle.kit.specs.Names.{◌+◌, ◌*◌, ◌-◌, ◌≤◌, length, needs}
+use Rattle.kit.specs.Names.{◌+◌, ◌*◌, ◌-◌, ◌≤◌, length, rules}
 use Rattle.test_ledgers.proofs.disclosures.are_values as own
 
 abbrev Inv-loop : own.Tie.InvT-loop
@@ -10,8 +10,8 @@ abbrev μ-loop : own.Tie.MeasureT-loop
 μ-loop input from count values at₀ i₀ at i =
     length values - i
 
-pub are-values-spec : {M : Type 1} → own.Statement.statement M
-are-values-spec =
-    own.Tie.close (own.Tie.spec Inv-loop μ-loop (λ c. search needs) (λ c. search needs) (λ c. search needs) (λ c. search needs)
-    (λ c κs. search needs) (λ c. search needs) (λ c. search needs) (λ c. search needs) (λ c. search needs) (λ c. search needs)
-    (λ c. search needs))
+pub are_values_spec : {M : Type 1} → own.Statement.statement M
+are_values_spec =
+    own.Tie.close (own.Tie.spec Inv-loop μ-loop (λ c. search rules) (λ c. search rules) (λ c. search rules) (λ c. search rules)
+    (λ c κs. search rules) (λ c. search rules) (λ c. search rules) (λ c. search rules) (λ c. search rules) (λ c. search rules)
+    (λ c. search rules))

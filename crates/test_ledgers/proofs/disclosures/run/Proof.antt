@@ -1,5 +1,5 @@
 -- Each turn runs one call more; the place stays near, however many calls are left.
-use Rattle.kit.specs.Names.{◌+◌, ◌*◌, ◌<◌, ◌≤◌, needs}
+use Rattle.kit.specs.Names.{◌+◌, ◌*◌, ◌<◌, ◌≤◌, rules}
 use Rattle.test_ledgers.proofs.disclosures.run as own
 
 abbrev Inv-loop : own.Tie.InvT-loop
@@ -10,5 +10,5 @@ abbrev μ-loop : own.Tie.MeasureT-loop
 
 pub run_spec : {M : Type 1} → own.Statement.statement M
 run_spec = own.Tie.close
-    (own.Tie.spec Inv-loop μ-loop (λ c κs. search needs) (λ c. search needs) (λ c κs. search needs) (λ c. search needs) (λ c. search needs)
-    (λ c. search needs))
+    (own.Tie.spec Inv-loop μ-loop (λ c κs. search rules) (λ c. search rules) (λ c κs. search rules) (λ c. search rules) (λ c. search rules)
+    (λ c. search rules))

@@ -2,5 +2,5 @@
 use Rattle.kit.specs.Names.{sym, ℕ, length-replicate}
 use Rattle.test_ledgers.proofs.disclosures.value_room as own
 
-pub value-room-spec : {M : Type 1} → own.Statement.statement M
-value-room-spec = own.Tie.close (own.Tie.spec (λ c. sym (length-replicate {0} {A = ℕ} 512 0)))
+pub value_room_spec : {M : Type 1} → own.Statement.statement M
+value_room_spec = own.Tie.close (own.Tie.spec (λ c. sym (length-replicate {0} {A = ℕ} 512 0)))

@@ -1,5 +1,5 @@
 -- Each turn reads one argument more.
-use Rattle.kit.specs.Names.{◌≡◌, ap, sym, ◌++◌, ℕ, ◌+◌, ◌*◌, ◌-◌, ◌≤◌, arith, length, take, length-set, length-replicate, needs}
+use Rattle.kit.specs.Names.{◌≡◌, ap, sym, ◌++◌, ℕ, ◌+◌, ◌*◌, ◌-◌, ◌≤◌, arith, length, take, length-set, length-replicate, rules}
 use Rattle.rehearse_scripts.specs.Scripts.{numbers_at}
 use Rattle.rehearse_scripts.proofs.Calls.{arguments_next, arguments_done}
 use Rattle.test_ledgers.proofs.recorded.arguments as own
@@ -11,16 +11,16 @@ Inv-loop bytes count made₀ at₀ i₀ made at i = ((i ≤ count) × (at ≤ 3 
 abbrev μ-loop : own.Tie.MeasureT-loop
 μ-loop bytes count made₀ at₀ i₀ made at i = count - i
 
-pub arguments-spec : {M : Type 1} → own.Statement.statement M
-arguments-spec =
+pub arguments_spec : {M : Type 1} → own.Statement.statement M
+arguments_spec =
     own.Tie.close (own.Tie.spec Inv-loop μ-loop (λ c. let all = c.before.args in
     ((omega arith, omega arith), (sym (length-replicate {0} {A = ℕ} 255 0), ap (λ (n : ℕ). numbers_at n all.bytes.now 3) (omega arith))))
-    (λ c κs. search needs) (λ c. search needs) (λ c. search needs) (λ c. search needs) (λ c. search needs) (λ c. search needs)
+    (λ c κs. search rules) (λ c. search rules) (λ c. search rules) (λ c. search rules) (λ c. search rules) (λ c. search rules)
     (λ c. let k = c.before.before in (
       (omega arith, omega arith),
       (
         simp length-set k.loop.inv.1.0,
-        arguments_next _ _ _ k.loop.i k.loop.made _ _ c.before.loop-test.taken (omega arith) c.four-bytes-at.ensures
+        arguments_next _ _ _ k.loop.i k.loop.made _ _ c.before.loop-test.taken (omega arith) c.four_bytes_at.ensures
             k.loop.inv.1.1,
       ),
     )) (λ c. let k = c.before in (
