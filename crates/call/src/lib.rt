@@ -1,4 +1,6 @@
 // 01, Runs and views: a call on a ledger, whatever ledger, caller, function and arguments are given.
+#![tactic(auto)]
+
 ghost use Rattle.kit.specs.Names.{◌≡◌, ◌<◌, ◌/◌, ◌≤◌, length};
 ghost use Rattle.ledger_contents.specs.Contents.{contents_of};
 ghost use Rattle.ledger_struct.specs.Ledgers.{ledger_of, ledger_from};

@@ -1,4 +1,6 @@
 // "18. The ledger isn't well formed ..; or a caller is above 15, or the function doesn't exist."
+#![tactic(auto)]
+
 ghost use Rattle.kit.specs.Names.{◌≡◌, ◌/◌, ◌≤◌, leb, length};
 ghost use Rattle.definitions.specs.ContractFile.{function_count};
 ghost use Rattle.definitions.specs.Ledger.{not_callable};

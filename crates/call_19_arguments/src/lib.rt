@@ -1,4 +1,6 @@
 // "19. Arguments differ in number from the parameters, or one is outside its type."
+#![tactic(auto)]
+
 ghost use Rattle.kit.specs.Names.{◌≡◌};
 ghost use Rattle.file_accepted.specs.Context.{parameters_in};
 ghost use Rattle.file_accepted.specs.Functions.{function_start};

@@ -1,5 +1,7 @@
 // 01, Runs and views: the honest call. Its parameters and supplied values are worked out from the original, on opened places, and are then
 // handed to the call with given values, which walks the written body and knows nothing of the original.
+#![tactic(auto)]
+
 ghost use Rattle.kit.specs.Names.{◌≡◌, suc, ◌/◌, ◌≤◌, length};
 ghost use Rattle.definitions.specs.Ledger.{Ledger, call_number, call_with, honest_parameters_of, honest_variables_of};
 ghost use Rattle.ledger_contents.specs.Contents.{contents_of};
@@ -21,7 +23,7 @@ use rewrite_statements::function_log;
 use write_parameters::count_private;
 
 // The function that is called, where it begins, who calls it, the number of the call, and how many of its parameters are private.
-#[derive(Drop)]
+#[derive(Clone, Copy)]
 struct Called {
     function_at: usize,
     function: u8,

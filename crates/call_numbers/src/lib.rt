@@ -1,12 +1,14 @@
 // 01, Runs and views: a call that is asked for; the tests of it that ask numbers alone, of numbers 18 to 20; the call that its serials
 // carry.
+#![tactic(auto)]
+
 ghost use Rattle.kit.specs.Names.{◌≡◌, [], ◌∷◌, suc, ◌<◌, leb, ltb};
 ghost use Rattle.definitions.specs.Basics.{first_that_holds};
 
 use ledger_struct::LastCall;
 
 // The ledger's last call, and the call that is asked for.
-#[derive(Drop)]
+#[derive(Clone, Copy)]
 pub struct Request {
     pub last: LastCall,
     pub function: u8,

@@ -1,4 +1,6 @@
 // Numbers 1 and 2: a file's end, and its counts.
+#![tactic(auto)]
+
 ghost use Rattle.kit.specs.Names.{◌≡◌, ◌+◌, ◌*◌, ◌≤◌, ltb, length};
 ghost use Rattle.definitions.specs.Basics.{any};
 ghost use Rattle.definitions.specs.ContractFile.{function_records};

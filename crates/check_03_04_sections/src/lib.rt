@@ -1,4 +1,6 @@
 // Numbers 3 and 4 of a contract that is decoded: each section is read once for both.
+#![tactic(auto)]
+
 ghost use Rattle.kit.specs.Names.{◌≡◌, [], ◌∷◌, ◌/◌, length};
 ghost use Rattle.definitions.specs.Basics.{any, any_numbered, first_that_holds};
 ghost use Rattle.definitions.specs.Numbers.{outside_tables, names_nothing};
@@ -13,7 +15,7 @@ use file_decoded::{node_from, number_from};
 use file_kinds::{EVERYONE_CODE, KEY_CODE};
 
 // What is noted of a section: something in it is outside the tables, or names nothing.
-#[derive(Drop)]
+#[derive(Clone, Copy)]
 pub struct Noted {
     pub outside: bool,
     pub nothing: bool,

@@ -1,4 +1,6 @@
 // Number 4 for one node: its arg names a field, and its children are below it.
+#![tactic(auto)]
+
 ghost use Rattle.kit.specs.Names.{◌≡◌, ◌-◌, leb};
 ghost use Rattle.definitions.specs.Basics.{any};
 ghost use Rattle.definitions.specs.ContractFile.{node_of, fields_named, children};

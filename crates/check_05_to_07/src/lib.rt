@@ -1,4 +1,6 @@
 // Numbers 5 to 7 of a contract that is decoded and that number 4 lets pass: its nodes are read once for all three.
+#![tactic(auto)]
+
 ghost use Rattle.kit.specs.Names.{◌≡◌, List, [], ◌∷◌, ℕ, ◌+◌, ◌*◌, ◌/◌, ◌≤◌, length};
 ghost use Rattle.definitions.specs.Basics.{any, flat_map, first_that_holds};
 ghost use Rattle.definitions.specs.Numbers.{used_other_than_once, too_deep, wrong_sort};
@@ -16,7 +18,7 @@ use file_children::{child_count, expression_count};
 use file_decoded::number_from;
 
 // What is seen of a node's children: the depth of the deepest, and whether one is of another sort than is due.
-#[derive(Drop)]
+#[derive(Clone, Copy)]
 pub struct Seen {
     pub deepest: usize,
     pub wrong: bool,

@@ -1,5 +1,7 @@
 // The roots' part in numbers 5 to 7: one pass over the functions. It stands apart from the pass over the nodes, so that an edit of one
 // does not prove the other again.
+#![tactic(auto)]
+
 ghost use Rattle.kit.specs.Names.{◌≡◌, ◌||◌, List, [], ◌∷◌, map, ℕ, ◌/◌, length};
 ghost use Rattle.definitions.specs.Basics.{any, first_that_holds};
 ghost use Rattle.file_decoded.specs.Slices.{functions_from};

@@ -1,4 +1,6 @@
 // Number 5: "A node is used other than once, as a root or a child."
+#![tactic(auto)]
+
 ghost use Rattle.kit.specs.Names.{◌≡◌, [], ◌∷◌, ◌≤◌};
 ghost use Rattle.check_05_uses.specs.Counting.{Room, Counted, other_than_one, any_from};
 

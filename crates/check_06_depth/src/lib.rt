@@ -1,4 +1,6 @@
 // Number 6: "A chain from root to leaf has more than 64 nodes."
+#![tactic(auto)]
+
 ghost use Rattle.kit.specs.Names.{◌≡◌, ◌≤◌, max};
 ghost use Rattle.check_06_depth.specs.Chains.{Bounded, depth_in};
 

@@ -1,4 +1,6 @@
 // Number 7: "A statement stands where an expression is due, or the reverse."
+#![tactic(auto)]
+
 ghost use Rattle.kit.specs.Names.{◌≡◌};
 ghost use Rattle.check_07_sorts.specs.Sorts.{nodes_in, has_sort};
 

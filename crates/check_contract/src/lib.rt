@@ -1,5 +1,7 @@
 // Document 01's number of a contract file: 0 accepted, else 1 to 15. The file is decoded once, where its counts are right; all that follows
 // reads the decoded numbers alone.
+#![tactic(auto)]
+
 ghost use Rattle.kit.specs.Names.{◌≡◌, ◌*◌, ◌≤◌, length, take};
 ghost use Rattle.definitions.specs.ContractFile.{sections_of};
 ghost use Rattle.definitions.specs.Numbers.{check_number};

@@ -1,4 +1,6 @@
 // 01, Numbers: "0 means accepted": what every entry asks of a number before it goes on.
+#![tactic(auto)]
+
 ghost use Rattle.kit.specs.Names.{◌≡◌, not};
 ghost use Rattle.definitions.specs.Basics.{is_zero};
 

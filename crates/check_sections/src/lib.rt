@@ -1,4 +1,6 @@
 // "Each section, count included, is handed back on request": numbers 1, 2 and 22, and the part of the file.
+#![tactic(auto)]
+
 ghost use Rattle.kit.specs.Names.{◌≡◌};
 ghost use Rattle.definitions.specs.Numbers.{section_number, section_answer};
 

@@ -1,5 +1,7 @@
 // Reads a contract file and writes the rewritten file, byte for byte, or prints `refused` and its number. The first argument names the
 // file to read in place of standard input, a second one the file to write in place of standard output.
+#![tactic(auto)]
+
 ghost use Rattle.kit.specs.Names.{◌≡◌, ◌≤◌, length};
 ghost use Rattle.definitions.specs.Numbers.{check_number};
 ghost use Rattle.write_room.specs.Rooms.{Suffices};

@@ -1,7 +1,7 @@
 -- Contract files, written files and views for the table of cases, put together from their parts. Nothing here uses the definitions that the
 -- table pins: what is expected must not lean on them.
 use mathlib.Core.List.{List, [], ◌∷◌, ◌++◌}
-use Prim.Native.Nat.{ℕ, zero, suc, ◌+◌, ◌-◌, ◌/◌, ◌%◌}
+use Prim.Native.Nat.{ℕ, zero, suc, ◌-◌, ◌/◌, ◌%◌}
 use lib.ListN.{length}
 
 unfoldable pub joined : List (List ℕ) → List ℕ

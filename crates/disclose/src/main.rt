@@ -1,6 +1,8 @@
 // Reads a rehearsal script and prints a line for each call: its number and, where it is taken, each value that it discloses to the
 // script's party, as told before the call is made. A refused deployment prints `refused` and its number alone; what is no script prints
 // `bad script`, before anything is run. The script is the file that the one argument names, or standard input.
+#![tactic(auto)]
+
 ghost use Rattle.kit.specs.Names.{◌≡◌, length};
 
 use call::Called;

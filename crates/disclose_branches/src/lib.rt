@@ -1,4 +1,6 @@
 // 01, Runs and views: "of an if the condition and the taken branch; a false require fails the call": what a condition's value decides.
+#![tactic(auto)]
+
 ghost use Rattle.kit.specs.Names.{◌≡◌, cond, ◌&&◌};
 ghost use Rattle.definitions.specs.Basics.{is_true};
 

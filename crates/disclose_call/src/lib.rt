@@ -1,4 +1,6 @@
 // 01, Runs and views: what a call would disclose to a party, told before the call is made.
+#![tactic(auto)]
+
 ghost use Rattle.kit.specs.Names.{◌≡◌, ◌/◌, ◌≤◌, length};
 ghost use Rattle.definitions.specs.Ledger.{call_number};
 ghost use Rattle.definitions.specs.View.{disclosed_on};
@@ -24,7 +26,7 @@ use ledger_struct::{LastCall, Ledger, at_most, flat_parameters, flat_places, fla
 use memory_answer::Answer;
 
 // The call that would be made, and the party that asks what it would be told.
-#[derive(Drop)]
+#[derive(Clone, Copy)]
 struct Question {
     request: Request,
     party: u8,

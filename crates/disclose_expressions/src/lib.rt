@@ -1,5 +1,7 @@
 // 01, Runs and views: "Each reveal to all or to the party's address, once worked out, adds its value to what the call discloses to the
 // party, up to a failure." The expressions of the original, on numbers in all places.
+#![tactic(auto)]
+
 ghost use Rattle.kit.specs.Names.{◌≡◌, [], ◌∷◌, ◌+◌, ◌<◌, ◌≤◌, length};
 ghost use Rattle.definitions.specs.ContractFile.{node_count};
 ghost use Rattle.theory_trees.specs.Trees.{expression_in};
@@ -15,7 +17,7 @@ use honest_values::value;
 use walk_expressions::divides;
 
 // Which function is worked out, for which caller, the party that is told, and where the next value goes.
-#[derive(Drop)]
+#[derive(Clone, Copy)]
 pub struct Asked {
     pub function_at: usize,
     pub caller: u8,
@@ -24,7 +26,7 @@ pub struct Asked {
 }
 
 // The place behind the disclosed values, and whether all was worked out to its end.
-#[derive(Drop)]
+#[derive(Clone, Copy)]
 pub struct Told {
     pub at: usize,
     pub finished: bool,

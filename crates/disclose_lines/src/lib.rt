@@ -1,4 +1,6 @@
 // The lines that `disclose` prints: a number in decimal, each disclosed value in decimal after a space, a line feed.
+#![tactic(auto)]
+
 ghost use Rattle.kit.specs.Names.{◌+◌, ◌*◌, ◌≤◌, length};
 ghost use Rattle.definitions.specs.Basics.{flat_map};
 ghost use Rattle.memory_append.specs.Append.{Appended};

@@ -1,5 +1,7 @@
 // 01, Runs and views: number 21 of a request for a call's disclosures, "its party is above 15, or its output is too short", behind the
 // call's own number; the disclosed values handed over where they fit.
+#![tactic(auto)]
+
 ghost use Rattle.kit.specs.Names.{◌≡◌, [], ◌∷◌, ◌≤◌, ltb, length};
 ghost use Rattle.definitions.specs.Basics.{first_that_holds};
 ghost use Rattle.definitions.specs.Numbers.{or_else};

@@ -1,4 +1,6 @@
 // 01, Runs and views: "Each reveal to all or to the party's address": whether a party is told what a reveal shows.
+#![tactic(auto)]
+
 ghost use Rattle.kit.specs.Names.{◌≡◌};
 ghost use Rattle.definitions.specs.ContractFile.{owner_of_code};
 ghost use Rattle.definitions.specs.Original.{may_read, reader_of};

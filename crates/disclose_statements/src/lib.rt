@@ -1,5 +1,7 @@
 // 01, Runs and views: what a statement of the original discloses to a party, with the numbers that it leaves in the places: "In a call it
 // works out parts first, second, third, of an if the condition and the taken branch; a false require fails the call."
+#![tactic(auto)]
+
 ghost use Rattle.kit.specs.Names.{◌≡◌};
 ghost use Rattle.theory_trees.specs.Trees.{statement_in};
 ghost use Rattle.file_accepted.specs.Context.{nodes_in};

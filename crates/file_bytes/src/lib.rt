@@ -1,11 +1,13 @@
 // A contract file's bytes, and where its sections lie.
+#![tactic(auto)]
+
 ghost use Rattle.kit.specs.Names.{◌≡◌, ◌+◌, ◌*◌, ◌≤◌};
 ghost use Rattle.definitions.specs.ContractFile.{byte_at, two_bytes_at, function_end, functions_end, node_record};
 ghost use Rattle.file_bytes.specs.Layout.{IsLayout};
 ghost use Rattle.file_bytes.specs.Node.{IsNode};
 
 // Where the sections lie: their counts, and the places of the functions' and the nodes' count.
-#[derive(Drop)]
+#[derive(Clone, Copy)]
 pub struct Layout {
     pub fields: usize,
     pub functions_at: usize,
@@ -15,7 +17,7 @@ pub struct Layout {
 }
 
 // A node's five parts as they stand in the file.
-#[derive(Drop)]
+#[derive(Clone, Copy)]
 pub struct Node {
     pub kind: usize,
     pub arg: usize,

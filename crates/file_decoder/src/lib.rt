@@ -1,4 +1,6 @@
 // The decoder: a contract file whose counts are right, from its bytes into slices of numbers. Each byte is read once.
+#![tactic(auto)]
+
 ghost use Rattle.kit.specs.Names.{◌≡◌, ◌+◌, ◌*◌, ◌/◌, ◌≤◌, length};
 ghost use Rattle.definitions.specs.ContractFile.{byte_at, node_records};
 ghost use Rattle.memory_buffer.specs.Buffer.{stored};

@@ -1,4 +1,6 @@
 // Where a file's functions begin.
+#![tactic(auto)]
+
 ghost use Rattle.kit.specs.Names.{◌≡◌, ◌+◌, ◌*◌, ◌≤◌};
 ghost use Rattle.file_accepted.specs.Functions.{function_start};
 

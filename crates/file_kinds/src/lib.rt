@@ -1,4 +1,5 @@
 // The numbers of a contract file and of a written one, each said once, under its name.
+#![tactic(auto)]
 
 // "Kinds (decimal): 1 constant ..; 2 me; 3 field (arg); 4 entry of mapping arg at key first; 5 parameter arg; 6 operator arg on first,
 // second; 7 not; 8 reveal first to owner code arg ..;"

@@ -1,5 +1,7 @@
 // The decoder's steps: bytes of a contract file written over a slice of numbers, in a row or as a node. They stand apart from the
 // decoder of whole sections, so that an edit of one of them proves little.
+#![tactic(auto)]
+
 ghost use Rattle.kit.specs.Names.{◌≡◌, ◌+◌, ◌<◌, ◌≤◌, length};
 ghost use Rattle.definitions.specs.ContractFile.{byte_at, two_bytes_at};
 ghost use Rattle.memory_buffer.specs.Buffer.{stored};

@@ -1,5 +1,7 @@
 // 01, Runs and views: "An honest supplied variable holds what the original works out for its expression .. in an untaken branch it stays
 // plain 0." The original's statements on lent numbers, with one number for each variable that rewriting makes of them.
+#![tactic(auto)]
+
 ghost use Rattle.kit.specs.Names.{◌≡◌, ◌&&◌, not, ◌<◌};
 ghost use Rattle.definitions.specs.ContractFile.{node_count};
 ghost use Rattle.file_accepted.specs.Context.{Context};

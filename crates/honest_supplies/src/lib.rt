@@ -1,5 +1,7 @@
 // 01, Runs and views: "An honest supplied variable holds what the original works out for its expression". One number a variable:
 // one more than the value of a supplied one, and 0 for any other, and for all where the branch is not taken.
+#![tactic(auto)]
+
 ghost use Rattle.kit.specs.Names.{◌≡◌, cond, [], ◌∷◌, suc, ◌<◌, length};
 ghost use Rattle.definitions.specs.ContractFile.{node_count};
 ghost use Rattle.memory_buffer.specs.Buffer.{stored};
@@ -14,7 +16,7 @@ use rewrite_owners::is_public;
 use rewrite_plans::{parts_of, read_code, supplied_code};
 
 // Where the function that is called begins, who calls it, and whether what is worked out lies in a branch that is taken.
-#[derive(Drop)]
+#[derive(Clone, Copy)]
 pub struct Turn {
     pub function_at: usize,
     pub caller: u8,
@@ -184,7 +186,7 @@ fn circuit_parts(
 }
 
 // A node that is put into a place, and whether the place is private.
-#[derive(Drop)]
+#[derive(Clone, Copy)]
 pub struct Placing {
     pub n: usize,
     pub private: bool,

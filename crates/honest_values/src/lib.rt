@@ -1,4 +1,6 @@
 // 01, Runs and views: the value that the original works out for an expression, on numbers in all places.
+#![tactic(auto)]
+
 ghost use Rattle.kit.specs.Names.{◌≡◌, ◌+◌, ◌*◌, ◌<◌, ◌≤◌};
 ghost use Rattle.definitions.specs.ContractFile.{node_count};
 ghost use Rattle.theory_trees.specs.Trees.{expression_in};

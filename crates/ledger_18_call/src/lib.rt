@@ -1,4 +1,6 @@
 // "18. The ledger isn't well formed": its last call is a possible one.
+#![tactic(auto)]
+
 ghost use Rattle.kit.specs.Names.{◌≡◌, List, map, ◌≤◌, length};
 ghost use Rattle.definitions.specs.Ledger.{Content, plain_number, is_after_call};
 ghost use Rattle.definitions.specs.Numbers.{check_number};

@@ -1,4 +1,6 @@
 // Whether the content at a position is what a form asks.
+#![tactic(auto)]
+
 ghost use Rattle.kit.specs.Names.{◌≡◌};
 ghost use Rattle.definitions.specs.Ledger.{fits, is_plain_zero};
 ghost use Rattle.ledger_contents.specs.Contents.{content_of_code, contents_of};

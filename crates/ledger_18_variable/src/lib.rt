@@ -1,4 +1,6 @@
 // "each item .. has the type": one variable, by the event that made it.
+#![tactic(auto)]
+
 ghost use Rattle.kit.specs.Names.{◌≡◌, cond, eqb};
 ghost use Rattle.definitions.specs.ContractFile.{boolean, data_type_of, type_of};
 ghost use Rattle.theory_trees.specs.Trees.{expression_in};

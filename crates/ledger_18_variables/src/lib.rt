@@ -1,4 +1,6 @@
 // Whether the variables of a ledger's last call have the types and the owners that the file asks.
+#![tactic(auto)]
+
 ghost use Rattle.kit.specs.Names.{◌≡◌, map, ◌≤◌, length, get_or, drop};
 ghost use Rattle.definitions.specs.ContractFile.{byte_at};
 ghost use Rattle.definitions.specs.Ledger.{all_fit};

@@ -1,11 +1,13 @@
 // What a place, a parameter or a variable holds, and a list of such contents as flat numbers, five a content.
+#![tactic(auto)]
+
 ghost use Rattle.kit.specs.Names.{◌≡◌, ◌+◌, ◌*◌, ◌<◌, ◌≤◌, length, set};
 ghost use Rattle.definitions.specs.Ledger.{content_at, plain_number, opened_number};
 ghost use Rattle.memory_buffer.specs.Buffer.{stored};
 ghost use Rattle.ledger_contents.specs.Contents.{content_of_code, contents_of, five};
 
 // A cell: its owner's address, its serial (call and index) and its value.
-#[derive(Drop)]
+#[derive(Clone, Copy)]
 pub struct Cell {
     pub owner: u8,
     pub call: u16,
@@ -14,14 +16,14 @@ pub struct Cell {
 }
 
 // "plain number or cell struct": what a place, a parameter or a variable holds.
-#[derive(Drop)]
+#[derive(Clone, Copy)]
 pub enum Content {
     Plain(u32),
     Cell(Cell),
 }
 
 // "a place or variable is a struct whose content is an enum"
-#[derive(Drop)]
+#[derive(Clone, Copy)]
 pub struct Place {
     pub content: Content,
 }

@@ -1,4 +1,6 @@
 // Who can read a value, the content that a value is for its readers, and whether a content is what a form asks.
+#![tactic(auto)]
+
 ghost use Rattle.kit.specs.Names.{◌≡◌, ◌-◌, ◌<◌, ◌≤◌};
 ghost use Rattle.definitions.specs.Ledger.{content_for, fits};
 ghost use Rattle.definitions.specs.ContractFile.{is_of_type, field_at, field_count, data_type_of};
@@ -11,7 +13,7 @@ use file_kinds::*;
 use ledger_contents::{Cell, Content};
 
 // All, or the party at one address.
-#[derive(Drop)]
+#[derive(Clone, Copy)]
 pub enum Reader {
     Anyone,
     Only(u32),

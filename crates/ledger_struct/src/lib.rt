@@ -1,4 +1,6 @@
 // The ledger as code holds it, and its contents to flat numbers and back.
+#![tactic(auto)]
+
 ghost use Rattle.kit.specs.Names.{◌≡◌, ◌*◌, ◌/◌, ◌≤◌, min, length};
 ghost use Rattle.ledger_contents.specs.Contents.{contents_of};
 ghost use Rattle.ledger_struct.specs.Ledgers.{ledger_of, contents_in, Flat};
@@ -30,7 +32,7 @@ pub struct Ledger {
 }
 
 // What a ledger says of its last call beside parameters and variables: the numbers that its view begins with.
-#[derive(Drop)]
+#[derive(Clone, Copy)]
 pub struct LastCall {
     pub call: u16,
     pub function: u8,

@@ -1,4 +1,6 @@
 // The data types of expressions, read from the file.
+#![tactic(auto)]
+
 ghost use Rattle.kit.specs.Names.{◌≡◌, ◌<◌, ◌≤◌};
 ghost use Rattle.definitions.specs.ContractFile.{field_at, parameter_at, byte_at, field_count, node_count, data_type_of, operator_of, result_type};
 ghost use Rattle.definitions.specs.ContractFile.{type_of};

@@ -1,4 +1,6 @@
 // Values written over a lent buffer, one at a time. Larger runs follow by the laws of `stored`.
+#![tactic(auto)]
+
 ghost use Rattle.kit.specs.Names.{◌≡◌, [], ◌∷◌, ◌<◌, length};
 ghost use Rattle.memory_buffer.specs.Buffer.{stored};
 

@@ -1,9 +1,11 @@
 // The arguments that a program was started with: names of files, and no options so far.
+#![tactic(auto)]
+
 ghost use Rattle.kit.specs.Names.{◌≡◌, ◌≤◌};
 ghost use Rattle.program_arguments.specs.Options.{is_option};
 
 // Whether each argument is the name of a file, and how many there are: 0 where one is not.
-#[derive(Drop)]
+#[derive(Clone, Copy)]
 pub struct Names {
     pub known: bool,
     pub count: usize,

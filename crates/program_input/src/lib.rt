@@ -1,4 +1,6 @@
 // What programs read, to its end: the file that their first argument names, or standard input; or the file that any argument names.
+#![tactic(auto)]
+
 ghost use Rattle.kit.specs.Names.{◌≡◌, ◌≤◌, length};
 ghost use Rattle.io.specs.Counts.{IsPrefixLen};
 ghost use Rattle.program_reading.specs.Inputs.{where_ready, fitting, Begins};
@@ -9,7 +11,7 @@ use program_reading::{read_from, read_on};
 
 // How many bytes were read, and whether there is an input at all: a failure was told, and so was a bad use of the program. The programs
 // name this struct, and so it is not the one of program_reading.
-#[derive(Drop)]
+#[derive(Clone, Copy)]
 pub struct Input {
     pub length: usize,
     pub ready: bool,
@@ -17,7 +19,7 @@ pub struct Input {
 
 // How many bytes an input begins with, and whether there is one at all. Where it fills the room there may be more, to be read from the
 // same descriptor: a file that an argument names is closed wherever this is all of it.
-#[derive(Drop)]
+#[derive(Clone, Copy)]
 pub struct Beginning {
     pub length: usize,
     pub ready: bool,

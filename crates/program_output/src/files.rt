@@ -6,7 +6,7 @@ use crate::{print, tell, write_all};
 use memory_append::append;
 
 // Whether all of the bytes are kept, and how many that is.
-#[derive(Drop)]
+#[derive(Clone, Copy)]
 pub struct Kept {
     pub whole: bool,
     pub length: usize,

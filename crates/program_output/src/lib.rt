@@ -1,5 +1,7 @@
 // What programs print and write: all of some bytes, or a line on standard error that says what could not be done. It serves document 01's
 // "A refused file prints `refused N`" (File A, whole).
+#![tactic(auto)]
+
 mod files;
 
 ghost use Rattle.kit.specs.Names.{◌+◌, ◌≤◌, length};

@@ -1,5 +1,7 @@
 // An input read to its end: at once, or what is left of it behind a beginning that filled a smaller room. The edits of what programs read
 // stand here, apart from the arguments and the rooms (program_input).
+#![tactic(auto)]
+
 ghost use Rattle.kit.specs.Names.{◌≡◌, ◌≤◌, min, length, take};
 ghost use Rattle.io.specs.Counts.{IsPrefixLen};
 ghost use Rattle.program_reading.specs.Inputs.{where_ready, fitting, Begins};
@@ -10,14 +12,14 @@ use program_output::tell;
 
 // How many bytes stand at the front of the room, and whether a read failed behind them. None did where the input ended, and none where
 // the room is full; then there may be more.
-#[derive(Drop)]
+#[derive(Clone, Copy)]
 pub struct Reading {
     pub length: usize,
     pub failed: bool,
 }
 
 // How many bytes were read, and whether there is an input at all: a failure was told, and so was a bad use of the program.
-#[derive(Drop)]
+#[derive(Clone, Copy)]
 pub struct Read {
     pub length: usize,
     pub ready: bool,

@@ -1,6 +1,8 @@
 // Reads a rehearsal script and prints a line for the deployment and one for each call: its number and the party's view after it. A
 // refused deployment prints `refused` and its number; what is no script prints `bad script`, before anything is run. The script is the
 // file that the one argument names, or standard input.
+#![tactic(auto)]
+
 ghost use Rattle.kit.specs.Names.{◌≡◌, length};
 
 use call::Called;

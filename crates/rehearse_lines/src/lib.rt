@@ -1,4 +1,6 @@
 // The lines that a rehearsal prints: a number in decimal, a space, a view in lowercase hexadecimal, a line feed.
+#![tactic(auto)]
+
 ghost use Rattle.kit.specs.Names.{◌≡◌, ◌+◌, ◌*◌, ◌<◌, ◌≤◌, length};
 ghost use Rattle.memory_append.specs.Append.{Appended};
 ghost use Rattle.definitions.specs.Report.{decimal};

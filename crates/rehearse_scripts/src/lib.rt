@@ -1,4 +1,6 @@
 // A rehearsal script's bytes: whether they are one, and where its parts lie.
+#![tactic(auto)]
+
 ghost use Rattle.kit.specs.Names.{◌≡◌, ◌+◌, ◌*◌, ◌≤◌};
 ghost use Rattle.definitions.specs.ContractFile.{two_bytes_at};
 ghost use Rattle.rehearse_scripts.specs.Scripts.{four_bytes_at, calls_end, is_script, file_of, addresses_of, argument_at};
@@ -7,7 +9,7 @@ ghost use Rattle.rehearse_scripts.specs.Parts.{IsScriptParts, IsCall, ArgumentsS
 use file_bytes::{byte_at, two_bytes_at};
 
 // The file stands from 2 to `file_end`, the addresses from behind the next byte to `addresses_end`, the calls from `calls_at` on.
-#[derive(Drop)]
+#[derive(Clone, Copy)]
 pub struct Script {
     pub file_end: usize,
     pub addresses_end: usize,
@@ -17,7 +19,7 @@ pub struct Script {
 }
 
 // A call's function, caller and count of arguments, and where its arguments begin.
-#[derive(Drop)]
+#[derive(Clone, Copy)]
 pub struct Call {
     pub function: u8,
     pub caller: u8,

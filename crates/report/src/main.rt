@@ -1,5 +1,7 @@
 // Reads a contract file and prints its report: each function's crossings and their total, or `refused` and the file's number. It is the
 // file that the one argument names, or standard input.
+#![tactic(auto)]
+
 ghost use Rattle.kit.specs.Names.{◌≡◌, length};
 
 use program_input::{Beginning, begin_input, contract_room, read_rest, short_contract_room};

@@ -1,5 +1,7 @@
 // 01, File A, whole: the report of any file, "function number and count of variables with origins 0 to 3", or the number that refuses it.
 // 02, Note 2: it prints the counts that writing hands back, and counts nothing itself. Note 3: their total stands last.
+#![tactic(auto)]
+
 ghost use Rattle.kit.specs.Names.{◌≡◌, ◌≤◌, length};
 ghost use Rattle.definitions.specs.Crossings.{sixteen, crossings_in};
 ghost use Rattle.definitions.specs.Numbers.{check_number};

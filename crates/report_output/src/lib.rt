@@ -1,4 +1,6 @@
 // "16. The lent output is too short": the report's text handed out where it fits.
+#![tactic(auto)]
+
 ghost use Rattle.write_output.specs.Answers.{HandedOut};
 
 use memory_answer::Answer;

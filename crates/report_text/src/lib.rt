@@ -1,4 +1,6 @@
 // The report's text: decimal numbers, the refused line, the lines of the tallies, and their total.
+#![tactic(auto)]
+
 ghost use Rattle.kit.specs.Names.{[], ◌∷◌, ◌++◌, ◌+◌, ◌<◌, ◌≤◌, length};
 ghost use Rattle.memory_append.specs.Append.{Appended};
 ghost use Rattle.definitions.specs.Basics.{flat_map};

@@ -1,5 +1,7 @@
 // The events of an expression, logged in their order: body translation supplies, supplying enters circuit translation, and
 // the reads of a circuit go back to body translation. The node number falls around the cycle.
+#![tactic(auto)]
+
 ghost use Rattle.file_accepted.specs.Context.{nodes_in};
 ghost use Rattle.rewrite_log.specs.Logs.{Logged};
 ghost use Rattle.rewrite_expressions.specs.Translations.{body_of, circuit_of, body_parts_of, circuit_parts_of, Ready, ReadyToSupply};

@@ -1,4 +1,6 @@
 // A log of events, five numbers each.
+#![tactic(auto)]
+
 ghost use Rattle.kit.specs.Names.{◌≡◌, ◌+◌, ◌≤◌, length};
 ghost use Rattle.memory_buffer.specs.Buffer.{stored};
 ghost use Rattle.rewrite_log.specs.Entries.{makes_none};
@@ -7,7 +9,7 @@ ghost use Rattle.rewrite_log.specs.Logs.{numbers_of, SmallEntry, Slot, Wrote};
 use memory_buffer::put_number;
 
 // Where the next entry of a log goes, and the number of the next variable.
-#[derive(Drop)]
+#[derive(Clone, Copy)]
 pub struct Position {
     pub at: usize,
     pub variable: usize,
@@ -36,7 +38,7 @@ pub const GUARD_LOGGED: u16 = GUARD_EVENT as u16;
 pub const END_LOGGED: u16 = END_EVENT as u16;
 
 // `last` is the number of a claim's guard, or the first variable of what is read.
-#[derive(Drop)]
+#[derive(Clone, Copy)]
 pub struct Entry {
     pub tag: usize,
     pub variable: usize,

@@ -1,4 +1,6 @@
 // What rewriting does with a node: whether it is supplied in the body, read in a circuit, and which parts it has.
+#![tactic(auto)]
+
 ghost use Rattle.kit.specs.Names.{◌≡◌, cond, ◌&&◌, ◌<◌, eqb};
 ghost use Rattle.definitions.specs.ContractFile.{is_division, node_count, operator_of};
 ghost use Rattle.definitions.specs.Owners.{is_public};
@@ -11,7 +13,7 @@ use rewrite_owners::owner_code;
 use rules_codes::is_division;
 
 // How many parts a node has, and their numbers.
-#[derive(Drop)]
+#[derive(Clone, Copy)]
 pub struct Parts {
     pub count: usize,
     pub first: usize,

@@ -1,4 +1,6 @@
 // The events of a statement that holds no other, and of a condition, with the mark that ends them.
+#![tactic(auto)]
+
 ghost use Rattle.kit.specs.Names.{◌≡◌, true};
 ghost use Rattle.theory_trees.specs.Trees.{statement_in};
 ghost use Rattle.file_accepted.specs.Context.{nodes_in};

@@ -1,4 +1,6 @@
 // The events of a function's statements, logged in their order.
+#![tactic(auto)]
+
 ghost use Rattle.file_accepted.specs.Context.{nodes_in};
 ghost use Rattle.file_accepted.specs.Functions.{root_at};
 ghost use Rattle.rewrite_log.specs.Logs.{Logged};

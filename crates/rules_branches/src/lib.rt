@@ -1,5 +1,7 @@
 // What is found of a sequence and of an if, from what was found of their parts: the least fault, and whether a link was added. They
 // stand apart from the recursion over statements, so that each is proved by itself.
+#![tactic(auto)]
+
 ghost use Rattle.kit.specs.Names.{◌≡◌, ◌||◌, ◌≤◌, min, length, take};
 ghost use Rattle.rules_links.specs.Classes.{Classed};
 ghost use Rattle.rules_meet.specs.Branches.{Behind};
@@ -10,7 +12,7 @@ use rules_links::{class_room, copy_classes};
 use rules_meet::behind;
 
 // Least fault, 16 for none, and whether a link was added.
-#[derive(Drop)]
+#[derive(Clone, Copy)]
 pub struct Checked {
     pub fault: u8,
     pub added: bool,

@@ -1,4 +1,6 @@
 // The least of the numbers 8 to 15 that a tree is refused by, 16 standing for none.
+#![tactic(auto)]
+
 ghost use Rattle.kit.specs.Names.{◌≡◌, cond, ◌&&◌, min};
 
 // "The first sentence that holds gives the number": of two faults the lower counts.

@@ -1,4 +1,6 @@
 // Number 8 of a contract's fields, in their declared owners; apart from its functions, whose judging needs none of it.
+#![tactic(auto)]
+
 ghost use Rattle.kit.specs.Names.{◌≡◌, ◌/◌, ◌<◌, length};
 ghost use Rattle.rules_scopes.specs.Scopes.{FieldsReady};
 ghost use Rattle.rules_fields.specs.Fields.{owner_fault, all_fields_fault};

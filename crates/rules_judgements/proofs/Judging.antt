@@ -3,7 +3,7 @@ use Rattle.kit.specs.Names.{◌≡◌, refl, ◌∙◌, Bool, true, false, not, 
 use Rattle.kit.specs.Names.{arith, eqb, leb, length, eqb-true}
 use Rattle.definitions.specs.ContractFile.{final_name, parameter_name, Expression, constant, me, field, entry, parameter, Scope, field_at, parameter_at, data_type_of, type_of}
 use Rattle.definitions.specs.Owners.{Links, owner_of, name_of, place_owner}
-use Rattle.definitions.specs.Numbers.{expression_faults, entry_faults, fault, read_fault}
+use Rattle.definitions.specs.Numbers.{expression_faults, entry_faults, read_fault}
 use Rattle.theory_laws.proofs.Codes.{type_code}
 use Rattle.rules_faults.specs.Faults.{least_fault}
 use Rattle.rules_faults.proofs.Faults.{least_append, least_none, least_one, counted_8, counted_9, counted_10}

@@ -1,4 +1,6 @@
 // What is found of an expression: its data type, owner, name and least fault; of constants and places.
+#![tactic(auto)]
+
 ghost use Rattle.kit.specs.Names.{◌≡◌, ◌+◌, ◌<◌, ◌≤◌, length};
 ghost use Rattle.rules_links.specs.Classes.{linked_by};
 ghost use Rattle.rules_codes.specs.Codes.{HasClass, place_number};
@@ -12,7 +14,7 @@ use rules_owners::{CALLER, EVERYONE, FINALS, PARAMETERS};
 use rules_scopes::{Declared, Given};
 
 // Owner and name by number, 0 for all and for no name; least fault, 16 for none.
-#[derive(Drop)]
+#[derive(Clone, Copy)]
 pub struct Judged {
     pub kind: u16,
     pub owner: u16,

@@ -1,6 +1,8 @@
 // Links between names as classes: names of one class are linked. A class number stands at each name's owner's number, and is changed in
 // place. A caller is told whether a link was added: where one of an if's branches has added none, the links behind the if are those before
 // it, and no class need be looked at.
+#![tactic(auto)]
+
 ghost use Rattle.kit.specs.Names.{◌≡◌, ◌<◌, ◌≤◌, eqb, length, get_or};
 ghost use Rattle.definitions.specs.Owners.{no_links, with_link_of};
 ghost use Rattle.rules_owners.specs.Numbering.{name_with};

@@ -26,6 +26,7 @@ flat_same f g (x ∷ xs) same = ap₂ (λ (a b : List ℕ). a ++ b) (same x (mem
 
 all_at : (test : ℕ → Bool) (m : ℕ) (xs : List ℕ) → all test xs ≡ true → Member m xs → test m ≡ true
 unfolding all
+all_at test m [] h d = elim d [ ]
 all_at test m (x ∷ xs) h (member_head e) = rw e (and_left (test x) (all test xs) h)
 all_at test m (x ∷ xs) h (member_tail d) = all_at test m xs (and_right (test x) (all test xs) h) d
 

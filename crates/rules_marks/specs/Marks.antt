@@ -26,12 +26,12 @@ parts_at nodes (statement n) =
     map expression (expressions_of_statement (node_at nodes n)) ++ map statement (statement_parts (node_at nodes n))
 
 -- The numbers of the expressions' nodes at a place, parts first.
-abbrev pub field_own : Place → List ℕ
-field_own = elim [ expression n ↦ n ∷ [] | statement n ↦ [] ]
+abbrev pub own_at : Place → List ℕ
+own_at = elim [ expression n ↦ n ∷ [] | statement n ↦ [] ]
 
 unfoldable pub numbers_at : ℕ → List Node → Place → List ℕ
 numbers_at zero nodes place = []
-numbers_at (suc levels) nodes place = flat_map (numbers_at levels nodes) (parts_at nodes place) ++ field_own place
+numbers_at (suc levels) nodes place = flat_map (numbers_at levels nodes) (parts_at nodes place) ++ own_at place
 
 -- A child's number is below its parent's, so n + 1 levels hold all that is under node n.
 abbrev pub numbers_under : List Node → Place → List ℕ

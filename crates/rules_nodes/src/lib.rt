@@ -1,11 +1,13 @@
 // A node's five numbers read at once, so that a function which goes by a node's kind has one step before its match.
+#![tactic(auto)]
+
 ghost use Rattle.kit.specs.Names.{◌≡◌, ◌*◌, ◌/◌, ◌<◌, ◌≤◌, length};
 ghost use Rattle.definitions.specs.ContractFile.{node};
 ghost use Rattle.file_decoded.specs.Slices.{node_from};
 
 use file_decoded::{number_from, short_from};
 
-#[derive(Drop)]
+#[derive(Clone, Copy)]
 pub struct NodeNumbers {
     pub kind: u16,
     pub arg: u16,

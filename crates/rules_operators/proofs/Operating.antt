@@ -2,7 +2,7 @@
 use Rattle.kit.specs.Names.{◌≡◌, refl, Bool, not, ◌&&◌, ◌||◌, ℕ, ◌≤◌, ◌<◌, arith, eqb}
 use Rattle.definitions.specs.ContractFile.{Expression, operator, negation, reveal, Scope, is_division, operator_of, type_of}
 use Rattle.definitions.specs.Owners.{Links, owner_of, name_of}
-use Rattle.definitions.specs.Numbers.{expression_faults, fault, owner_fits}
+use Rattle.definitions.specs.Numbers.{expression_faults, owner_fits}
 use Rattle.rules_faults.proofs.Faults.{least_append, least_one, counted_8, counted_9, counted_12, counted_13}
 use Rattle.rules_owners.specs.Numbering.{owner_with}
 use Rattle.rules_codes.specs.Codes.{fit_codes}

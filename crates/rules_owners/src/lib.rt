@@ -1,5 +1,7 @@
 // Owners by number, whatever codes a file has for them: 0 all, 1 the caller, 2 + k parameter k, 10 + f final f. The numbers of a contract's
 // owners lie close together, so that a table has one place for each.
+#![tactic(auto)]
+
 ghost use Rattle.kit.specs.Names.{◌≡◌, true};
 ghost use Rattle.definitions.specs.ContractFile.{owner_of_code};
 ghost use Rattle.definitions.specs.Numbers.{target_in_tables};

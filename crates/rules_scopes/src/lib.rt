@@ -1,4 +1,6 @@
 // The fields and parameters that a function's nodes name, as the decoded slices hold them.
+#![tactic(auto)]
+
 ghost use Rattle.kit.specs.Names.{◌≡◌, ◌+◌, ◌/◌, ◌<◌, length};
 ghost use Rattle.definitions.specs.Numbers.{owner_fits};
 ghost use Rattle.rules_owners.specs.Numbering.{owner_with};
@@ -9,7 +11,7 @@ use rules_faults::both;
 use rules_owners::{FINALS, PARAMETERS, declared_number};
 
 // A field's shape, data type and owner: the number of the final that owns it, 0 for all; or the tag, "the mapping's key".
-#[derive(Drop)]
+#[derive(Clone, Copy)]
 pub struct Declared {
     pub shape: u16,
     pub kind: u16,
@@ -18,7 +20,7 @@ pub struct Declared {
 }
 
 // A parameter's data type and owner, 0 all or 1 the caller.
-#[derive(Drop)]
+#[derive(Clone, Copy)]
 pub struct Given {
     pub kind: u16,
     pub owner: u16,

@@ -1,5 +1,7 @@
 // Compares our entries on ledgers with recorded answers. They stand in the files that the three arguments name, in this order: runs,
 // disclosures, the contract whose ledger is damaged. For each file one line is printed: how many there were, and how many of them differ.
+#![tactic(auto)]
+
 mod damage;
 mod disclosures;
 mod recorded;

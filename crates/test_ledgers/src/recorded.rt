@@ -33,7 +33,7 @@ pub struct RecordedCall {
 }
 
 // How many runs there were and how many of them differ, and the place behind them.
-#[derive(Drop)]
+#[derive(Clone, Copy)]
 pub struct Tally {
     pub runs: usize,
     pub different: usize,

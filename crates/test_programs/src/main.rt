@@ -1,6 +1,8 @@
 // Compares our entries and programs with recorded answers. They stand in the files that the four arguments name, in this order: contract
 // files, with their numbers, written files and reports; inputs of the programs with what they print, those recorded for document 02's
 // Notes 1, 2 and 3. For each file one line is printed: how many records there were, and how many of them differ.
+#![tactic(auto)]
+
 mod files;
 mod programs;
 

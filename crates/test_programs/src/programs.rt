@@ -20,7 +20,7 @@ use report_text::refused_line;
 use test_shared::{Tally, part, same_bytes, view_room};
 
 // Where the parts of a record end: each begins behind its length, which stands where the part before it ends.
-#[derive(Drop)]
+#[derive(Clone, Copy)]
 struct Record {
     name_end: usize,
     options_end: usize,

@@ -1,4 +1,6 @@
 // What the test programs share: the file that an argument names, parts of it, rooms, and the lines that are printed.
+#![tactic(auto)]
+
 ghost use Rattle.kit.specs.Names.{◌≡◌, ◌++◌, ◌+◌, ◌≤◌, length};
 ghost use Rattle.definitions.specs.Report.{decimal};
 ghost use Rattle.io.specs.Counts.{IsPrefixLen};
@@ -13,7 +15,7 @@ use program_input::Input;
 use report_text::append_digits;
 
 // How many records were read, and how many of them differ.
-#[derive(Drop)]
+#[derive(Clone, Copy)]
 pub struct Tally {
     pub records: usize,
     pub different: usize,

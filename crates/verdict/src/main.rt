@@ -1,5 +1,7 @@
 // Reads a contract file and prints `accepted`, or `refused` and its number. It is the file that the one argument names, or standard
 // input.
+#![tactic(auto)]
+
 use program_input::{Beginning, begin_input, contract_room, read_rest, short_contract_room};
 use program_output::{print, print_refused};
 

@@ -1,4 +1,6 @@
 // A content as an item of a party's view: plain, opaque or opened.
+#![tactic(auto)]
+
 ghost use Rattle.kit.specs.Names.{◌≡◌, ◌+◌, ◌≤◌, length};
 ghost use Rattle.memory_buffer.specs.Buffer.{stored};
 ghost use Rattle.definitions.specs.View.{item_bytes, item_for};

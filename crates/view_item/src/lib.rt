@@ -1,4 +1,6 @@
 // One item of a view, ten bytes, written over a lent output.
+#![tactic(auto)]
+
 ghost use Rattle.kit.specs.Names.{◌≡◌, ◌+◌, ◌≤◌, length};
 ghost use Rattle.memory_buffer.specs.Buffer.{stored};
 ghost use Rattle.definitions.specs.View.{item_bytes};

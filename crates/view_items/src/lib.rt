@@ -1,4 +1,6 @@
 // The items of a view, ten bytes each, written over a lent output.
+#![tactic(auto)]
+
 ghost use Rattle.kit.specs.Names.{◌≡◌, ◌+◌, ◌*◌, ◌/◌, ◌≤◌, length};
 ghost use Rattle.memory_buffer.specs.Buffer.{stored};
 ghost use Rattle.ledger_contents.specs.Contents.{contents_of};

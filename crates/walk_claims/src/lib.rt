@@ -1,4 +1,6 @@
 // 01, Runs and views: what a constraint says of its variable.
+#![tactic(auto)]
+
 ghost use Rattle.kit.specs.Names.{◌≡◌};
 ghost use Rattle.definitions.specs.ContractFile.{owner_of_code};
 ghost use Rattle.definitions.specs.Original.{only, reader_of};

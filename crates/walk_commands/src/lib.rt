@@ -1,5 +1,7 @@
 // 01, Runs and views: "A call walks the function's written body on the ledger's plain values and cells", on flat contents that are lent.
 // A sequence's second part and an if's taken branch go on in the loop: only a sequence's first part deepens the stack.
+#![tactic(auto)]
+
 ghost use Rattle.kit.specs.Names.{◌≡◌, true, false, cond, ◌*◌, ◌<◌, ◌≤◌};
 ghost use Rattle.definitions.specs.Basics.{is_true};
 ghost use Rattle.definitions.specs.ContractFile.{field_count};

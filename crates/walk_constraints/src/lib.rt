@@ -1,5 +1,7 @@
 // 01, Runs and views: "A constraint holds when its guard isn't set, or its variable is the root's value, as a cell of its owner code's
 // address if a cell.": one constraint, under its guard.
+#![tactic(auto)]
+
 ghost use Rattle.kit.specs.Names.{◌≡◌, ◌+◌, ◌≤◌, length};
 ghost use Rattle.definitions.specs.Ledger.{is_set};
 ghost use Rattle.ledger_contents.specs.Contents.{contents_of};

@@ -1,4 +1,6 @@
 // 01, Runs and views: a content against a value, an address, the caller.
+#![tactic(auto)]
+
 ghost use Rattle.kit.specs.Names.{◌≡◌, ◌&&◌, eqb};
 ghost use Rattle.definitions.specs.Original.{anyone, only};
 ghost use Rattle.definitions.specs.Ledger.{is_content_of, opens_for};

@@ -1,5 +1,7 @@
 // 01, Runs and views: "A call walks the function's written body on the ledger's plain values and cells": the body is written to lent
 // memory, and walked from there.
+#![tactic(auto)]
+
 ghost use Rattle.kit.specs.Names.{◌*◌, ◌-◌, take};
 ghost use Rattle.definitions.specs.Ledger.{walk_completes, state_after};
 ghost use Rattle.file_accepted.specs.Context.{fields_in};

@@ -1,4 +1,6 @@
 // 01, Runs and views: the nodes of one written function, numbered from 0, and its constraints as flat numbers, for a call to walk.
+#![tactic(auto)]
+
 ghost use Rattle.kit.specs.Names.{◌≡◌, ◌*◌, ◌≤◌, length};
 ghost use Rattle.memory_buffer.specs.Buffer.{stored};
 ghost use Rattle.write_function_room.specs.Functions.{written_in};
@@ -10,14 +12,14 @@ use write_function_bodies::{Plan, write_function_body};
 use write_places::Run;
 
 // How many nodes were written, and how many constraints were noted.
-#[derive(Drop)]
+#[derive(Clone, Copy)]
 pub struct Extent {
     pub nodes: usize,
     pub constraints: usize,
 }
 
 // The function that begins at a place: how many entries the log of its body has, and how many of its parameters are private.
-#[derive(Drop)]
+#[derive(Clone, Copy)]
 pub struct Logged {
     pub function_at: usize,
     pub entries: usize,

@@ -1,4 +1,6 @@
 // What an expression of a written body gives, and the number that a walk may use of it: no cell is opened.
+#![tactic(auto)]
+
 ghost use Rattle.kit.specs.Names.{◌≡◌};
 ghost use Rattle.definitions.specs.Ledger.{plain_number};
 ghost use Rattle.ledger_contents.specs.Contents.{content_of_code};
@@ -6,7 +8,7 @@ ghost use Rattle.ledger_contents.specs.Contents.{content_of_code};
 use ledger_contents::{Content, plain_number};
 
 // Whether an expression was walked to its end, and its content.
-#[derive(Drop)]
+#[derive(Clone, Copy)]
 pub struct Walked {
     pub walked: bool,
     pub content: Content,

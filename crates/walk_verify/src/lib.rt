@@ -1,4 +1,6 @@
 // 01, Runs and views: the constraints that a verify tests, all of them.
+#![tactic(auto)]
+
 ghost use Rattle.kit.specs.Names.{◌≡◌, ◌+◌};
 ghost use Rattle.write_trees.specs.Table.{table_of, Readable};
 ghost use Rattle.ledger_circuits.specs.Circuits.{constraints_from, all_hold};

@@ -1,4 +1,6 @@
 // 01, Rewriting: the nodes of a function's written body, statement by statement.
+#![tactic(auto)]
+
 ghost use Rattle.kit.specs.Names.{◌≡◌, true, ◌+◌, ◌*◌};
 ghost use Rattle.theory_trees.specs.Trees.{statement_in};
 ghost use Rattle.file_accepted.specs.Context.{nodes_in};
@@ -19,14 +21,14 @@ use write_stepped_statements::write_single;
 use write_steps::{close_steps, put_steps};
 
 // How many nodes were written, and the position behind the events that they come from.
-#[derive(Drop)]
+#[derive(Clone, Copy)]
 pub struct Extent {
     pub nodes: usize,
     pub next: Position,
 }
 
 // How many steps stand before a condition, how many nodes they and its form have, and the position behind its events.
-#[derive(Drop)]
+#[derive(Clone, Copy)]
 pub struct Condition {
     pub count: usize,
     pub nodes: usize,

@@ -1,4 +1,6 @@
 // 01, Rewriting: the nodes of an expression's form in a circuit, written behind others.
+#![tactic(auto)]
+
 ghost use Rattle.kit.specs.Names.{◌≡◌, ℕ, ◌+◌, ◌<◌, ◌≤◌, length};
 ghost use Rattle.definitions.specs.ContractFile.{node_count};
 ghost use Rattle.definitions.specs.Rewriting.{leaf};
@@ -17,7 +19,7 @@ use write_reads::put_read;
 use write_variable_counts::{body_count, is_public_division};
 
 // How many nodes a form has, and the number of the next variable.
-#[derive(Drop)]
+#[derive(Clone, Copy)]
 pub struct FormExtent {
     pub nodes: usize,
     pub next: usize,

@@ -1,4 +1,6 @@
 // 01, Rewriting: the circuits of a log's claims written behind one another, and the claims' numbers.
+#![tactic(auto)]
+
 ghost use Rattle.kit.specs.Names.{◌≡◌, ◌+◌, ◌*◌, ◌≤◌, length, get_or};
 ghost use Rattle.memory_buffer.specs.Buffer.{stored};
 ghost use Rattle.file_accepted.specs.Context.{Context, nodes_in, scope_in};
@@ -11,7 +13,7 @@ use write_circuit_expressions::write_circuit_form;
 use write_places::Run;
 
 // How many claims were noted, and how many nodes their circuits have.
-#[derive(Drop)]
+#[derive(Clone, Copy)]
 pub struct Circuits {
     pub count: usize,
     pub nodes: usize,

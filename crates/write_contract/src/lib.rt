@@ -1,4 +1,6 @@
 // 01, Rewriting: a contract file checked and written into lent memory.
+#![tactic(auto)]
+
 ghost use Rattle.kit.specs.Names.{◌≡◌, ◌≤◌, length};
 ghost use Rattle.definitions.specs.ContractFile.{node_count};
 ghost use Rattle.definitions.specs.Numbers.{check_number};

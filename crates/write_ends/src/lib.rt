@@ -1,4 +1,6 @@
 // The end of a statement's or a condition's events in a log.
+#![tactic(auto)]
+
 ghost use Rattle.kit.specs.Names.{◌≤◌, length};
 ghost use Rattle.write_ends.specs.Ends.{EndFound};
 

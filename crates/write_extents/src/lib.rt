@@ -1,9 +1,11 @@
 // 01, Rewriting: how far written functions reach: whether a contract is short and a function verified, how many numbers its constraints
 // take, where the next one goes.
+#![tactic(auto)]
+
 ghost use Rattle.kit.specs.Names.{◌≡◌, ◌+◌, ◌*◌, ◌≤◌, leb, ltb};
 
 // Where the headings end, and how many nodes there are.
-#[derive(Drop)]
+#[derive(Clone, Copy)]
 pub struct Extent {
     pub end: usize,
     pub nodes: usize,

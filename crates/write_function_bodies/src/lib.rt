@@ -1,4 +1,6 @@
 // 01, Rewriting: "First, each private parameter is read", the body of a function, and the verify that ends it.
+#![tactic(auto)]
+
 ghost use Rattle.kit.specs.Names.{◌+◌, ◌*◌, ◌≤◌};
 ghost use Rattle.definitions.specs.Rewriting.{command_tree};
 ghost use Rattle.write_nodes.specs.Numbering.{Numbered};
@@ -18,7 +20,7 @@ use write_steps::{Steps, close_steps};
 
 // The body of the function that begins at a place: how many of its parameters are private, whether a verify ends it, and the place and the
 // number of its first node.
-#[derive(Drop)]
+#[derive(Clone, Copy)]
 pub struct Plan {
     pub function_at: usize,
     pub private: usize,
@@ -29,7 +31,7 @@ pub struct Plan {
 
 // The parameters that are left: where they stand in the file and how many, the number of the first one and of the first variable, and the
 // place and the number of the next node.
-#[derive(Drop)]
+#[derive(Clone, Copy)]
 pub struct ParametersLeft {
     pub place: usize,
     pub left: usize,

@@ -1,4 +1,6 @@
 // 01, Rewriting: one function written, "per function circuits, in constraint order, come before the body", and its heading.
+#![tactic(auto)]
+
 ghost use Rattle.definitions.specs.Rewriting.{function_bytes};
 ghost use Rattle.memory_append.specs.Append.{Appended};
 ghost use Rattle.write_function_room.specs.Functions.{written_in};
@@ -15,7 +17,7 @@ use write_parameters::count_private;
 use write_places::Run;
 
 // A function once it is written: how far it reaches, and how many crossings it has.
-#[derive(Drop)]
+#[derive(Clone, Copy)]
 pub struct Finished {
     pub extent: Extent,
     pub crossings: u16,
@@ -23,7 +25,7 @@ pub struct Finished {
 
 // How many private parameters there are, where the log of the body's events ends, how many variables they make, how many
 // constraints they claim, and how many nodes the circuits have.
-#[derive(Drop)]
+#[derive(Clone, Copy)]
 pub struct Parts {
     pub private: usize,
     pub logged: usize,
@@ -33,14 +35,14 @@ pub struct Parts {
 }
 
 // Where the heading of the function that begins at a place goes, and the number of its first node; then how many nodes it has.
-#[derive(Drop)]
+#[derive(Clone, Copy)]
 pub struct Start {
     pub function_at: usize,
     pub from: usize,
     pub base: usize,
 }
 
-#[derive(Drop)]
+#[derive(Clone, Copy)]
 pub struct HeadingPlace {
     pub function_at: usize,
     pub from: usize,

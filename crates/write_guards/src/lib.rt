@@ -1,4 +1,6 @@
 // 01, Rewriting: "Each branch begins by setting a guard variable of its own to true": the nodes of that setting.
+#![tactic(auto)]
+
 ghost use Rattle.kit.specs.Names.{◌+◌, ◌≤◌, length};
 ghost use Rattle.definitions.specs.ContractFile.{boolean};
 ghost use Rattle.definitions.specs.Rewriting.{BodyExpression, Command, command_tree};

@@ -1,4 +1,6 @@
 // 01, Rewriting: a function's heading, "parameters; .. variables ..; .. keys ..; .. constraints ..; body root".
+#![tactic(auto)]
+
 ghost use Rattle.kit.specs.Names.{◌≡◌, ◌+◌, ◌≤◌, length};
 ghost use Rattle.write_variables.specs.PerEntry.{count_tag};
 ghost use Rattle.memory_append.specs.Append.{Appended};

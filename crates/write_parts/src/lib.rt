@@ -1,4 +1,6 @@
 // 01, Rewriting: the written file in two buffers, one of fields and functions' headings, one of nodes.
+#![tactic(auto)]
+
 ghost use Rattle.definitions.specs.ContractFile.{function_count};
 ghost use Rattle.file_accepted.specs.Context.{Source};
 ghost use Rattle.write_parts.specs.Parts.{Ready, Scratch, FunctionsReady, FunctionsPut, PartsPut};

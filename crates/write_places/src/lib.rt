@@ -1,9 +1,11 @@
 // What goes together where nodes are written.
+#![tactic(auto)]
+
 use rewrite_log::Position;
 
 // Where writing stands: in the function that begins at a place, before an event and a variable of its log, and before a node, by the
 // place and the number that it will have.
-#[derive(Drop)]
+#[derive(Clone, Copy)]
 pub struct Spot {
     pub function_at: usize,
     pub p: Position,
@@ -13,7 +15,7 @@ pub struct Spot {
 
 // The entries of a function's log that are gone through: from which place on and how many, where the next number is noted, and the place
 // and the number of the next node.
-#[derive(Drop)]
+#[derive(Clone, Copy)]
 pub struct Run {
     pub function_at: usize,
     pub from: usize,
@@ -24,7 +26,7 @@ pub struct Run {
 }
 
 // The number of the next variable, and the place and the number of the next node.
-#[derive(Drop)]
+#[derive(Clone, Copy)]
 pub struct Next {
     pub variable: usize,
     pub at: usize,

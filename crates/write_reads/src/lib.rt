@@ -1,4 +1,6 @@
 // A variable read in a circuit: as it stands where it is plain, opened where it is a cell.
+#![tactic(auto)]
+
 ghost use Rattle.kit.specs.Names.{◌≡◌, ◌+◌, ◌≤◌, length};
 ghost use Rattle.definitions.specs.ContractFile.{node};
 ghost use Rattle.definitions.specs.Rewriting.{node_bytes};

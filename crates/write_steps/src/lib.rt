@@ -1,4 +1,6 @@
 // 01, Rewriting: steps that set read variables, and the sequences that nest them before a rest.
+#![tactic(auto)]
+
 ghost use Rattle.kit.specs.Names.{◌≡◌, ◌+◌, ◌*◌, ◌<◌, ◌≤◌, length, take};
 ghost use Rattle.definitions.specs.Basics.{flat_map};
 ghost use Rattle.definitions.specs.ContractFile.{node_count};
@@ -19,7 +21,7 @@ use write_nodes::{put_node, put_setting};
 use write_places::{Next, Run};
 
 // How many steps were written, and how many nodes they have.
-#[derive(Drop)]
+#[derive(Clone, Copy)]
 pub struct Steps {
     pub count: usize,
     pub nodes: usize,

@@ -1,4 +1,6 @@
 // 01, Rewriting: how many variables the body's and the circuit's form of a node make.
+#![tactic(auto)]
+
 ghost use Rattle.kit.specs.Names.{◌≡◌, ◌&&◌, ◌<◌, ◌≤◌};
 ghost use Rattle.definitions.specs.ContractFile.{is_division, node_count, operator_of};
 ghost use Rattle.definitions.specs.Owners.{is_public};

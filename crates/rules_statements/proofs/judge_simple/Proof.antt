@@ -41,12 +41,12 @@ judge_simple_spec =
     (λ c κs. search rules) (λ c. search rules) (λ c. search rules)
     (λ c. let found = c.before in let value = found.before.before.before.before.before in let m = value.before.before.before in
     let (inside, ready, classed, _, same, _, _) = m.before.before.before.before.before.before.requires in
-    judged.field_judged _ _ _ _ _ ready _ inside _ same _ _ _ _ _ classed found.before.field_from.ensures c.outcome.ensures m.match.keys1
+    judged.field_judged_law _ _ _ _ _ ready _ inside _ same _ _ _ _ _ classed found.before.field_from.ensures c.outcome.ensures m.match.keys1
     value.judge.ensures found.field_fault.ensures)
     (λ c. search rules) (λ c. search rules)
     (λ c. let found = c.before in let value = found.before.before.before.before.before in let key = value.before.before.before.before.before in
     let m = key.before.before.before in let (inside, ready, classed, _, same, _, _) = m.before.before.before.before.before.before.requires in
-    judged.entry_judged _ _ _ _ _ ready _ inside _ same _ _ _ _ _ classed found.before.field-from2.ensures c.outcome2.ensures _ _ m.match.keys2
+    judged.entry_judged_law _ _ _ _ _ ready _ inside _ same _ _ _ _ _ classed found.before.field-from2.ensures c.outcome2.ensures _ _ m.match.keys2
     key.judge2.ensures value.judge3.ensures found.entry_put_fault.ensures)
     (λ c. search rules) (λ c. search rules)
     (λ c. let met = c.before.before.before.before in let m = met.before.before.before in

@@ -1,0 +1,20 @@
+use Rattle.kit.specs.Names.{◌≡◌, ◌||◌, List, map, ℕ, ◌+◌, ◌*◌, ◌/◌, ◌≤◌, length}
+use Rattle.definitions.specs.Basics.{any}
+use Rattle.file_decoded.specs.Slices.{functions_from}
+use Rattle.check_05_uses.specs.Counting.{Room, root_of}
+use Rattle.check_05_uses.proofs.Loops.{Leads}
+use Rattle.check_06_depth.specs.Chains.{root_too_deep}
+use Rattle.check_07_sorts.specs.Sorts.{nodes_in, root_wrong}
+use Rattle.check_05_to_07_roots.proofs.look_at_roots.Given as goal
+
+abbrev pub invariant-loop-left : goal.invariant-loop-left
+invariant-loop-left l = ((parameters : List ℕ)
+    → (Leads l.initial.counts l.counts (map root_of (functions_from parameters l.left l.functions l.at)) (map root_of (functions_from parameters (length l.functions / 3) l.functions 0)))
+    × (l.deep || any (root_too_deep l.depths) (functions_from parameters l.left l.functions l.at)
+    ≡ any (root_too_deep l.depths) (functions_from parameters (length l.functions / 3) l.functions 0))
+    × (l.wrong || any (root_wrong (nodes_in l.nodes)) (functions_from parameters l.left l.functions l.at)
+    ≡ l.noted || any (root_wrong (nodes_in l.nodes)) (functions_from parameters (length l.functions / 3) l.functions 0)))
+    × (Room l.counts l.left) × (l.at + 3 * l.left ≤ length l.functions)
+
+abbrev pub decreases-loop-left : goal.decreases-loop-left
+decreases-loop-left l = l.left

@@ -1,0 +1,7 @@
+-- One value is stored.
+use Rattle.kit.specs.Names.{sym}
+use Rattle.memory_buffer.proofs.Storing.{stored_one}
+use Rattle.memory_buffer.proofs.put_byte.Goals as goal
+
+pub returns : goal.returns
+returns c = sym (stored_one _ _ _ c.requires)

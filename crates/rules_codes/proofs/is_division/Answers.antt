@@ -1,0 +1,4 @@
+use Rattle.rules_codes.proofs.is_division.Goals as goal
+
+pub returns : goal.returns
+returns c = rw (← c.operator_number-operator.ensures) c.either.ensures

@@ -1,7 +1,0 @@
-use Rattle.kit.specs.Names.{rules}
-use Rattle.rules_reveals.proofs.negation_judged as own
-
-pub negation_judged_spec : {M : Type 1} → own.Statement.statement M
-negation_judged_spec =
-    own.Tie.close (own.Tie.spec
-    (λ c κs. search rules) (λ c κs. search rules) (λ c κs. search rules) (λ c κs. search rules) (λ c κs. search rules) (λ c. cc))
