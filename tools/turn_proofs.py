@@ -69,7 +69,9 @@ def clauses():
             head = text[m.end():]
             end = re.search(r'\n\{|(?<=[\w\])>]) \{\n', head)
             head = head[:end.start()] if end else head
-            found.setdefault(m.group(1), {k: re.findall(r'\b' + k + r' (\w+) \{', head) for k in ('requires', 'ensures')})
+            said = {k: re.findall(r'\b' + k + r' (\w+) \{', head) for k in ('requires', 'ensures')}
+            found.setdefault(m.group(1), said)
+            found.setdefault(f'{f.parts[1]}::{m.group(1)}', said)
     return found
 
 
@@ -78,6 +80,30 @@ def said_of(step):
     if step.startswith('if') or step.endswith('-test'):
         return {'taken': 'true', 'left': 'false'}
     return {'inv': 'invariant'} if step.startswith(('loop', 'while')) else {}
+
+
+def aligned(terms, needs):
+    """The terms that answer the goals, where some goals of the older kit are settled today: those that say nothing more go."""
+    def asks(term):
+        return bool(re.match(r'^\(λ \w+ κs\.', term))
+
+    def plain(term):
+        return term.startswith('(') and bool(PLAIN.match(term[1:closing(term, 0)].strip()))
+
+    n, m = len(terms), len(needs)
+    best = {(n, m): []}
+    for i in range(n, -1, -1):
+        for j in range(m, -1, -1):
+            if (i, j) == (n, m):
+                continue
+            found = None
+            if i < n and j < m and (i + 1, j + 1) in best and asks(terms[i]) == ('requires' in needs[j][1]):
+                found = [i] + best[(i + 1, j + 1)]
+            elif i < n and plain(terms[i]) and (i + 1, j) in best:
+                found = best[(i + 1, j)]
+            if found is not None:
+                best[(i, j)] = found
+    return [terms[i] for i in best[(0, 0)]] if (0, 0) in best else terms
 
 
 class Names:
@@ -90,15 +116,17 @@ class Names:
         self.function = function
         self.known = known
         self.field, self.callee = {}, {}
-        self.params = {callee.split('::')[-1]: params for callee, params in entry.get('params', {}).items()}
+        self.params = {f"{callee.split('::')[0]}::{callee.split('::')[-1]}": params for callee, params in entry.get('params', {}).items()}
         for name, parent, (old, new), callee, *_ in entry['places']:
             if old:
                 self.field.setdefault(old, new)
                 if callee:
-                    self.callee[new] = callee.split('::')[-1]
+                    self.callee[new] = f"{callee.split('::')[0]}::{callee.split('::')[-1]}"
         for (old, new), _ in entry['loops']:
             self.field[old] = new
         self.every = dict(self.field)
+        # tests of a call's negated answer: their facts speak of the answer itself
+        self.plain_tests = {new for _, _, (_, new), _, said, *_ in entry['places'] if said}
         self.at = {name: (i, parent, old, new) for i, (name, parent, (old, new), *_) in reversed(list(enumerate(entry['places'])))}
         self.arms = entry['arms']
         self.asked_at = entry['asked_at']
@@ -171,17 +199,21 @@ class Names:
             names = self.known.get(self.function, {}).get('requires', [])
             if names and rest and rest[0].isdigit():
                 rest = self.tuple_path(names, rest) or rest
-        if len(rest) > 1 and rest[0] in ('kept', 'auto', 'last') and head in self.callee and re.match(r'[01]$', rest[1]):
+        return '.'.join(['c', head] + self.of_call(head, rest))
+
+    def of_call(self, head, rest):
+        """What is said of a call's answer, by the names of its parameters and clauses."""
+        if len(rest) > 1 and rest[0] in ('kept', 'auto', 'last', 'new') and head in self.callee and re.match(r'[01]$', rest[1]):
             params, k = self.params.get(self.callee[head], []), 1
             while k < len(rest) and rest[k] == '1':
                 k += 1
             if k < len(rest) and rest[k] == '0' and k - 1 < len(params):
-                rest = ['new' if rest[0] == 'last' else 'auto', params[k - 1]] + rest[k + 1:]
+                rest = ['new' if rest[0] in ('last', 'new') else 'auto', params[k - 1]] + rest[k + 1:]
         if rest and rest[0] == 'ensures' and head in self.callee:
             names = self.known.get(self.callee[head], {}).get('ensures', [])
             if names and len(rest) > 1 and rest[1].isdigit():
                 rest = ['ensures'] + (self.tuple_path(names, rest[1:]) or rest[1:])
-        return '.'.join(['c', head] + rest)
+        return rest
 
 
 def translate(body, names, first='c', cycle=False):
@@ -203,12 +235,17 @@ def translate(body, names, first='c', cycle=False):
 
     body = re.sub(r"(?<![\w.'-])([A-Za-z][\w'-]*)((?:\.[\w'-]+)*)", one, body)
     body = re.sub(r", c\.[\w'-]+\.[\w'-]+-own(?=[,)])", '', body)
-    body = re.sub(r", c\.(?:good|well_formed(?:\.[01])*)(?=[,)])", '', body)
-    for m in list(re.finditer(r"\blet ([\w'-]+) = c\.(?:good|well_formed(?:\.[01])*) in\s*", body)):
+    body = re.sub(r", c\.(?:good|well_formed|well-formed)(?:\.[01])*(?=[,)])", '', body)
+    for m in list(re.finditer(r"\blet ([\w'-]+) = c\.(?:good|well_formed|well-formed)(?:\.[01])* in\s*", body)):
         if len(re.findall(rf"(?<![\w.'-]){re.escape(m.group(1))}(?![\w'-])", body)) == 1 + len(re.findall(rf", {re.escape(m.group(1))}(?=[,)])", body)):
             body = re.sub(rf", {re.escape(m.group(1))}(?=[,)])", '', body.replace(m.group(0), ''))
-    body = re.sub(r"\(not-(?:true|false) _ (c\.if-not-[\w'-]+\.(?:true|false))\)", r'\1', body)
+    body = re.sub(r"\(not-(?:true|false) _ (c\.(if-not-[\w'-]+)\.(?:true|false))\)",
+                  lambda m: m.group(1) if m.group(2) in names.plain_tests else m.group(0), body)
     body = re.sub(r", c\.fits(?:\.(?!ensures|result)[\w'-]+)+(?=[,)])", '', body)
+    for m in list(re.finditer(r"\blet ([\w'-]+) = c\.([\w'-]+) in", body)):
+        if m.group(2) in names.callee:
+            body = re.sub(rf"(?<![\w.'-]){re.escape(m.group(1))}((?:\.[\w'-]+)+)",
+                          lambda k: '.'.join([m.group(1)] + names.of_call(m.group(2), k.group(1)[1:].split('.'))), body)
     for m in list(re.finditer(r"\blet ([\w'-]+) = c\.([\w'-]+)\.ensures in", body)):
         clause = names.known.get(names.callee.get(m.group(2), ''), {}).get('ensures', [])
         if clause:
@@ -218,6 +255,7 @@ def translate(body, names, first='c', cycle=False):
     if rest:
         body = body[:rest.start()] + body[rest.end():]
         body = re.sub(rf"(?<![\w.'-]){re.escape(rest.group(1))}(?:\.[01])+(?![\w'-])", '(search rules)', body)
+        body = re.sub(rf"\blet [\w'-]+ = {re.escape(rest.group(1))} in\s*", '', body)
     body = re.sub(r"(?<![\w.])c\.[\w'-]+\.in_default-own(?:\.[01])+(?![\w'-])", '(search rules)', body)
     for m in re.finditer(r"\blet ([\w'-]+) = c\.((?:loop|if|while|match)[\w'-]*) in", body):
         for old, new in said_of(m.group(2)).items():
@@ -237,6 +275,8 @@ def translate(body, names, first='c', cycle=False):
                 first, *others = split_at(body[m.end():end], ',')
                 pattern = others[0].strip() if len(others) == 1 else '(' + ','.join(others).strip() + ')'
                 body = body[:m.start()] + f'let {pattern}' + body[end + 1:]
+                if first.strip() != '_':
+                    body = re.sub(rf"(?<![\w.'-]){re.escape(first.strip())}(?![\w'-])", 'c.decreases', body)
         body = re.sub(r"(?<![\w.])c\.requires\.1(?![\w'-])", 'c.requires', body)
 
     def destruct(pattern, head, whole):
@@ -337,7 +377,7 @@ def turn(crate, folder, names_of, known):
     key = f"Rattle-{crate}-proofs.{'.'.join(folder.relative_to(pathlib.Path('crates') / crate / 'proofs').parts)}.Lts"
     if key not in names_of:
         return f'no names {key}'
-    names = Names(names_of[key], function, known)
+    names = Names(names_of[key], f'{crate}::{function}', known)
     m = re.search(r'own\.Tie\.close\s+\(own\.Tie\.spec', text)
     if not m:
         return 'no Tie.close'
@@ -354,6 +394,8 @@ def turn(crate, folder, names_of, known):
     n = 0
     while terms and re.match(r'^(Inv|μ)-', terms[0]):
         used.add(terms.pop(0))
+    if len(terms) > len(names.needs):
+        terms = aligned(terms, names.needs)
     if len(terms) != len(names.needs):
         return f'{len(terms)} answers for {len(names.needs)} goals: {[n for n, _ in names.needs]}'
     by_loop = {old: (new, vars_, ch) for ((old, new), vars_), ch in zip(names.loops, names.changed)}
@@ -395,9 +437,9 @@ def turn(crate, folder, names_of, known):
     helper, became = {}, {}
     rest = []
     for piece in others:
-        m = re.match(r"([\w'-]+) : own\.[^\n]*(?:\n[ \t]+[^\n]*)*\n(unfolding [^\n]*\n)?\1 (c(?: κs)?) =\s*(.*)$", piece, re.S)
+        m = re.match(r"([\w'-]+) : own\.[^\n]*(?:\n[ \t]+[^\n]*)*\n(unfolding [^\n]*\n)?\1 c((?: [\w'-]+)*) =\s*(.*)$", piece, re.S)
         if m:
-            helper[m.group(1)] = (m.group(2) or '', m.group(4))
+            helper[m.group(1)] = (m.group(2) or '', m.group(3), m.group(4))
         else:
             rest.append(piece)
     for k, ((old, new), term) in enumerate(zip(names.needs, terms)):
@@ -407,7 +449,7 @@ def turn(crate, folder, names_of, known):
             term = term[1:closing(term, 0)].strip()
         if re.fullmatch(r"[\w'-]+", term) and term in helper:
             became[term] = new
-            un, term = helper[term][0] or unfold, 'λ c. ' + helper[term][1]
+            un, term = helper[term][0] or unfold, f'λ c{helper[term][1]}. {helper[term][2]}'
         if PLAIN.match(term) and (not un or re.match(r'overflow|shape_of|bounds|offset|nonzero', new)):
             continue
         m = re.match(r"^λ (\w+)((?: [\w'-]+)*)\.\s*(.*)$", term, re.S)
@@ -422,7 +464,7 @@ def turn(crate, folder, names_of, known):
         if asked is None and new.endswith('requires') or old.split('-requires')[0] != old:
             callee = old.split('-requires')[0].replace('-', '_')
             callee = names.callee.get(names.field.get(callee, callee), re.sub(r'\d+$', '', callee))
-            asked = asked or known.get(callee, {}).get('requires') or None
+            asked = asked or known.get(callee.split("::")[-1] if callee not in known else callee, {}).get('requires') or None
         if asked:
             body = by_clause(body, asked)
         answers.append(f'pub {new} : goal.{new}\n{un}{new} c = {lay(body)}\n')
@@ -497,14 +539,26 @@ def turn_cycle(crate, folder, names_of, known):
             name = f'decreases-{function}'
             invariants.append(f'abbrev pub {name} : goal.{name}\n{m.group(2) or ""}{name} l = {lay(body)}\n')
             continue
-        if re.match(r"abbrev [a-z0-9_-]+-(at|below|claims) :", piece):
+        if re.match(r"abbrev [a-z0-9_-]+[-_](at|below|claims) :", piece):
+            continue
+        m = re.match(r"abbrev ([a-z0-9_-]+)-(Inv|μ)-(loop\d*) : [^\n]*\n(unfolding [^\n]*\n)?\1-\2-\3 ([^=]*)=\s*(.*)$", piece, re.S)
+        if m:
+            whose, kind, loop, un, params, body = m.groups()
+            entry = entries[whose.replace('-', '_')]
+            new, vars_, ch = {old: (new, v, c) for ((old, new), v), c in zip(entry['loops'], entry['changed'])}[loop]
+            params, changed = params.split(), [v for v, c in zip(vars_, ch) if c]
+            to = {p: ('l.initial.' if c else 'l.') + v for p, v, c in zip(params, vars_, ch)}
+            to.update({p: 'l.' + v for p, v in zip(params[len(vars_):], changed)})
+            body = re.sub(r"(?<![\w.'₀-₉-])([A-Za-z_][\w'₀-₉-]*)", lambda k: to.get(k.group(1), k.group(1)), body)
+            name = f"{'invariant' if kind == 'Inv' else 'decreases'}-{whose.replace('-', '_') + '-' if many else ''}{new}"
+            invariants.append(f'abbrev pub {name} : goal.{name}\n{un or ""}{name} l = {lay(body)}\n')
             continue
         others.append(piece)
-    helper, rest = {}, []
+    helper, became, rest = {}, {}, []
     for piece in others:
-        m = re.match(r"([\w'-]+) :\s*\(t : ℕ\)[^=]*?\n(unfolding [^\n]*\n)?\1 t c(?: κs)? =\s*(.*)$", piece, re.S)
+        m = re.match(r"([\w'-]+) :\s*\(t : ℕ\)[^=]*?\n(unfolding [^\n]*\n)?\1 t c((?: [\w'-]+)*) =\s*(.*)$", piece, re.S)
         if m:
-            helper[m.group(1)] = (m.group(2) or '', m.group(3))
+            helper[m.group(1)] = (m.group(2) or '', m.group(3), m.group(4))
         else:
             rest.append(piece)
     functions = []
@@ -516,10 +570,12 @@ def turn_cycle(crate, folder, names_of, known):
         function = m.group(1).replace('-', '_')
         if function not in entries:
             return f'no names of {function} in {list(entries)}'
-        names = Names(entries[function], function, known)
+        names = Names(entries[function], f'{crate}::{function}', known)
         parts = split_terms(term[m.end():])[3:]
-        while parts and re.match(r'^\(?(Inv|μ)-', parts[0]):
-            return 'loops in a cycle'
+        while parts and re.match(r'^[a-z0-9_-]+-(Inv|μ)-loop\d*$', parts[0]):
+            parts.pop(0)
+        if len(parts) > len(names.needs):
+            parts = aligned(parts, names.needs)
         if len(parts) != len(names.needs):
             return f'{function}: {len(parts)} answers for {len(names.needs)} goals: {[n for n, _ in names.needs]}'
         functions.append(function)
@@ -530,7 +586,8 @@ def turn_cycle(crate, folder, names_of, known):
                 part = part[1:closing(part, 0)].strip()
             h = re.match(r"^([\w'-]+)(?: t)?$", part)
             if h and h.group(1) in helper:
-                un, part = helper[h.group(1)][0] or unfold, 'λ c. ' + helper[h.group(1)][1]
+                became[h.group(1)] = f'{function}-{new}' if many else new
+                un, part = helper[h.group(1)][0] or unfold, f'λ c{helper[h.group(1)][1]}. {helper[h.group(1)][2]}'
             if PLAIN.match(part) and (not un or re.match(r'overflow|shape_of|bounds|offset|nonzero', new)):
                 continue
             m = re.match(r"^λ (\w+)((?: [\w'-]+)*)\.\s*(.*)$", part, re.S)
@@ -545,6 +602,10 @@ def turn_cycle(crate, folder, names_of, known):
                 body = by_clause(body, asked)
             name = f'{function}-{new}' if many else new
             answers.append(f'pub {name} : goal.{name}\n{un}{name} t c = {lay(body)}\n')
+    for old, new in became.items():
+        answers = [re.sub(rf"(?<![\w.'-]){re.escape(old)} t c(?![\w'.-])", f'{new} t c', a) for a in answers]
+        cites = [a for a in answers if f'{new} t c' in a and not a.startswith(f'pub {new} ')]
+        answers = [a for a in answers if a not in cites] + cites
     path = f'Rattle.{crate}.proofs.{folder.name}'
     kept = [i for i in imports if not re.match(r'use .*(\.(Reads|Kinds) as |\.Lts-\w+ as |\.Tie\.\{close\}|\.\{statement\})', i)]
     kept = [re.sub(r', (?:In|Measures|is|falls|and)(?=[,}])', '', i) if 'kit.specs.Names' in i else i for i in kept]

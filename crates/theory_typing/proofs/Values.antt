@@ -3,7 +3,7 @@ use Rattle.kit.specs.Names.{◌≡◌, refl, ap, ◌∙◌, Bool, true, false, �
 use Rattle.kit.specs.Names.{some_injective, ℕ, ◌+◌, ◌*◌, ◌-◌, ◌/◌, ◌%◌, ◌<◌, ◌≤◌, arith, mod-lt, mod-le, div-le_self, ltb, leb, eqb}
 use Rattle.kit.specs.Names.{get_or, ltb-true, lt-ltb}
 use Rattle.definitions.specs.Basics.{bit}
-use Rattle.definitions.specs.ContractFile.{DataType, boolean, uint, address, Name, me_name, final_name, parameter_name, Operator, plus, minus, times, divide, remainder, less, less_or_equal, equal, unequal, conjunction, disjunction, Expression, constant, me, field, entry, parameter, operator, negation, reveal, assign_entry, Scope, field_at, parameter_at, same_type, is_final, is_of_type, operands_fit, result_type, type_of}
+use Rattle.definitions.specs.ContractFile.{DataType, boolean, uint, Name, me_name, final_name, parameter_name, Operator, plus, minus, times, divide, remainder, less, less_or_equal, equal, unequal, conjunction, disjunction, Expression, constant, me, field, entry, parameter, operator, negation, reveal, assign_entry, Scope, field_at, parameter_at, same_type, is_final, is_of_type, operands_fit, result_type, type_of}
 use Rattle.definitions.specs.Owners.{Links, name_of, is_public_address}
 use Rattle.definitions.specs.Numbers.{expression_faults, statement_faults}
 use Rattle.definitions.specs.Original.{place_count, position, operate, value}

@@ -1,11 +1,8 @@
-use Rattle.kit.specs.Names.{refl, sym, ◌+◌, ◌*◌, ℕ, ◌<◌, arith, rules}
+use Rattle.kit.specs.Names.{refl, sym, arith, rules}
 use Rattle.theory_trees.proofs.ByKind.{constant_is, field_is, entry_is, parameter_is, operator_is, negation_is, reveal_is, other_is, key_below, part_below, revealed_below, operands_below}
 use Rattle.file_accepted.proofs.Nodes.{node_reads}
 use Rattle.honest_values.proofs.ValuesByKind.{kind_as, constant_value_law, me_value, field_value, entry_value, parameter_value, operator_value, negation_value, reveal_value}
 use Rattle.honest_values.proofs.+entry_value_negation_value_operator_value_value.Goals as goal
-
-abbrev value_below : ℕ → In 4 value-kinds.ps
-value_below t = and 4 value-kinds.ps (falls 4 value-kinds.ps ◌<◌ μ-value t) value.Pre
 
 pub entry_value-node_at-node-requires : goal.entry_value-node_at-node-requires
 entry_value-node_at-node-requires t c = let (_, (n-bound, context)) = c.requires in (context.narrow, omega (arith, context.long, n-bound))
@@ -13,7 +10,7 @@ entry_value-node_at-node-requires t c = let (_, (n-bound, context)) = c.requires
 pub entry_value-value-key-requires : goal.entry_value-value-key-requires
 entry_value-value-key-requires t c = let (kind-at-is, (n-bound, context)) = c.requires in
     let less = key_below (node_reads _ _ _ context _ n-bound _ c.node_at-node.ensures.same) (kind_as _ _ _ c.node_at-node.ensures.same kind-at-is) in
-    (omega (arith, falls-2, less), (omega (arith, n-bound, less), context))
+    (omega (arith, c.decreases, less), (omega (arith, n-bound, less), context))
 
 pub entry_value-position-requires : goal.entry_value-position-requires
 entry_value-position-requires t c = let (_, (_, context)) = c.requires in (context.few_fields, omega arith)
@@ -32,7 +29,7 @@ negation_value-node_at-node-requires t c = let (_, (n-bound, context)) = c.requi
 pub negation_value-value-part-requires : goal.negation_value-value-part-requires
 negation_value-value-part-requires t c = let (kind-at-is, (n-bound, context)) = c.requires in
     let less = part_below (node_reads _ _ _ context _ n-bound _ c.node_at-node.ensures.same) (kind_as _ _ _ c.node_at-node.ensures.same kind-at-is) in
-    (omega (arith, falls-2, less), (omega (arith, n-bound, less), context))
+    (omega (arith, c.decreases, less), (omega (arith, n-bound, less), context))
 
 pub negation_value-negated-requires : goal.negation_value-negated-requires
 negation_value-negated-requires t c = tt
@@ -48,13 +45,13 @@ operator_value-node_at-node-requires t c = let (_, (n-bound, context)) = c.requi
 pub operator_value-value-left-requires : goal.operator_value-value-left-requires
 operator_value-value-left-requires t c = let (kind-at-is, (n-bound, context)) = c.requires in
     let less = operands_below (node_reads _ _ _ context _ n-bound _ c.node_at-node.ensures.same) (kind_as _ _ _ c.node_at-node.ensures.same kind-at-is) in
-    (omega (arith, falls-2, less.0), (omega (arith, n-bound, less.0), context))
+    (omega (arith, c.decreases, less.0), (omega (arith, n-bound, less.0), context))
 
 pub operator_value-value-right-requires : goal.operator_value-value-right-requires
 operator_value-value-right-requires t c = let (kind-at-is, (n-bound, context)) = c.requires in
     let node-at-same = c.node_at-node.ensures.same in
     let less = operands_below (node_reads _ _ _ context _ n-bound _ node-at-same) (kind_as _ _ _ node-at-same kind-at-is) in
-    (omega (arith, falls-2, less.1), (omega (arith, n-bound, less.1), context))
+    (omega (arith, c.decreases, less.1), (omega (arith, n-bound, less.1), context))
 
 pub operator_value-operated-requires : goal.operator_value-operated-requires
 operator_value-operated-requires t c = tt
@@ -78,23 +75,23 @@ value-number_at-requires t c = tt
 
 pub value-entry_value-requires : goal.value-entry_value-requires
 value-entry_value-requires t c = let (n-bound, context) = c.requires in
-    (omega (arith, falls-2), (kind_as _ _ _ (sym c.node_at-node.ensures.same) c.in-4.is, (n-bound, context)))
+    (omega (arith, c.decreases), (kind_as _ _ _ (sym c.node_at-node.ensures.same) c.in-4.is, (n-bound, context)))
 
 pub value-number_at-requires-in-5 : goal.value-number_at-requires-in-5
 value-number_at-requires-in-5 t c = tt
 
 pub value-operator_value-requires : goal.value-operator_value-requires
 value-operator_value-requires t c = let (n-bound, context) = c.requires in
-    (omega (arith, falls-2), (kind_as _ _ _ (sym c.node_at-node.ensures.same) c.in-6.is, (n-bound, context)))
+    (omega (arith, c.decreases), (kind_as _ _ _ (sym c.node_at-node.ensures.same) c.in-6.is, (n-bound, context)))
 
 pub value-negation_value-requires : goal.value-negation_value-requires
 value-negation_value-requires t c = let (n-bound, context) = c.requires in
-    (omega (arith, falls-2), (kind_as _ _ _ (sym c.node_at-node.ensures.same) c.in-7.is, (n-bound, context)))
+    (omega (arith, c.decreases), (kind_as _ _ _ (sym c.node_at-node.ensures.same) c.in-7.is, (n-bound, context)))
 
 pub value-value-requires : goal.value-value-requires
 value-value-requires t c = let (n-bound, context) = c.requires in
     let less = revealed_below (node_reads _ _ _ context _ n-bound _ c.node_at-node.ensures.same) c.in-8.is in
-    (omega (arith, falls-2, less), (omega (arith, n-bound, less), context))
+    (omega (arith, c.decreases, less), (omega (arith, n-bound, less), context))
 
 pub value-returns-in-1 : goal.value-returns-in-1
 value-returns-in-1 t c = let (n-bound, context) = c.requires in

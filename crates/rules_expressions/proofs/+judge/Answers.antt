@@ -1,4 +1,4 @@
-use Rattle.kit.specs.Names.{ℕ, ◌<◌, arith, rules}
+use Rattle.kit.specs.Names.{arith, rules}
 use Rattle.theory_trees.proofs.ByKind.{key_below, operands_below, part_below, revealed_below}
 use Rattle.rules_scopes.proofs.Nodes.{node_reads}
 use Rattle.rules_scopes.proofs.Named.{field_there, mapping_there, target_listed, target_there}

@@ -53,7 +53,7 @@ returns-in-18 c = let args = c.args in let (n-bound, (readable, _)) = c.requires
     let read-node = c.read_node-node.ensures in
     let match-keys1 = c.in-18.is in
     let evaluate = c.evaluate-value in let assign = c.assign in
-    field_ran args.file.now args.addresses.now args.parameters.now (constraints_from (table_of args.nodes.now) args.constraints.now) args.places.now args.variables.now (command_in (table_of args.nodes.now) args.n) _ _ _ evaluate.result assign.last.1.0 (command_assign_field _ readable.falling _ _ (read_here _ _ n-bound _ read-node) match-keys1) evaluate.ensures assign.ensures refl
+    field_ran args.file.now args.addresses.now args.parameters.now (constraints_from (table_of args.nodes.now) args.constraints.now) args.places.now args.variables.now (command_in (table_of args.nodes.now) args.n) _ _ _ evaluate.result assign.new.places (command_assign_field _ readable.falling _ _ (read_here _ _ n-bound _ read-node) match-keys1) evaluate.ensures assign.ensures refl
 
 pub returns-in-19 : goal.returns-in-19
 returns-in-19 c = let args = c.args in let (n-bound, (readable, _)) = c.requires in
@@ -62,7 +62,7 @@ returns-in-19 c = let args = c.args in let (n-bound, (readable, _)) = c.requires
     let evaluate2 = c.evaluate-key in
     let evaluate3 = c.evaluate-value-in-19 in
     let number_of = c.number_of in let assign2 = c.assign-in-19 in
-    entry_ran args.file.now args.addresses.now args.parameters.now (constraints_from (table_of args.nodes.now) args.constraints.now) args.places.now args.variables.now (command_in (table_of args.nodes.now) args.n) _ _ number_of.result _ _ evaluate2.result evaluate3.result assign2.last.1.0 (command_assign_entry _ readable.falling _ _ (read_here _ _ n-bound _ read-node) match-keys2) evaluate2.ensures evaluate3.ensures number_of.ensures assign2.ensures c.both_walked.ensures
+    entry_ran args.file.now args.addresses.now args.parameters.now (constraints_from (table_of args.nodes.now) args.constraints.now) args.places.now args.variables.now (command_in (table_of args.nodes.now) args.n) _ _ number_of.result _ _ evaluate2.result evaluate3.result assign2.new.places (command_assign_entry _ readable.falling _ _ (read_here _ _ n-bound _ read-node) match-keys2) evaluate2.ensures evaluate3.ensures number_of.ensures assign2.ensures c.both_walked.ensures
 
 pub returns-in-20 : goal.returns-in-20
 returns-in-20 c = let args = c.args in let (n-bound, (readable, _)) = c.requires in
@@ -74,7 +74,7 @@ returns-in-22 c = let args = c.args in let (n-bound, (readable, _)) = c.requires
     let read-node = c.read_node-node.ensures in
     let match-keys4 = c.in-22.is in
     let evaluate5 = c.evaluate-value-in-22 in let put-content = c.put_content in
-    variable_ran args.file.now args.addresses.now args.parameters.now (constraints_from (table_of args.nodes.now) args.constraints.now) args.places.now args.variables.now (command_in (table_of args.nodes.now) args.n) _ _ _ evaluate5.result put-content.last.0 (command_set_variable _ readable.falling _ _ (read_here _ _ n-bound _ read-node) match-keys4) evaluate5.ensures put-content.ensures refl
+    variable_ran args.file.now args.addresses.now args.parameters.now (constraints_from (table_of args.nodes.now) args.constraints.now) args.places.now args.variables.now (command_in (table_of args.nodes.now) args.n) _ _ _ evaluate5.result put-content.new.flat (command_set_variable _ readable.falling _ _ (read_here _ _ n-bound _ read-node) match-keys4) evaluate5.ensures put-content.ensures refl
 
 pub returns-in-23 : goal.returns-in-23
 returns-in-23 c = let args = c.args in

@@ -1,6 +1,0 @@
-use Rattle.kit.specs.Names.{sym, rules}
-use Rattle.memory_buffer.proofs.Storing.{stored_one}
-use Rattle.honest_supplies.proofs.put_slot as own
-
-pub put_slot_spec : {M : Type 1} → own.Statement.statement M
-put_slot_spec = own.Tie.close (own.Tie.spec (λ c. search rules) (λ c. search rules) (λ c. search rules) (λ c. sym (stored_one _ _ _ c.requires)))

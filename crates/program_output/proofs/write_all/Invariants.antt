@@ -1,0 +1,9 @@
+-- Each turn takes at least one byte more.
+use Rattle.kit.specs.Names.{◌-◌, ◌≤◌, length}
+use Rattle.program_output.proofs.write_all.Given as goal
+
+abbrev pub invariant-loop-done : goal.invariant-loop-done
+invariant-loop-done l = l.done ≤ length l.bytes
+
+abbrev pub decreases-loop-done : goal.decreases-loop-done
+decreases-loop-done l = length l.bytes - l.done

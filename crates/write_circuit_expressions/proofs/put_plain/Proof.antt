@@ -1,9 +1,0 @@
--- A leaf is a tree of one node, whatever its number.
-use Rattle.kit.specs.Names.{refl, rules}
-use Rattle.write_nodes.proofs.TreeNodes.{numbered_as, numbered_leaf}
-use Rattle.write_circuit_expressions.proofs.put_plain as own
-
-pub put_plain_spec : {M : Type 1} → own.Statement.statement M
-put_plain_spec =
-    own.Tie.close (own.Tie.spec (λ c κs. search rules) (λ c. search rules) (λ c. let put-leaf = c.before.before.put_leaf.ensures in
-    (λ base. numbered_as _ _ _ _ _ _ _ _ refl put-leaf.1 (numbered_leaf _ _ base _ _ _ _ _ put-leaf.0), refl)))
