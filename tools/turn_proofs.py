@@ -186,7 +186,7 @@ class Names:
                     if new_sub.endswith('-own') and left and left[0] in ('rest', 'given'):
                         left = left[1:]
                     return '.'.join(['c', new_head, new_sub] + left)
-        for known in (head, plain, head.replace('_', '-'), plain.lower(), re.sub(r'\d+$', '', plain)):
+        for known in (head, plain, head.replace('_', '-'), plain.lower(), re.sub(r'\d+$', '', plain), re.sub(r'_lem$', '', plain)):
             if known in self.field:
                 head = self.field[known]
                 break
@@ -209,6 +209,8 @@ class Names:
                 k += 1
             if k < len(rest) and rest[k] == '0' and k - 1 < len(params):
                 rest = ['new' if rest[0] in ('last', 'new') else 'auto', params[k - 1]] + rest[k + 1:]
+        if rest and rest[0] == 'kept':
+            rest = ['auto'] + rest[1:]
         if rest and rest[0] == 'ensures' and head in self.callee:
             names = self.known.get(self.callee[head], {}).get('ensures', [])
             if names and len(rest) > 1 and rest[1].isdigit():
@@ -241,11 +243,21 @@ def translate(body, names, first='c', cycle=False):
             body = re.sub(rf", {re.escape(m.group(1))}(?=[,)])", '', body.replace(m.group(0), ''))
     body = re.sub(r"\(not-(?:true|false) _ (c\.(if-not-[\w'-]+)\.(?:true|false))\)",
                   lambda m: m.group(1) if m.group(2) in names.plain_tests else m.group(0), body)
+    body = re.sub(r"not-(?:true|false) _ (c\.(if-not-[\w'-]+)\.(?:true|false))(?![\w'.-])",
+                  lambda m: m.group(1) if m.group(2) in names.plain_tests else m.group(0), body)
+    body = re.sub(r"not-(?:true|false) _ \((c\.(if-not-[\w'-]+)\.(?:true|false))\)",
+                  lambda m: m.group(1) if m.group(2) in names.plain_tests else m.group(0), body)
     body = re.sub(r", c\.fits(?:\.(?!ensures|result)[\w'-]+)+(?=[,)])", '', body)
     for m in list(re.finditer(r"\blet ([\w'-]+) = c\.([\w'-]+) in", body)):
         if m.group(2) in names.callee:
             body = re.sub(rf"(?<![\w.'-]){re.escape(m.group(1))}((?:\.[\w'-]+)+)",
                           lambda k: '.'.join([m.group(1)] + names.of_call(m.group(2), k.group(1)[1:].split('.'))), body)
+    body = re.sub(r", c\.[\w'-]+\.(?:kept|auto)(?=[,)])", '', body)
+    body = re.sub(r"\(arith, c\.[\w'-]+\.(?:kept|auto)\)", '(arith)', body).replace('omega (arith)', 'omega arith')
+    for m in list(re.finditer(r"\blet ([\w'-]+) = c\.([\w'-]+)\.(?:kept|auto) in", body)):
+        params = names.params.get(names.callee.get(m.group(2), ''), [])
+        body = re.sub(rf"(?<![\w.'-]){re.escape(m.group(1))}((?:\.1)*)\.0(?![\w'-])",
+                      lambda k: f"{m.group(1)}.{params[k.group(1).count('1')]}" if k.group(1).count('1') < len(params) else k.group(0), body)
     for m in list(re.finditer(r"\blet ([\w'-]+) = c\.([\w'-]+)\.ensures in", body)):
         clause = names.known.get(names.callee.get(m.group(2), ''), {}).get('ensures', [])
         if clause:
@@ -434,9 +446,13 @@ def turn(crate, folder, names_of, known):
             continue
         others.append(piece)
     answers = []
-    helper, became = {}, {}
+    helper, became, inline = {}, {}, {}
     rest = []
     for piece in others:
+        m = re.match(r"([\w'-]+) : \(c : own\.Tie\.Start[^)]*\)\s*→ ([^\n]*)\n\1 c =\s*(.*)$", piece, re.S)
+        if m:
+            inline[m.group(1)] = (m.group(2), m.group(3))
+            continue
         m = re.match(r"([\w'-]+) : own\.[^\n]*(?:\n[ \t]+[^\n]*)*\n(unfolding [^\n]*\n)?\1 c((?: [\w'-]+)*) =\s*(.*)$", piece, re.S)
         if m:
             helper[m.group(1)] = (m.group(2) or '', m.group(3), m.group(4))
@@ -467,6 +483,9 @@ def turn(crate, folder, names_of, known):
             asked = asked or known.get(callee.split("::")[-1] if callee not in known else callee, {}).get('requires') or None
         if asked:
             body = by_clause(body, asked)
+        for name, (type_, proof_) in inline.items():
+            if re.search(rf"(?<![\w.'-]){name} c(?![\w'.-])", body):
+                body = f'let {name} : {type_} = {proof_} in ' + re.sub(rf"(?<![\w.'-]){name} c(?![\w'.-])", name, re.sub(rf"\({name} c\)", name, body))
         answers.append(f'pub {new} : goal.{new}\n{un}{new} c = {lay(body)}\n')
     for old, new in became.items():
         answers = [re.sub(rf"(?<![\w.'-]){re.escape(old)} c(?![\w'.-])", f'{new} c', a) for a in answers]

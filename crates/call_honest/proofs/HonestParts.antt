@@ -7,7 +7,7 @@ use Rattle.definitions.specs.Ledger.{Content, Ledger, opened_number, call_number
 use Rattle.memory_buffer.proofs.Storing.{front_stored}
 use Rattle.file_accepted.proofs.Declarations.{parameters_count}
 use Rattle.theory_typing.proofs.WellFormed.{ledger_accepted}
-use Rattle.theory_typing.proofs.CallEnvironment.{calls_left, call_well_formed, function_exists, argument_count}
+use Rattle.theory_typing.proofs.CallEnvironment.{call_well_formed, function_exists, argument_count}
 use Rattle.file_accepted.specs.Context.{nodes_in, parameters_in, scope_in, Source}
 use Rattle.file_accepted.specs.Functions.{function_start, root_at}
 use Rattle.file_accepted.proofs.Functions.{functions_count, function_in_law}

@@ -22,65 +22,65 @@ fn rewrite(file: &[u8], out: &mut [u8]) -> Answer
     write_contract::write(file, out)
 }
 
-fn answer_in(file: &[u8], out: &mut [u8])
+fn answer_in(rt: &HostRuntime, file: &[u8], out: &mut [u8])
     requires { Suffices file.now (length out.old) }
 {
     let answer = rewrite(file, out);
     let end = answer.length;
     if answer.number == 0 {
-        deliver(b"compile", &out[..end]);
+        deliver(rt, b"compile", &out[..end]);
     } else {
-        print_refused(b"compile", answer.number);
+        print_refused(rt, b"compile", answer.number);
     }
 }
 
 // Functions of their own, so that the room that a short file needs is all that is cleared for it.
-fn answer_tiny(file: &[u8])
+fn answer_tiny(rt: &HostRuntime, file: &[u8])
     requires { length file.now ≤ 112 }
 {
     let mut out = tiny_written_room();
-    answer_in(file, &mut out);
+    answer_in(rt, file, &mut out);
 }
 
-fn answer_short(file: &[u8])
+fn answer_short(rt: &HostRuntime, file: &[u8])
     requires { length file.now ≤ 512 }
 {
     let mut out = short_written_room();
-    answer_in(file, &mut out);
+    answer_in(rt, file, &mut out);
 }
 
-fn answer_any(file: &[u8]) {
+fn answer_any(rt: &HostRuntime, file: &[u8]) {
     let mut out = written_room();
-    answer_in(file, &mut out);
+    answer_in(rt, file, &mut out);
 }
 
-fn answer(file: &[u8]) {
+fn answer(rt: &HostRuntime, file: &[u8]) {
     if is_tiny(file.len()) {
-        answer_tiny(file);
+        answer_tiny(rt, file);
     } else if is_short_file(file.len()) {
-        answer_short(file);
+        answer_short(rt, file);
     } else {
-        answer_any(file);
+        answer_any(rt, file);
     }
 }
 
 // So is the large room for the input, which only one that fills the short room needs.
-fn answer_long(beginning: Beginning, start: &[u8]) {
+fn answer_long(rt: &HostRuntime, beginning: Beginning, start: &[u8]) {
     let mut file = contract_room();
-    let input = read_rest(b"compile", beginning, start, &mut file);
+    let input = read_rest(rt, b"compile", beginning, start, &mut file);
     let length = input.length;
     if input.ready {
-        answer(&file[..length]);
+        answer(rt, &file[..length]);
     }
 }
 
-fn main() {
+fn main(rt: HostRuntime) {
     let mut file = short_contract_room();
-    let beginning = begin_input(b"compile", 2, &mut file);
+    let beginning = begin_input(&rt, b"compile", 2, &mut file);
     let length = beginning.length;
     if beginning.full {
-        answer_long(beginning, &file);
+        answer_long(&rt, beginning, &file);
     } else if beginning.ready {
-        answer(&file[..length]);
+        answer(&rt, &file[..length]);
     }
 }

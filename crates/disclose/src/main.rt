@@ -24,10 +24,10 @@ fn line_room() -> [u8; 10773]
 }
 
 // The number of a call, and the values that it discloses. The answer is whether all of it was printed.
-fn print_line(number: u8, values: &[u32]) -> bool {
+fn print_line(rt: &HostRuntime, number: u8, values: &[u32]) -> bool {
     let mut line = line_room();
     let end = disclose_lines::write_line(number, values, &mut line);
-    print(b"disclose", &line[..end]) == end
+    print(rt, b"disclose", &line[..end]) == end
 }
 
 // What call k of the script answers on a ledger.
@@ -40,7 +40,7 @@ fn call_at(bytes: &[u8], k: u8, ledger: Ledger) -> Called {
 
 // The line of call k, which has this number on the ledger. One that is refused discloses nothing, and neither does any to a party
 // above 15.
-fn tell_call(bytes: &[u8], k: u8, ledger: Ledger, number: u8, party: u8) -> bool {
+fn tell_call(rt: &HostRuntime, bytes: &[u8], k: u8, ledger: Ledger, number: u8, party: u8) -> bool {
     let parts = rehearse_scripts::read_call(bytes, k);
     let arguments = rehearse_scripts::arguments(bytes, k);
     let count = parts.arguments as usize;
@@ -54,25 +54,25 @@ fn tell_call(bytes: &[u8], k: u8, ledger: Ledger, number: u8, party: u8) -> bool
         &mut values,
     );
     let length = ledger_struct::at_most(answer.length, 512);
-    print_line(number, &values[..length])
+    print_line(rt, number, &values[..length])
 }
 
 // A line that cannot be printed ends it: one failure is told once.
-fn disclose(bytes: &[u8]) {
+fn disclose(rt: &HostRuntime, bytes: &[u8]) {
     let script = rehearse_scripts::read_script(bytes);
     let deployment = deploy::deploy(
         rehearse_scripts::file_of(bytes),
         rehearse_scripts::addresses_of(bytes),
     );
     if 0 < deployment.number {
-        print_refused(b"disclose", deployment.number);
+        print_refused(rt, b"disclose", deployment.number);
         return;
     }
     let mut ledger = deployment.ledger;
     let mut k: u8 = 0;
     while k < script.calls {
         let called = call_at(bytes, k, ledger);
-        if !tell_call(bytes, k, ledger, called.number, script.party) {
+        if !tell_call(rt, bytes, k, ledger, called.number, script.party) {
             return;
         }
         let after = called.ledger;
@@ -81,31 +81,31 @@ fn disclose(bytes: &[u8]) {
     }
 }
 
-fn answer(bytes: &[u8]) {
+fn answer(rt: &HostRuntime, bytes: &[u8]) {
     if rehearse_scripts::is_script(bytes) {
-        disclose(bytes);
+        disclose(rt, bytes);
     } else {
-        print(b"disclose", b"bad script\n");
+        print(rt, b"disclose", b"bad script\n");
     }
 }
 
 // A function of its own, so that the large room is cleared for an input that fills the short one alone.
-fn answer_long(beginning: Beginning, start: &[u8]) {
+fn answer_long(rt: &HostRuntime, beginning: Beginning, start: &[u8]) {
     let mut bytes = script_room();
-    let input = read_rest(b"disclose", beginning, start, &mut bytes);
+    let input = read_rest(rt, b"disclose", beginning, start, &mut bytes);
     let length = input.length;
     if input.ready {
-        answer(&bytes[..length]);
+        answer(rt, &bytes[..length]);
     }
 }
 
-fn main() {
+fn main(rt: HostRuntime) {
     let mut bytes = short_script_room();
-    let beginning = begin_input(b"disclose", 1, &mut bytes);
+    let beginning = begin_input(&rt, b"disclose", 1, &mut bytes);
     let length = beginning.length;
     if beginning.full {
-        answer_long(beginning, &bytes);
+        answer_long(&rt, beginning, &bytes);
     } else if beginning.ready {
-        answer(&bytes[..length]);
+        answer(&rt, &bytes[..length]);
     }
 }

@@ -15,7 +15,7 @@ pub const FAILED: u8 = 1;
 
 // "The ledger struct holds an array of place structs, by value." What stands behind a count means nothing (`ledger_of`), and is fixed
 // all the same (`struct_of`, `laid_over`).
-#[derive(Drop)]
+#[derive(Clone, Copy)]
 pub struct Ledger {
     pub file: [u8; 4596],
     pub file_length: usize,

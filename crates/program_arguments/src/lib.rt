@@ -4,6 +4,8 @@
 ghost use Rattle.kit.specs.Names.{◌≡◌, ◌≤◌};
 ghost use Rattle.program_arguments.specs.Options.{is_option};
 
+use std::env::{Env, FillError};
+
 // Whether each argument is the name of a file, and how many there are: 0 where one is not.
 #[derive(Clone, Copy)]
 pub struct Names {
@@ -22,23 +24,36 @@ pub fn is_option(argument: &[u8]) -> bool
 }
 
 // An argument that is too long for the buffer still leaves its first bytes there, and an empty one leaves zeros.
-fn is_option_at(place: usize) -> bool {
+fn is_option_at(rt: &HostRuntime, place: usize) -> bool {
     let mut argument = io::buffer();
-    os::arg(place, &mut argument);
+    let _filled = rt.arg(place, &mut argument);
     is_option(&argument)
 }
 
+// Whether there is an argument at a place; one that is too long for the buffer is there too.
+fn is_given(rt: &HostRuntime, place: usize) -> bool {
+    let mut argument = io::buffer();
+    match rt.arg(place, &mut argument) {
+        Err(FillError::NotPresent) => false,
+        _ => true,
+    }
+}
+
 // How many arguments follow the program's own name.
-fn given() -> usize {
-    let places = os::arg_count();
-    if places == 0 { 0 } else { places - 1 }
+fn given(rt: &HostRuntime) -> usize {
+    for passed in 0..usize::MAX - 1 {
+        if !is_given(rt, passed + 1) {
+            return passed;
+        }
+    }
+    0
 }
 
 // At most so many names, and no option: anything else is not known.
-pub fn read_names(most: usize) -> Names
+pub fn read_names(rt: &HostRuntime, most: usize) -> Names
     ensures { result.count ≤ most }
 {
-    let count = given();
+    let count = given(rt);
     if most < count {
         return Names {
             known: false,
@@ -48,7 +63,7 @@ pub fn read_names(most: usize) -> Names
     let mut passed: usize = 0;
     while passed < count {
         passed += 1;
-        if is_option_at(passed) {
+        if is_option_at(rt, passed) {
             return Names {
                 known: false,
                 count: 0,

@@ -5,9 +5,12 @@ ghost use Rattle.kit.specs.Names.{◌≡◌, ◌≤◌, length};
 ghost use Rattle.io.specs.Counts.{IsPrefixLen};
 ghost use Rattle.program_reading.specs.Inputs.{where_ready, fitting, Begins};
 
-use libc::STDIN_FILENO;
-use program_output::{print, tell};
+use program_output::{not_text, print, tell, too_long};
 use program_reading::{read_from, read_on};
+use std::env::{Env, FillError};
+use std::fs::File;
+use std::io::{Error, ErrorKind};
+use std::str::from_utf8;
 
 // How many bytes were read, and whether there is an input at all: a failure was told, and so was a bad use of the program. The programs
 // name this struct, and so it is not the one of program_reading.
@@ -18,14 +21,13 @@ pub struct Input {
 }
 
 // How many bytes an input begins with, and whether there is one at all. Where it fills the room there may be more, to be read from the
-// same descriptor: a file that an argument names is closed wherever this is all of it.
-#[derive(Clone, Copy)]
+// same file, or from standard input where there is none: a file that an argument names is closed wherever this is all of it.
+#[derive(Drop)]
 pub struct Beginning {
     pub length: usize,
     pub ready: bool,
     pub full: bool,
-    pub named: bool,
-    pub descriptor: i32,
+    pub file: Option<File>,
 }
 
 // One byte more than the longest accepted file has: what does not fill this room is read whole, and no accepted file fills it. A room is
@@ -66,97 +68,143 @@ fn none_begun(room: &[u8]) -> Beginning
         length: 0,
         ready: false,
         full: false,
-        named: false,
-        descriptor: -1,
+        file: None,
+    }
+}
+
+// What is told of an argument that cannot be had.
+fn unread(why: FillError) -> Error {
+    match why {
+        FillError::NotPresent => Error::from(ErrorKind::InvalidInput),
+        FillError::TooLong => too_long(),
+    }
+}
+
+fn begin_open(
+    rt: &HostRuntime,
+    program: &[u8],
+    mut file: File,
+    name: &[u8],
+    room: &mut [u8],
+) -> Beginning
+    ensures prefix_len { IsPrefixLen result.length room.new }
+    ensures length_value { result.length ≡ where_ready result.ready result.length }
+{
+    let input = read_from(rt, program, &mut file, name, room);
+    let full = input.length == room.len();
+    Beginning {
+        length: input.length,
+        ready: input.ready,
+        full: full,
+        file: if full { Some(file) } else { None },
+    }
+}
+
+// The beginning of the file of a name. A failure is told by it.
+fn begin_file(rt: &HostRuntime, program: &[u8], name: &[u8], room: &mut [u8]) -> Beginning
+    ensures prefix_len { IsPrefixLen result.length room.new }
+    ensures length_value { result.length ≡ where_ready result.ready result.length }
+{
+    match from_utf8(name) {
+        Err(_) => {
+            tell(rt, program, b": cannot read ", name, not_text());
+            none_begun(room)
+        }
+        Ok(text) => match File::open(rt, text) {
+            Err(error) => {
+                tell(rt, program, b": cannot read ", name, error);
+                none_begun(room)
+            }
+            Ok(file) => begin_open(rt, program, file, name, room),
+        },
     }
 }
 
 // The beginning of the file that the argument at a place names. A failure is told, of the file by its name, and of an argument that cannot
 // be read by the words that are given for it.
-fn begin_named(program: &[u8], place: usize, argument: &[u8], room: &mut [u8]) -> Beginning
+fn begin_named(
+    rt: &HostRuntime,
+    program: &[u8],
+    place: usize,
+    argument: &[u8],
+    room: &mut [u8],
+) -> Beginning
     ensures prefix_len { IsPrefixLen result.length room.new }
     ensures length_value { result.length ≡ where_ready result.ready result.length }
 {
     let mut name = io::buffer();
-    let long = os::arg(place, &mut name);
-    if os::errno() != 0 {
-        tell(program, b": cannot read ", argument);
-        return none_begun(room);
-    }
-    let descriptor = os::open_read(&name[..long]);
-    if descriptor < 0 {
-        tell(program, b": cannot read ", &name[..long]);
-        return none_begun(room);
-    }
-    let input = read_from(program, descriptor, &name[..long], room);
-    let full = input.length == room.len();
-    if !full {
-        libc::close(descriptor);
-    }
-    Beginning {
-        length: input.length,
-        ready: input.ready,
-        full: full,
-        named: true,
-        descriptor: descriptor,
+    match rt.arg(place, &mut name) {
+        Ok(long) => begin_file(rt, program, &name[..long], room),
+        Err(why) => {
+            tell(rt, program, b": cannot read ", argument, unread(why));
+            none_begun(room)
+        }
     }
 }
 
 // The file that the argument at a place names, up to its end or as much of it as there is room for.
-pub fn read_named(program: &[u8], place: usize, argument: &[u8], room: &mut [u8]) -> Input
+pub fn read_named(
+    rt: &HostRuntime,
+    program: &[u8],
+    place: usize,
+    argument: &[u8],
+    room: &mut [u8],
+) -> Input
     ensures prefix_len { IsPrefixLen result.length room.new }
     ensures length_value { result.length ≡ where_ready result.ready result.length }
 {
-    let beginning = begin_named(program, place, argument, room);
-    if beginning.full {
-        libc::close(beginning.descriptor);
-    }
+    let beginning = begin_named(rt, program, place, argument, room);
     Input {
         length: beginning.length,
         ready: beginning.ready,
     }
 }
 
-fn begin_standard(program: &[u8], room: &mut [u8]) -> Beginning
+fn begin_standard(rt: &HostRuntime, program: &[u8], room: &mut [u8]) -> Beginning
     ensures prefix_len { IsPrefixLen result.length room.new }
     ensures length_value { result.length ≡ where_ready result.ready result.length }
 {
-    let input = read_from(program, STDIN_FILENO, b"standard input", room);
+    let input = read_from(rt, program, &mut rt.stdin(), b"standard input", room);
     Beginning {
         length: input.length,
         ready: input.ready,
         full: input.length == room.len(),
-        named: false,
-        descriptor: STDIN_FILENO,
+        file: None,
     }
 }
 
 // The beginning of the input of a program that takes so many file names. With an option, or a name too many, nothing is read.
-pub fn begin_input(program: &[u8], most: usize, room: &mut [u8]) -> Beginning
+pub fn begin_input(rt: &HostRuntime, program: &[u8], most: usize, room: &mut [u8]) -> Beginning
     ensures prefix_len { IsPrefixLen result.length room.new }
     ensures length_value { result.length ≡ where_ready result.ready result.length }
 {
-    let names = program_arguments::read_names(most);
+    let names = program_arguments::read_names(rt, most);
     if !names.known {
-        print(program, b"bad option\n");
+        print(rt, program, b"bad option\n");
         return none_begun(room);
     }
     if names.count == 0 {
-        begin_standard(program, room)
+        begin_standard(rt, program, room)
     } else {
-        begin_named(program, 1, b"its first argument", room)
+        begin_named(rt, program, 1, b"its first argument", room)
     }
 }
 
 // An input that filled the room in which it was begun, in a larger one: the bytes that were read come to its front, and what is left of
 // the input behind them.
-pub fn read_rest(program: &[u8], beginning: Beginning, start: &[u8], room: &mut [u8]) -> Input
+pub fn read_rest(
+    rt: &HostRuntime,
+    program: &[u8],
+    beginning: Beginning,
+    start: &[u8],
+    room: &mut [u8],
+) -> Input
     ensures prefix_len { IsPrefixLen result.length room.new }
     ensures length_value { result.length ≡ where_ready result.ready result.length }
     ensures room_bound { where_ready result.ready (fitting start.now room.new) ≤ result.length }
     ensures begins { Begins start.now room.new }
 {
-    let read = read_on(program, beginning.named, beginning.descriptor, start, room);
+    let read = read_on(rt, program, beginning.file, start, room);
     Input {
         length: read.length,
         ready: read.ready,

@@ -4,6 +4,10 @@ ghost use Rattle.program_output.specs.Counts.{all_or_none};
 
 use crate::{print, tell, write_all};
 use memory_append::append;
+use std::env::{Env, FillError};
+use std::fs::{File, OpenOptions, remove_file, rename};
+use std::io::{Error, ErrorKind};
+use std::str::from_utf8;
 
 // Whether all of the bytes are kept, and how many that is.
 #[derive(Clone, Copy)]
@@ -19,62 +23,103 @@ fn name_room() -> [u8; 4112]
     [0; 4112]
 }
 
-// Whether all of the bytes are in the file that is open, down to its device. A close that fails is a write that failed.
-fn fill(descriptor: i32, bytes: &[u8]) -> bool {
-    let done = write_all(descriptor, bytes);
-    if done < bytes.len() {
-        return false;
+// Room for the longest name that the system takes.
+fn argument_room() -> [u8; 4096]
+    ensures { 4096 ≡ length result }
+{
+    [0; 4096]
+}
+
+// All of the bytes into the file that is open, down to its device.
+fn fill(file: &mut File, bytes: &[u8]) -> Result<(), Error> {
+    let done = write_all(file, bytes);
+    if let Some(error) = done.failed {
+        return Err(error);
     }
-    if libc::fsync(descriptor) < 0 {
-        return false;
-    }
-    libc::close(descriptor) == 0
+    file.sync_all()
 }
 
 // Whether a file may take this name: it is free, or that of a file. A folder cannot be opened so, and a device has nothing to sync, which
 // keeps one from being replaced.
-fn is_replaceable(name: &[u8]) -> bool {
-    let descriptor = os::open_update(name);
-    if descriptor < 0 {
-        return os::errno() == libc::ENOENT;
+fn is_replaceable(rt: &HostRuntime, name: &str) -> Result<(), Error> {
+    match OpenOptions::new().read(true).write(true).open(rt, name) {
+        Ok(file) => file.sync_all(),
+        Err(error) => {
+            if error.kind() == ErrorKind::NotFound {
+                Ok(())
+            } else {
+                Err(error)
+            }
+        }
     }
-    let synced = libc::fsync(descriptor);
-    libc::close(descriptor);
-    synced == 0
+}
+
+// A new file with these bytes. One that cannot be filled is removed.
+fn create(rt: &HostRuntime, new_name: &str, bytes: &[u8]) -> Result<(), Error> {
+    let mut file = OpenOptions::new()
+        .write(true)
+        .create_new(true)
+        .open(rt, new_name)?;
+    let filled = fill(&mut file, bytes);
+    if filled.is_err() {
+        let _removed = remove_file(rt, new_name);
+    }
+    filled
 }
 
 // The new file gets its bytes, and then the name. Where that fails it is told and removed, and the name's own file is as it was.
-fn replace(program: &[u8], new_name: &[u8], name: &[u8], bytes: &[u8]) -> bool {
-    if !is_replaceable(name) {
-        tell(program, b": cannot write ", name);
+fn replace(rt: &HostRuntime, program: &[u8], new_name: &str, name: &str, bytes: &[u8]) -> bool {
+    if let Err(error) = is_replaceable(rt, name) {
+        tell(rt, program, b": cannot write ", name.as_bytes(), error);
         return false;
     }
-    let descriptor = os::create(new_name);
-    if descriptor < 0 {
-        tell(program, b": cannot write ", new_name);
+    if let Err(error) = create(rt, new_name, bytes) {
+        tell(rt, program, b": cannot write ", new_name.as_bytes(), error);
         return false;
     }
-    if !fill(descriptor, bytes) {
-        tell(program, b": cannot write ", new_name);
-        os::unlink(new_name);
-        return false;
-    }
-    if os::rename(new_name, name) < 0 {
-        tell(program, b": cannot write ", name);
-        os::unlink(new_name);
+    if let Err(error) = rename(rt, new_name, name) {
+        tell(rt, program, b": cannot write ", name.as_bytes(), error);
+        let _removed = remove_file(rt, new_name);
         return false;
     }
     true
 }
 
+// The same of names as bytes: today's library opens names that are text alone.
+fn replace_named(
+    rt: &HostRuntime,
+    program: &[u8],
+    new_name: &[u8],
+    name: &[u8],
+    bytes: &[u8],
+) -> bool {
+    match (from_utf8(new_name), from_utf8(name)) {
+        (Ok(new_text), Ok(text)) => replace(rt, program, new_text, text, bytes),
+        _ => {
+            tell(rt, program, b": cannot write ", name, not_text());
+            false
+        }
+    }
+}
+
+// What is told of a name that is not text.
+pub fn not_text() -> Error {
+    Error::new(ErrorKind::InvalidInput, "the name is not UTF-8")
+}
+
+// What is told of an argument that is longer than the longest name.
+pub fn too_long() -> Error {
+    Error::from_raw_os_error(36)
+}
+
 // The new file's name is the other with `.new` behind it; where that is taken nothing is written. A name that is too long is told by
 // the system, whose limit is below the room here.
-pub fn write_file(program: &[u8], name: &[u8], bytes: &[u8]) -> Kept
+pub fn write_file(rt: &HostRuntime, program: &[u8], name: &[u8], bytes: &[u8]) -> Kept
     ensures { result.length ≡ all_or_none result.whole (length bytes.now) }
 {
     let mut room = name_room();
     if name.len() > 4096 {
-        tell(program, b": cannot write ", name);
+        tell(rt, program, b": cannot write ", name, too_long());
         return Kept {
             whole: false,
             length: 0,
@@ -82,7 +127,7 @@ pub fn write_file(program: &[u8], name: &[u8], bytes: &[u8]) -> Kept
     }
     let end = append(name, &mut room, 0);
     let long = append(b".new", &mut room, end);
-    if replace(program, &room[..long], name, bytes) {
+    if replace_named(rt, program, &room[..long], name, bytes) {
         Kept {
             whole: true,
             length: bytes.len(),
@@ -96,18 +141,25 @@ pub fn write_file(program: &[u8], name: &[u8], bytes: &[u8]) -> Kept
 }
 
 // The file that the second argument names, or standard output where there is no second argument. The answer counts what was taken.
-pub fn deliver(program: &[u8], bytes: &[u8]) -> usize
+pub fn deliver(rt: &HostRuntime, program: &[u8], bytes: &[u8]) -> usize
     ensures { result ≤ length bytes.now }
 {
-    if os::arg_count() < 3 {
-        return print(program, bytes);
+    let mut name = argument_room();
+    match rt.arg(2, &mut name) {
+        Err(FillError::NotPresent) => print(rt, program, bytes),
+        Err(FillError::TooLong) => {
+            tell(
+                rt,
+                program,
+                b": cannot write ",
+                b"its second argument",
+                too_long(),
+            );
+            0
+        }
+        Ok(long) => {
+            let kept = write_file(rt, program, &name[..long], bytes);
+            kept.length
+        }
     }
-    let mut name = io::buffer();
-    let long = os::arg(2, &mut name);
-    if os::errno() != 0 {
-        tell(program, b": cannot write ", b"its second argument");
-        return 0;
-    }
-    let kept = write_file(program, &name[..long], bytes);
-    kept.length
 }

@@ -7,58 +7,103 @@ mod files;
 ghost use Rattle.kit.specs.Names.{◌+◌, ◌≤◌, length};
 ghost use Rattle.definitions.specs.Report.{refused_line};
 
-pub use files::{Kept, deliver, write_file};
-use libc::{STDERR_FILENO, STDOUT_FILENO};
+pub use files::{Kept, deliver, not_text, too_long, write_file};
+use std::io::{Error, ErrorKind, Write};
+
+// How many bytes were taken, and the error that stopped it: none where all of them were.
+#[derive(Clone, Copy)]
+pub struct Written {
+    pub length: usize,
+    pub failed: Option<Error>,
+}
 
 // As many writes as it takes. The answer counts the bytes that were taken: fewer than all only where a write failed.
-pub fn write_all(descriptor: i32, bytes: &[u8]) -> usize
-    ensures { result ≤ length bytes.now }
+pub fn write_all<W: Write>(out: &mut W, bytes: &[u8]) -> Written
+    ensures { result.length ≤ length bytes.now }
 {
     let mut done: usize = 0;
     while done < bytes.len() {
-        let taken = write_once(descriptor, &bytes[done..]);
-        if taken == 0 {
-            return done;
+        let taken = write_once(out, &bytes[done..]);
+        if taken.length == 0 {
+            return Written {
+                length: done,
+                failed: taken.failed,
+            };
         }
-        done += taken;
+        done += taken.length;
     }
-    done
+    Written {
+        length: done,
+        failed: None,
+    }
 }
 
-fn write_once(descriptor: i32, bytes: &[u8]) -> usize
-    ensures { result ≤ length bytes.now }
+// A write that takes nothing has failed, whatever it answers.
+fn write_once<W: Write>(out: &mut W, bytes: &[u8]) -> Written
+    ensures { result.length ≤ length bytes.now }
 {
-    let got = libc::write(descriptor, bytes);
-    io::count(got, bytes)
+    match out.write(bytes) {
+        Ok(0) => Written {
+            length: 0,
+            failed: Some(Error::from(ErrorKind::WriteZero)),
+        },
+        Ok(taken) => Written {
+            length: taken,
+            failed: None,
+        },
+        Err(error) => Written {
+            length: 0,
+            failed: Some(error),
+        },
+    }
 }
 
-// A line such as `compile: cannot read my.contract: No such file or directory`, where the action is `: cannot read `. The system's
-// last error gives the reason, so nothing else may fail in between. The answer counts the bytes before the file's name.
-pub fn tell(program: &[u8], action: &[u8], name: &[u8]) -> usize
+// The system's words for an error, without its number. Where there is no memory to put them into, the error has no words.
+fn reason(rt: &HostRuntime, error: Error) -> String {
+    let text = match format!(in rt.alloc(); "{error}") {
+        Ok(text) => text,
+        Err(_) => return String::new(rt.alloc()),
+    };
+    match text.split_once(" (os error ") {
+        Some((words, _)) => match String::from_str(rt.alloc(), words) {
+            Ok(words) => words,
+            Err(_) => String::new(rt.alloc()),
+        },
+        None => text,
+    }
+}
+
+// A line such as `compile: cannot read my.contract: No such file or directory`, where the action is `: cannot read `. The answer counts
+// the bytes before the file's name.
+pub fn tell(rt: &HostRuntime, program: &[u8], action: &[u8], name: &[u8], error: Error) -> usize
     ensures { result ≤ length program.now + length action.now }
 {
-    let first = write_all(STDERR_FILENO, program);
-    let second = write_all(STDERR_FILENO, action);
-    os::fail(name);
-    first + second
+    let mut out = rt.stderr();
+    let first = write_all(&mut out, program);
+    let second = write_all(&mut out, action);
+    write_all(&mut out, name);
+    write_all(&mut out, b": ");
+    write_all(&mut out, reason(rt, error).as_bytes());
+    write_all(&mut out, b"\n");
+    first.length + second.length
 }
 
 // Bytes on standard output; the answer counts those that were taken, and a failure is told.
-pub fn print(program: &[u8], bytes: &[u8]) -> usize
+pub fn print(rt: &HostRuntime, program: &[u8], bytes: &[u8]) -> usize
     ensures { result ≤ length bytes.now }
 {
-    let done = write_all(STDOUT_FILENO, bytes);
-    if done < bytes.len() {
-        tell(program, b": cannot write ", b"standard output");
+    let done = write_all(&mut rt.stdout(), bytes);
+    if let Some(error) = done.failed {
+        tell(rt, program, b": cannot write ", b"standard output", error);
     }
-    done
+    done.length
 }
 
 // "A refused file prints `refused N`."
-pub fn print_refused(program: &[u8], number: u8) -> usize
+pub fn print_refused(rt: &HostRuntime, program: &[u8], number: u8) -> usize
     ensures { result ≤ length (refused_line number) }
 {
     let mut line: [u8; 29] = [0; 29];
     let end = report_text::refused_line(number, &mut line);
-    print(program, &line[..end])
+    print(rt, program, &line[..end])
 }

@@ -6,16 +6,18 @@ ghost use Rattle.kit.specs.Names.{◌≡◌, ◌≤◌, min, length, take};
 ghost use Rattle.io.specs.Counts.{IsPrefixLen};
 ghost use Rattle.program_reading.specs.Inputs.{where_ready, fitting, Begins};
 
-use libc::STDIN_FILENO;
 use memory_append::append;
 use program_output::tell;
+use std::env::Env;
+use std::fs::File;
+use std::io::{Error, Read as Source};
 
-// How many bytes stand at the front of the room, and whether a read failed behind them. None did where the input ended, and none where
-// the room is full; then there may be more.
+// How many bytes stand at the front of the room, and the error of a read that failed behind them. None did where the input ended, and
+// none where the room is full; then there may be more.
 #[derive(Clone, Copy)]
 pub struct Reading {
     pub length: usize,
-    pub failed: bool,
+    pub failed: Option<Error>,
 }
 
 // How many bytes were read, and whether there is an input at all: a failure was told, and so was a bad use of the program.
@@ -25,24 +27,28 @@ pub struct Read {
     pub ready: bool,
 }
 
-fn read_once(descriptor: i32, room: &mut [u8]) -> Reading
+fn read_once<S: Source>(source: &mut S, room: &mut [u8]) -> Reading
     ensures { IsPrefixLen result.length room.new }
 {
-    let got = libc::read(descriptor, room);
-    let length = io::count(got, room);
-    Reading {
-        length: length,
-        failed: got < 0,
+    match source.read(room) {
+        Ok(length) => Reading {
+            length: length,
+            failed: None,
+        },
+        Err(error) => Reading {
+            length: 0,
+            failed: Some(error),
+        },
     }
 }
 
 // As many reads as it takes to come to the input's end or to fill the room.
-pub fn read_all(descriptor: i32, room: &mut [u8]) -> Reading
+pub fn read_all<S: Source>(source: &mut S, room: &mut [u8]) -> Reading
     ensures { IsPrefixLen result.length room.new }
 {
     let mut done: usize = 0;
     while done < room.len() {
-        let reading = read_once(descriptor, &mut room[done..]);
+        let reading = read_once(source, &mut room[done..]);
         if reading.length == 0 {
             return Reading {
                 length: done,
@@ -53,17 +59,23 @@ pub fn read_all(descriptor: i32, room: &mut [u8]) -> Reading
     }
     Reading {
         length: done,
-        failed: false,
+        failed: None,
     }
 }
 
-pub fn read_from(program: &[u8], descriptor: i32, name: &[u8], room: &mut [u8]) -> Read
+pub fn read_from<S: Source>(
+    rt: &HostRuntime,
+    program: &[u8],
+    source: &mut S,
+    name: &[u8],
+    room: &mut [u8],
+) -> Read
     ensures prefix_len { IsPrefixLen result.length room.new }
     ensures length_value { result.length ≡ where_ready result.ready result.length }
 {
-    let reading = read_all(descriptor, room);
-    if reading.failed {
-        tell(program, b": cannot read ", name);
+    let reading = read_all(source, room);
+    if let Some(error) = reading.failed {
+        tell(rt, program, b": cannot read ", name, error);
         return Read {
             length: 0,
             ready: false,
@@ -76,7 +88,14 @@ pub fn read_from(program: &[u8], descriptor: i32, name: &[u8], room: &mut [u8]) 
 }
 
 // What is left of an input, behind the bytes that the room begins with; the answer counts those too.
-fn read_behind(program: &[u8], descriptor: i32, name: &[u8], room: &mut [u8], count: usize) -> Read
+fn read_behind<S: Source>(
+    rt: &HostRuntime,
+    program: &[u8],
+    source: &mut S,
+    name: &[u8],
+    room: &mut [u8],
+    count: usize,
+) -> Read
     requires { count ≤ length room.old }
     ensures prefix_len { IsPrefixLen result.length room.new }
     ensures length_value { result.length ≡ where_ready result.ready result.length }
@@ -84,15 +103,21 @@ fn read_behind(program: &[u8], descriptor: i32, name: &[u8], room: &mut [u8], co
     ensures room_unchanged { take count room.new ≡ take count room.old }
     ensures room_len_unchanged { length room.new ≡ length room.old }
 {
-    let rest = read_from(program, descriptor, name, &mut room[count..]);
+    let rest = read_from(rt, program, source, name, &mut room[count..]);
     Read {
         length: if rest.ready { count + rest.length } else { 0 },
         ready: rest.ready,
     }
 }
 
-// The name is read again, for a failure to be told by: reading it later would lose the reason.
-fn read_named_behind(program: &[u8], descriptor: i32, room: &mut [u8], count: usize) -> Read
+// The name is read again, for a failure to be told by.
+fn read_named_behind(
+    rt: &HostRuntime,
+    program: &[u8],
+    file: &mut File,
+    room: &mut [u8],
+    count: usize,
+) -> Read
     requires { count ≤ length room.old }
     ensures prefix_len { IsPrefixLen result.length room.new }
     ensures length_value { result.length ≡ where_ready result.ready result.length }
@@ -101,10 +126,11 @@ fn read_named_behind(program: &[u8], descriptor: i32, room: &mut [u8], count: us
     ensures room_len_unchanged { length room.new ≡ length room.old }
 {
     let mut name = io::buffer();
-    let long = os::arg(1, &mut name);
-    let input = read_behind(program, descriptor, &name[..long], room, count);
-    libc::close(descriptor);
-    input
+    let long = match rt.arg(1, &mut name) {
+        Ok(long) => long,
+        Err(_) => 0,
+    };
+    read_behind(rt, program, file, &name[..long], room, count)
 }
 
 fn at_most(count: usize, most: usize) -> usize
@@ -123,17 +149,22 @@ fn copy_start(start: &[u8], room: &mut [u8]) -> usize
 }
 
 // An input that filled the room in which it was begun, in a larger one: the bytes that were read come to its front, and what is left of
-// the input behind them.
-pub fn read_on(program: &[u8], named: bool, descriptor: i32, start: &[u8], room: &mut [u8]) -> Read
+// the input behind them. It is standard input where there is no file.
+pub fn read_on(
+    rt: &HostRuntime,
+    program: &[u8],
+    file: Option<File>,
+    start: &[u8],
+    room: &mut [u8],
+) -> Read
     ensures prefix_len { IsPrefixLen result.length room.new }
     ensures length_value { result.length ≡ where_ready result.ready result.length }
     ensures room_bound { where_ready result.ready (fitting start.now room.new) ≤ result.length }
     ensures begins { Begins start.now room.new }
 {
     let count = copy_start(start, room);
-    if named {
-        read_named_behind(program, descriptor, room, count)
-    } else {
-        read_behind(program, STDIN_FILENO, b"standard input", room, count)
+    match file {
+        Some(mut named) => read_named_behind(rt, program, &mut named, room, count),
+        None => read_behind(rt, program, &mut rt.stdin(), b"standard input", room, count),
     }
 }

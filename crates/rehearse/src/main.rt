@@ -24,13 +24,20 @@ fn line_room() -> [u8; 41135]
 }
 
 // The number, and the party's view of the ledger; a party above 15 has an empty one. The answer is whether all of it was printed.
-fn print_line(number: u8, ledger: Ledger, party: u8, view: &mut [u8], line: &mut [u8]) -> bool
+fn print_line(
+    rt: &HostRuntime,
+    number: u8,
+    ledger: Ledger,
+    party: u8,
+    view: &mut [u8],
+    line: &mut [u8],
+) -> bool
     requires { (length view.old ≡ 20565) × (length line.old ≡ 41135) }
 {
     let answer = view::view(ledger, party, view);
     let length = ledger_struct::at_most(answer.length, 20565);
     let end = rehearse_lines::write_line(number, &view[..length], line);
-    print(b"rehearse", &line[..end]) == end
+    print(rt, b"rehearse", &line[..end]) == end
 }
 
 // What call k of the script answers on a ledger.
@@ -42,21 +49,21 @@ fn call_at(bytes: &[u8], k: u8, ledger: Ledger) -> Called {
 }
 
 // A line that cannot be printed ends the rehearsal: one failure is told once.
-fn rehearse(bytes: &[u8]) {
+fn rehearse(rt: &HostRuntime, bytes: &[u8]) {
     let script = rehearse_scripts::read_script(bytes);
     let deployment = deploy::deploy(
         rehearse_scripts::file_of(bytes),
         rehearse_scripts::addresses_of(bytes),
     );
     if 0 < deployment.number {
-        print_refused(b"rehearse", deployment.number);
+        print_refused(rt, b"rehearse", deployment.number);
         return;
     }
     // Made once for all lines: a line needs no more of them than it writes.
     let mut view = view_room();
     let mut line = line_room();
     let mut ledger = deployment.ledger;
-    if !print_line(0, ledger, script.party, &mut view[..], &mut line[..]) {
+    if !print_line(rt, 0, ledger, script.party, &mut view[..], &mut line[..]) {
         return;
     }
     let mut k: u8 = 0;
@@ -65,6 +72,7 @@ fn rehearse(bytes: &[u8]) {
         let after = called.ledger;
         ledger = after;
         if !print_line(
+            rt,
             called.number,
             ledger,
             script.party,
@@ -77,31 +85,31 @@ fn rehearse(bytes: &[u8]) {
     }
 }
 
-fn answer(bytes: &[u8]) {
+fn answer(rt: &HostRuntime, bytes: &[u8]) {
     if rehearse_scripts::is_script(bytes) {
-        rehearse(bytes);
+        rehearse(rt, bytes);
     } else {
-        print(b"rehearse", b"bad script\n");
+        print(rt, b"rehearse", b"bad script\n");
     }
 }
 
 // A function of its own, so that the large room is cleared for an input that fills the short one alone.
-fn answer_long(beginning: Beginning, start: &[u8]) {
+fn answer_long(rt: &HostRuntime, beginning: Beginning, start: &[u8]) {
     let mut bytes = script_room();
-    let input = read_rest(b"rehearse", beginning, start, &mut bytes);
+    let input = read_rest(rt, b"rehearse", beginning, start, &mut bytes);
     let length = input.length;
     if input.ready {
-        answer(&bytes[..length]);
+        answer(rt, &bytes[..length]);
     }
 }
 
-fn main() {
+fn main(rt: HostRuntime) {
     let mut bytes = short_script_room();
-    let beginning = begin_input(b"rehearse", 1, &mut bytes);
+    let beginning = begin_input(&rt, b"rehearse", 1, &mut bytes);
     let length = beginning.length;
     if beginning.full {
-        answer_long(beginning, &bytes);
+        answer_long(&rt, beginning, &bytes);
     } else if beginning.ready {
-        answer(&bytes[..length]);
+        answer(&rt, &bytes[..length]);
     }
 }

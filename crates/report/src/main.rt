@@ -14,34 +14,34 @@ fn text_room() -> [u8; 131]
     [0; 131]
 }
 
-fn answer(file: &[u8]) {
+fn answer(rt: &HostRuntime, file: &[u8]) {
     let mut text = text_room();
     let answer = report_contract::report(file, &mut text);
     let end = answer.length;
     if answer.number == 0 {
-        print(b"report", &text[..end]);
+        print(rt, b"report", &text[..end]);
     } else {
-        print_refused(b"report", answer.number);
+        print_refused(rt, b"report", answer.number);
     }
 }
 
 // A function of its own, so that the large room is cleared for an input that fills the short one alone.
-fn answer_long(beginning: Beginning, start: &[u8]) {
+fn answer_long(rt: &HostRuntime, beginning: Beginning, start: &[u8]) {
     let mut file = contract_room();
-    let input = read_rest(b"report", beginning, start, &mut file);
+    let input = read_rest(rt, b"report", beginning, start, &mut file);
     let length = input.length;
     if input.ready {
-        answer(&file[..length]);
+        answer(rt, &file[..length]);
     }
 }
 
-fn main() {
+fn main(rt: HostRuntime) {
     let mut file = short_contract_room();
-    let beginning = begin_input(b"report", 1, &mut file);
+    let beginning = begin_input(&rt, b"report", 1, &mut file);
     let length = beginning.length;
     if beginning.full {
-        answer_long(beginning, &file);
+        answer_long(&rt, beginning, &file);
     } else if beginning.ready {
-        answer(&file[..length]);
+        answer(&rt, &file[..length]);
     }
 }

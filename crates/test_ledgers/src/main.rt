@@ -12,8 +12,9 @@ ghost use Rattle.kit.specs.Names.{◌<◌, ◌≤◌, length};
 use recorded::{Run, Tally, counted, no_runs};
 use test_shared::{part, print};
 
-fn print_runs(tally: Tally) -> usize {
+fn print_runs(rt: &HostRuntime, tally: Tally) -> usize {
     print(
+        rt,
         b"test_ledgers",
         tally.runs,
         b" runs, ",
@@ -22,8 +23,9 @@ fn print_runs(tally: Tally) -> usize {
     )
 }
 
-fn print_damage(wrong: usize) -> usize {
+fn print_damage(rt: &HostRuntime, wrong: usize) -> usize {
     print(
+        rt,
         b"test_ledgers",
         21,
         b" kinds of damage, ",
@@ -55,25 +57,25 @@ fn compare_runs(place: usize, input: &[u8]) -> Tally
 }
 
 // What the argument at a place names is compared, and the line printed.
-fn compare(place: usize, input: &[u8]) -> usize
+fn compare(rt: &HostRuntime, place: usize, input: &[u8]) -> usize
     requires { length input.now ≤ 700000 }
 {
     if place == 3 {
-        print_damage(damage::wrong(input))
+        print_damage(rt, damage::wrong(input))
     } else {
-        print_runs(compare_runs(place, input))
+        print_runs(rt, compare_runs(place, input))
     }
 }
 
 // A file that cannot be read has no line.
-fn main() {
+fn main(rt: HostRuntime) {
     let mut input = test_shared::input_room();
     let mut place: usize = 1;
     while place <= 3 {
-        let read = test_shared::read_named(b"test_ledgers", place, &mut input);
+        let read = test_shared::read_named(&rt, b"test_ledgers", place, &mut input);
         let length = read.length;
         if read.ready {
-            compare(place, &input[..length]);
+            compare(&rt, place, &input[..length]);
         }
         place += 1;
     }

@@ -21,8 +21,9 @@ fn compare(place: usize, input: &[u8], out: &mut [u8]) -> Tally
     }
 }
 
-fn print(tally: Tally) -> usize {
+fn print(rt: &HostRuntime, tally: Tally) -> usize {
     test_shared::print(
+        rt,
         b"test_programs",
         tally.records,
         b" records, ",
@@ -32,15 +33,15 @@ fn print(tally: Tally) -> usize {
 }
 
 // A file that cannot be read has no line.
-fn main() {
+fn main(rt: HostRuntime) {
     let mut input = test_shared::input_room();
     let mut out = test_shared::output_room();
     let mut place: usize = 1;
     while place <= 4 {
-        let read = test_shared::read_named(b"test_programs", place, &mut input);
+        let read = test_shared::read_named(&rt, b"test_programs", place, &mut input);
         let length = read.length;
         if read.ready {
-            print(compare(place, &input[..length], &mut out));
+            print(&rt, compare(place, &input[..length], &mut out));
         }
         place += 1;
     }

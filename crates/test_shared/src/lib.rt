@@ -22,11 +22,11 @@ pub struct Tally {
 }
 
 // The file that a program's argument at a place names, at the front of the room. A failure is told, and then there is no input.
-pub fn read_named(program: &[u8], place: usize, room: &mut [u8]) -> Input
+pub fn read_named(rt: &HostRuntime, program: &[u8], place: usize, room: &mut [u8]) -> Input
     ensures prefix_len { IsPrefixLen result.length room.new }
     ensures length_value { result.length ≡ where_ready result.ready result.length }
 {
-    program_input::read_named(program, place, b"an argument", room)
+    program_input::read_named(rt, program, place, b"an argument", room)
 }
 
 // The bytes from one place up to another; none where they are not all there.
@@ -97,11 +97,18 @@ fn tally_line(count: usize, what: &[u8], wrong: usize, how: &[u8], out: &mut [u8
 }
 
 // A line such as `150 runs, 0 different`. The answer counts the bytes of it that were printed.
-pub fn print(program: &[u8], count: usize, what: &[u8], wrong: usize, how: &[u8]) -> usize
+pub fn print(
+    rt: &HostRuntime,
+    program: &[u8],
+    count: usize,
+    what: &[u8],
+    wrong: usize,
+    how: &[u8],
+) -> usize
     requires { length what.now + length how.now ≤ 36 }
     ensures { result ≤ length (tally_line count what.now wrong how.now) }
 {
     let mut line: [u8; 76] = [0; 76];
     let end = tally_line(count, what, wrong, how, &mut line);
-    program_output::print(program, &line[..end])
+    program_output::print(rt, program, &line[..end])
 }

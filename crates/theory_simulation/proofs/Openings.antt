@@ -1,5 +1,5 @@
 -- The private parameters of a call are read first, and open for the caller.
-use Rattle.kit.specs.Names.{◌≡◌, refl, ap, sym, ◌∙◌, Bool, true, false, cond, List, [], ◌∷◌, ◌++◌, ℕ, suc, ◌+◌, ◌<◌, arith, add-zero}
+use Rattle.kit.specs.Names.{◌≡◌, refl, ap, sym, ◌∙◌, subst, Bool, true, false, cond, List, [], ◌∷◌, ◌++◌, ℕ, suc, ◌+◌, ◌<◌, arith, add-zero}
 use Rattle.kit.specs.Names.{zero-add, length, get_or, set, get_or_at, set_at, append_snoc}
 use Rattle.definitions.specs.Basics.{all}
 use Rattle.definitions.specs.ContractFile.{me_name, Parameter, parameter_at, type_of}
@@ -86,6 +86,7 @@ module _ (c : Call) (places : List Content) (numbers : List ℕ) (stand : CallSt
         gives = λ xs ys z. refl;
         form_walks = λ xs ys z. u.form_walks (xs ++ (x ∷ [])) ys (there xs z);
         claims = λ xs ys z.
-            rw (get_or_at xs x (u.finals ++ ys) (plain 0) i z, stands_opens (c.address_of me_name) stands, ← append_snoc xs x (u.finals ++ ys))
-            (u.claims (xs ++ (x ∷ [])) ys (there xs z));
+            rw (get_or_at xs x (u.finals ++ ys) (plain 0) i z, stands_opens (c.address_of me_name) stands)
+            (subst (λ (zs : List Content). claims_hold c zs (openings ks (suc i)).claims ≡ true) (append_snoc xs x (u.finals ++ ys))
+            (u.claims (xs ++ (x ∷ [])) ys (there xs z)));
       }

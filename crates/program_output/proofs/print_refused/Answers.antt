@@ -7,15 +7,12 @@ pub refused_line-end-requires : goal.refused_line-end-requires
 refused_line-end-requires c = omega (arith, refused_length c.args.number)
 
 pub slice_bounds-line-end : goal.slice_bounds-line-end
-slice_bounds-line-end c = let fits = refused_length c.args.number in omega (arith, c.refused_line-end.ensures.place)
+slice_bounds-line-end c =
+    let fits = refused_length c.args.number in
+    omega (arith, c.refused_line-end.ensures.place)
 
 pub slice_bounds-print-end : goal.slice_bounds-print-end
-slice_bounds-print-end c = let fits = refused_length c.args.number in
+slice_bounds-print-end c =
+    let fits = refused_length c.args.number in
     let line = c.refused_line-end in
     sym (length-take-le line.result line.new.out (omega (arith, line.ensures.place)))
-
-pub returns : goal.returns
-returns c = let fits = refused_length c.args.number in
-    let line = c.refused_line-end in
-    let lent = length-take-le line.result line.new.out (omega (arith, line.ensures.place)) in
-    omega (arith, line.ensures.place, c.print.ensures)

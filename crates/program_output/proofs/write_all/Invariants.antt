@@ -3,7 +3,7 @@ use Rattle.kit.specs.Names.{◌-◌, ◌≤◌, length}
 use Rattle.program_output.proofs.write_all.Given as goal
 
 abbrev pub invariant-loop-done : goal.invariant-loop-done
-invariant-loop-done l = l.done ≤ length l.bytes
+invariant-loop-done g l = l.done ≤ length l.bytes
 
 abbrev pub decreases-loop-done : goal.decreases-loop-done
-decreases-loop-done l = length l.bytes - l.done
+decreases-loop-done g l = length l.bytes - l.done

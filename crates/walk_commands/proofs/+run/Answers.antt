@@ -1,4 +1,4 @@
-use Rattle.kit.specs.Names.{◌≡◌, refl, sym, ◌∙◌, ℕ, ◌<◌, ◌≤◌, arith, length, not-true, not-false, rules}
+use Rattle.kit.specs.Names.{refl, sym, ◌∙◌, arith, not-true, not-false}
 use Rattle.write_trees.specs.Trees.{command_in}
 use Rattle.write_trees.specs.Table.{table_of}
 use Rattle.write_trees.proofs.Read.{read_here}
@@ -8,7 +8,6 @@ use Rattle.definitions.specs.Basics.{is_true}
 use Rattle.definitions.specs.Ledger.{plain_number}
 use Rattle.ledger_contents.specs.Contents.{content_of_code}
 use Rattle.walk_expressions.specs.Evaluation.{state_of}
-use Rattle.walk_steps.specs.Walk.{after_from, completes_from}
 use Rattle.walk_steps.proofs.Steps.{ran_same, ran_fails, if_kind, handed, still_there, branch_below, sequence_fails, sequence_next, sequence_goes_on, if_fails, if_next, if_goes_on}
 use Rattle.walk_commands.proofs.+run.Goals as goal
 

@@ -1,0 +1,15 @@
+-- At most 64 nodes.
+use Rattle.kit.specs.Names.{◌≤◌, arith}
+use Rattle.definitions.specs.ContractFile.{node_count}
+use Rattle.call_with.proofs.walk_short.Goals as goal
+
+pub walk_function-requires : goal.walk_function-requires
+walk_function-requires c = let held = c.requires.0 in let room = c.requires.1 in
+    let few : node_count c.args.file.now ≤ 64 = omega (arith, c.requires.2, held.long) in record {
+      held = held;
+      room = room;
+      log_space = omega arith;
+      numbers_space = omega arith;
+      roots_space = omega arith;
+      nodes_space = omega (arith, room.parts_by_nodes);
+    }

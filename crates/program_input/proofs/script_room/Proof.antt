@@ -1,6 +1,0 @@
--- The room is as long as it is written: the law on repeated bytes says so without counting them one by one.
-use Rattle.kit.specs.Names.{sym, ℕ, length-replicate}
-use Rattle.program_input.proofs.script_room as own
-
-pub script_room_spec : {M : Type 1} → own.Statement.statement M
-script_room_spec = own.Tie.close (own.Tie.spec (λ c. sym (length-replicate {A = ℕ} 326661 0)))
