@@ -247,6 +247,8 @@ def translate(body, names, first='c', cycle=False):
                   lambda m: m.group(1) if m.group(2) in names.plain_tests else m.group(0), body)
     body = re.sub(r"not-(?:true|false) _ \((c\.(if-not-[\w'-]+)\.(?:true|false))\)",
                   lambda m: m.group(1) if m.group(2) in names.plain_tests else m.group(0), body)
+    for m in list(re.finditer(r"\blet ([\w'-]+) = c\.fits\.[\w'-]+ in\s*", body)):
+        body = body.replace(m.group(0), '').replace(f'(omega (arith, {m.group(1)}))', '(omega arith)')
     body = re.sub(r", c\.fits(?:\.(?!ensures|result)[\w'-]+)+(?=[,)])", '', body)
     for m in list(re.finditer(r"\blet ([\w'-]+) = c\.([\w'-]+) in", body)):
         if m.group(2) in names.callee:
@@ -433,6 +435,8 @@ def turn(crate, folder, names_of, known):
                 return f'no loop {loop}'
             new, vars_, ch = by_loop[loop]
             changed = [v for v, c in zip(vars_, ch) if c]
+            if vars_ and vars_[0] == 'rt' and len(params) == len(vars_) + len(changed) - 1:
+                params = ['rt'] + params
             if len(params) != len(vars_) + len(changed):
                 return f'{loop}: {len(params)} parameters for {vars_} {ch}'
             to = {}

@@ -1,5 +1,6 @@
 -- The ledger of a refused and of an accepted call.
-use Rattle.kit.specs.Names.{◌≡◌, ap, sym, subst, ◌∙◌, Bool, false, cond, List, ℕ, ◌<◌, eq-eqb, ne_eqb}
+use Rattle.std.specs.Prelude.{◌≡◌, ◌<◌}
+use Rattle.kit.specs.Names.{ap, sym, subst, ◌∙◌, Bool, false, cond, List, ℕ, eq-eqb, ne_eqb}
 use Rattle.definitions.specs.Basics.{is_zero}
 use Rattle.definitions.specs.Ledger as ledger
 use Rattle.definitions.specs.Ledger.{call_number, call_with, honest_parameters_of, honest_variables_of, ledger_after_call}

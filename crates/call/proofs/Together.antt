@@ -1,5 +1,6 @@
 -- The struct after a call, put together from what the call leaves.
-use Rattle.kit.specs.Names.{◌≡◌, refl, sym, ◌∙◌, Bool, true, false, cond, List, ℕ, suc, ◌+◌, ◌/◌, arith, length, take, eq-eqb, ne_eqb}
+use Rattle.std.specs.Prelude.{◌≡◌, ◌+◌, ◌/◌}
+use Rattle.kit.specs.Names.{refl, sym, ◌∙◌, Bool, true, false, cond, List, ℕ, suc, arith, length, take, eq-eqb, ne_eqb}
 use Rattle.definitions.specs.Basics.{is_zero}
 use Rattle.definitions.specs.Ledger as ledger
 use Rattle.definitions.specs.Ledger.{after_call}

@@ -1,5 +1,6 @@
 -- What the struct after a call means, and that from deployment on the whole struct is told by its ledger.
-use Rattle.kit.specs.Names.{◌≡◌, refl, ap, sym, ◌∙◌, Bool, true, false, cond, List, [], map, ℕ}
+use Rattle.std.specs.Prelude.{◌≡◌}
+use Rattle.kit.specs.Names.{refl, ap, sym, ◌∙◌, Bool, true, false, cond, List, [], map, ℕ}
 use Rattle.definitions.specs.Basics.{is_zero}
 use Rattle.definitions.specs.Ledger as ledger
 use Rattle.definitions.specs.ContractFile.{contract_in, scope_of}

@@ -1,5 +1,6 @@
 -- 01, Runs and views: what a call gives.
-use Rattle.kit.specs.Names.{◌≡◌, cond, List, ℕ, suc, ◌/◌, length}
+use Rattle.std.specs.Prelude.{◌≡◌, ◌/◌}
+use Rattle.kit.specs.Names.{cond, List, ℕ, suc, length}
 use Rattle.definitions.specs.Basics.{is_zero}
 use Rattle.definitions.specs.Ledger.{call_number, ledger_after_call}
 use Rattle.ledger_struct.specs.declared.Ledger as code

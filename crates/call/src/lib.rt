@@ -1,7 +1,8 @@
 // 01, Runs and views: a call on a ledger, whatever ledger, caller, function and arguments are given.
 #![tactic(auto)]
 
-ghost use Rattle.kit.specs.Names.{◌≡◌, ◌<◌, ◌/◌, ◌≤◌, length};
+ghost use Rattle.std.specs.Prelude.{◌≡◌, ◌<◌, ◌/◌, ◌≤◌};
+ghost use Rattle.kit.specs.Names.{length};
 ghost use Rattle.ledger_contents.specs.Contents.{contents_of};
 ghost use Rattle.ledger_struct.specs.Ledgers.{ledger_of, ledger_from};
 ghost use Rattle.call.specs.Calls.{CalledOn, struct_after};

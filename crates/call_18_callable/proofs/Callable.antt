@@ -1,5 +1,6 @@
 -- Number 18 of a call by its tests: a ledger that is not well formed, a caller above 15, a function that is not there.
-use Rattle.kit.specs.Names.{◌≡◌, refl, ap, sym, ◌∙◌, Bool, true, false, ◌||◌, not, ℕ, ◌<◌, ◌≤◌, leb, ltb, length, lt-ltb, le-ltb}
+use Rattle.std.specs.Prelude.{◌≡◌, ◌||◌, ◌<◌, ◌≤◌}
+use Rattle.kit.specs.Names.{refl, ap, sym, ◌∙◌, Bool, true, false, not, ℕ, leb, ltb, length, lt-ltb, le-ltb}
 use Rattle.kit.specs.Names.{leb-false}
 use Rattle.definitions.specs.ContractFile.{function_count, contract_in}
 use Rattle.definitions.specs.Ledger as ledger

@@ -1,7 +1,8 @@
 // "18. The ledger isn't well formed ..; or a caller is above 15, or the function doesn't exist."
 #![tactic(auto)]
 
-ghost use Rattle.kit.specs.Names.{◌≡◌, ◌/◌, ◌≤◌, leb, length};
+ghost use Rattle.std.specs.Prelude.{◌≡◌, ◌/◌, ◌≤◌};
+ghost use Rattle.kit.specs.Names.{leb, length};
 ghost use Rattle.definitions.specs.ContractFile.{function_count};
 ghost use Rattle.definitions.specs.Ledger.{not_callable};
 ghost use Rattle.ledger_contents.specs.Contents.{contents_of};

@@ -1,5 +1,6 @@
 -- Number 19's test on a function's place that is known by an equation.
-use Rattle.kit.specs.Names.{◌≡◌, ap, ◌∙◌, Bool, List, ℕ}
+use Rattle.std.specs.Prelude.{◌≡◌}
+use Rattle.kit.specs.Names.{ap, ◌∙◌, Bool, List, ℕ}
 use Rattle.file_accepted.specs.Context.{parameters_in}
 use Rattle.ledger_numbers.specs.Arguments.{arguments_off_for}
 

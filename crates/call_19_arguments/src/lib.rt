@@ -1,7 +1,7 @@
 // "19. Arguments differ in number from the parameters, or one is outside its type."
 #![tactic(auto)]
 
-ghost use Rattle.kit.specs.Names.{◌≡◌};
+ghost use Rattle.std.specs.Prelude.{◌≡◌};
 ghost use Rattle.file_accepted.specs.Context.{parameters_in};
 ghost use Rattle.file_accepted.specs.Functions.{function_start};
 ghost use Rattle.ledger_numbers.specs.Arguments.{arguments_off_for};

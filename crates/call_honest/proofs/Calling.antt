@@ -1,5 +1,6 @@
 -- A call on a ledger that is taken apart: what its parts are handed, and what they make of it.
-use Rattle.kit.specs.Names.{◌≡◌, refl, ap, ap₂, sym, ◌∙◌, cond, List, ◌++◌, ℕ, suc, ◌*◌, ◌<◌, arith, length, take, drop}
+use Rattle.std.specs.Prelude.{◌≡◌, ◌++◌, ◌*◌, ◌<◌}
+use Rattle.kit.specs.Names.{refl, ap, ap₂, sym, ◌∙◌, cond, List, ℕ, suc, arith, length, take, drop}
 use Rattle.kit.specs.Names.{length-append, take-append-le}
 use Rattle.definitions.specs.Basics.{is_zero}
 use Rattle.definitions.specs.Numbers.{check_number}

@@ -1,5 +1,6 @@
 -- The parts of the honest call: what is put from the original is what the call with given values is handed.
-use Rattle.kit.specs.Names.{◌≡◌, ap, sym, ◌∙◌, List, map, ℕ, suc, ◌*◌, ◌<◌, ◌≤◌, arith, length, take}
+use Rattle.std.specs.Prelude.{◌≡◌, ◌*◌, ◌<◌, ◌≤◌}
+use Rattle.kit.specs.Names.{ap, sym, ◌∙◌, List, map, ℕ, suc, arith, length, take}
 use Rattle.definitions.specs.ContractFile.{Function, byte_at, function_count}
 use Rattle.definitions.specs.Numbers.{check_number}
 use Rattle.definitions.specs.Original.{address_in}

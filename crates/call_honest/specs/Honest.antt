@@ -1,5 +1,6 @@
 -- 01, Runs and views: what the original works out for a call, as code holds it before it is handed to the call with given values.
-use Rattle.kit.specs.Names.{◌≡◌, List, map, ℕ, ◌*◌, ◌≤◌, length, take}
+use Rattle.std.specs.Prelude.{◌≡◌, ◌*◌, ◌≤◌}
+use Rattle.kit.specs.Names.{List, map, ℕ, length, take}
 use Rattle.definitions.specs.Original.{address_in}
 use Rattle.definitions.specs.Ledger.{Ledger, opened_number, call_number, honest_parameters_of, honest_variables_of}
 use Rattle.file_accepted.specs.Context.{nodes_in, scope_in, Source}

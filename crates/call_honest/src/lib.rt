@@ -2,7 +2,8 @@
 // handed to the call with given values, which walks the written body and knows nothing of the original.
 #![tactic(auto)]
 
-ghost use Rattle.kit.specs.Names.{◌≡◌, suc, ◌/◌, ◌≤◌, length};
+ghost use Rattle.std.specs.Prelude.{◌≡◌, ◌/◌, ◌≤◌};
+ghost use Rattle.kit.specs.Names.{suc, length};
 ghost use Rattle.definitions.specs.Ledger.{Ledger, call_number, call_with, honest_parameters_of, honest_variables_of};
 ghost use Rattle.ledger_contents.specs.Contents.{contents_of};
 ghost use Rattle.ledger_struct.specs.Ledgers.{ledger_from, Flat};

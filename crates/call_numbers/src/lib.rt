@@ -2,7 +2,8 @@
 // carry.
 #![tactic(auto)]
 
-ghost use Rattle.kit.specs.Names.{◌≡◌, [], ◌∷◌, suc, ◌<◌, leb, ltb};
+ghost use Rattle.std.specs.Prelude.{◌≡◌, ◌∷◌, ◌<◌};
+ghost use Rattle.kit.specs.Names.{[], suc, leb, ltb};
 ghost use Rattle.definitions.specs.Basics.{first_that_holds};
 
 use ledger_struct::LastCall;

@@ -1,5 +1,6 @@
 -- What a call leaves makes the ledger after it.
-use Rattle.kit.specs.Names.{◌≡◌, refl, ap, sym, ◌∙◌, Bool, true, false, List, [], ℕ, ◌*◌, ◌/◌, arith, length, take, take_all, length-take-le}
+use Rattle.std.specs.Prelude.{◌≡◌, ◌*◌, ◌/◌}
+use Rattle.kit.specs.Names.{refl, ap, sym, ◌∙◌, Bool, true, false, List, [], ℕ, arith, length, take, take_all, length-take-le}
 use Rattle.definitions.specs.Ledger.{Content, Ledger, call_with, after_call}
 use Rattle.honest_parameters.specs.Parameters.{PublicPut}
 use Rattle.ledger_contents.specs.declared.Place.{Place}

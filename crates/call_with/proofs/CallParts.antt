@@ -1,5 +1,6 @@
 -- A call with given parameters and supplied values, as code makes it of the function that begins at a place of the ledger's file.
-use Rattle.kit.specs.Names.{◌≡◌, refl, ap, sym, ◌∙◌, Bool, true, false, cond, List, [], map, ℕ, ◌<◌}
+use Rattle.std.specs.Prelude.{◌≡◌, ◌<◌}
+use Rattle.kit.specs.Names.{refl, ap, sym, ◌∙◌, Bool, true, false, cond, List, [], map, ℕ}
 use Rattle.definitions.specs.ContractFile.{Name, Function, function_at, function_count, contract_of, contract_in}
 use Rattle.definitions.specs.Rewriting.{rewrite_function}
 use Rattle.definitions.specs.Original.{address_in}

@@ -1,5 +1,6 @@
 -- 01, Runs and views: the walk of a call with given values, and what it makes of a ledger.
-use Rattle.kit.specs.Names.{◌≡◌, Bool, cond, List, map, ℕ, ◌<◌, ◌≤◌, length, take}
+use Rattle.std.specs.Prelude.{◌≡◌, ◌<◌, ◌≤◌}
+use Rattle.kit.specs.Names.{Bool, cond, List, map, ℕ, length, take}
 use Rattle.definitions.specs.Basics.{is_zero}
 use Rattle.definitions.specs.ContractFile.{function_count}
 use Rattle.definitions.specs.Ledger.{Content, Ledger, State, plain_number, state_after, walk_completes, after_call}

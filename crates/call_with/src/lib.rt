@@ -1,7 +1,8 @@
 // 01, Runs and views: a call with given parameters and supplied values: the written body walked, and what the ledger shows after it.
 #![tactic(auto)]
 
-ghost use Rattle.kit.specs.Names.{◌≡◌, map, ℕ, ◌*◌, ◌≤◌, ◌/◌, length};
+ghost use Rattle.std.specs.Prelude.{◌≡◌, ◌*◌, ◌≤◌, ◌/◌};
+ghost use Rattle.kit.specs.Names.{map, ℕ, length};
 ghost use Rattle.definitions.specs.ContractFile.{byte_at};
 ghost use Rattle.definitions.specs.Ledger.{Ledger, plain_number, call_with};
 ghost use Rattle.ledger_contents.specs.Contents.{contents_of};

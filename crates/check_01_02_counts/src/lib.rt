@@ -1,7 +1,8 @@
 // Numbers 1 and 2: a file's end, and its counts.
 #![tactic(auto)]
 
-ghost use Rattle.kit.specs.Names.{◌≡◌, ◌+◌, ◌*◌, ◌≤◌, ltb, length};
+ghost use Rattle.std.specs.Prelude.{◌≡◌, ◌+◌, ◌*◌, ◌≤◌};
+ghost use Rattle.kit.specs.Names.{ltb, length};
 ghost use Rattle.definitions.specs.Basics.{any};
 ghost use Rattle.definitions.specs.ContractFile.{function_records};
 ghost use Rattle.definitions.specs.Numbers.{ends_wrongly, count_off_limits};

@@ -1,5 +1,6 @@
 -- An owner code and a function's parameters as code asks of them, and the first of the sentences 3 and 4 that holds.
-use Rattle.kit.specs.Names.{◌≡◌, Bool, true, false, cond, not, ◌&&◌, ◌||◌, List, [], ◌∷◌, ℕ, ◌+◌, ◌*◌, ◌-◌, ◌/◌, ◌%◌, ◌≤◌, arith, eqb, leb, length}
+use Rattle.std.specs.Prelude.{◌≡◌, ◌&&◌, ◌||◌, ◌∷◌, ◌+◌, ◌*◌, ◌-◌, ◌/◌, ◌%◌, ◌≤◌}
+use Rattle.kit.specs.Names.{Bool, true, false, cond, not, List, [], ℕ, arith, eqb, leb, length}
 use Rattle.definitions.specs.Basics.{any, any_numbered, first_that_holds}
 use Rattle.definitions.specs.ContractFile.{field_owner_of_code}
 use Rattle.definitions.specs.Numbers.{field_of_declared_owner, outside_tables, names_nothing}

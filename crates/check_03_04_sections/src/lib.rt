@@ -1,7 +1,8 @@
 // Numbers 3 and 4 of a contract that is decoded: each section is read once for both.
 #![tactic(auto)]
 
-ghost use Rattle.kit.specs.Names.{◌≡◌, [], ◌∷◌, ◌/◌, length};
+ghost use Rattle.std.specs.Prelude.{◌≡◌, ◌∷◌, ◌/◌};
+ghost use Rattle.kit.specs.Names.{[], length};
 ghost use Rattle.definitions.specs.Basics.{any, any_numbered, first_that_holds};
 ghost use Rattle.definitions.specs.Numbers.{outside_tables, names_nothing};
 ghost use Rattle.file_decoded.specs.Slices.{fields_from, functions_from, nodes_from, sections_from, ParametersInside};

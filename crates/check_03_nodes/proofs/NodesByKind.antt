@@ -1,5 +1,6 @@
 -- A constant against the tables by its type, and a node by its kind's number.
-use Rattle.kit.specs.Names.{◌≡◌, refl, ap, sym, false, ◌&&◌, ◌||◌, ◌⊎◌, inl, inr, ℕ, zero, suc, arith, eqb, leb, ltb, ne_eqb, lt-leb}
+use Rattle.std.specs.Prelude.{◌≡◌, ◌&&◌, ◌||◌, ◌⊎◌}
+use Rattle.kit.specs.Names.{refl, ap, sym, false, inl, inr, ℕ, zero, suc, arith, eqb, leb, ltb, ne_eqb, lt-leb}
 use Rattle.definitions.specs.ContractFile.{NodeRecord, data_type_of, is_of_type, kind_of}
 use Rattle.definitions.specs.Numbers.{kind_in_tables, node_in_tables}
 use Rattle.file_children.proofs.Truth.{or-false}

@@ -1,7 +1,8 @@
 // Number 3 for one node: its kind, its arg and the parts that its kind doesn't use.
 #![tactic(auto)]
 
-ghost use Rattle.kit.specs.Names.{◌≡◌, ◌&&◌, ◌≤◌, leb};
+ghost use Rattle.std.specs.Prelude.{◌≡◌, ◌&&◌, ◌≤◌};
+ghost use Rattle.kit.specs.Names.{leb};
 ghost use Rattle.definitions.specs.ContractFile.{data_type_of, is_of_type};
 ghost use Rattle.definitions.specs.Numbers.{target_in_tables, node_in_tables};
 ghost use Rattle.file_bytes.specs.Node.{record_of};

@@ -1,5 +1,6 @@
 -- Numbers 3 and 4 come before 5 to 7; of sections of number 0 neither of the first two holds.
-use Rattle.kit.specs.Names.{◌≡◌, refl, sym, ◌∙◌, Bool, true, false, List, [], ◌∷◌, ℕ}
+use Rattle.std.specs.Prelude.{◌≡◌, ◌∷◌}
+use Rattle.kit.specs.Names.{refl, sym, ◌∙◌, Bool, true, false, List, [], ℕ}
 use Rattle.definitions.specs.Basics.{first_that_holds}
 use Rattle.definitions.specs.ContractFile.{Sections}
 use Rattle.definitions.specs.Numbers.{outside_tables, names_nothing, used_other_than_once, too_deep, wrong_sort}

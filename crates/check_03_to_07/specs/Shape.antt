@@ -1,5 +1,6 @@
 -- 01, Numbers: the sentences 3 to 7, which are told of a file's sections.
-use Rattle.kit.specs.Names.{List, [], ◌∷◌, ℕ}
+use Rattle.std.specs.Prelude.{◌∷◌}
+use Rattle.kit.specs.Names.{List, [], ℕ}
 use Rattle.definitions.specs.Basics.{first_that_holds}
 use Rattle.definitions.specs.ContractFile.{Sections}
 use Rattle.definitions.specs.Numbers.{outside_tables, names_nothing, used_other_than_once, too_deep, wrong_sort}

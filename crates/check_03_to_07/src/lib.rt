@@ -1,7 +1,7 @@
 // Numbers 3 to 7 of a contract that is decoded: the first of their sentences that holds.
 #![tactic(auto)]
 
-ghost use Rattle.kit.specs.Names.{◌≡◌};
+ghost use Rattle.std.specs.Prelude.{◌≡◌};
 ghost use Rattle.file_decoded.specs.Slices.{sections_from};
 ghost use Rattle.check_03_to_07.specs.Shape.{sections_number, Held};
 

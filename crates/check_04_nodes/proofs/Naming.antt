@@ -1,5 +1,6 @@
 -- The fields that a node names and the children that it has, by its kind's number.
-use Rattle.kit.specs.Names.{◌≡◌, refl, ap, sym, ◌∙◌, Bool, true, false, cond, not, ◌&&◌, ◌||◌, [], ◌∷◌, ℕ, zero, suc, ◌-◌, arith, eqb, leb, ltb}
+use Rattle.std.specs.Prelude.{◌≡◌, ◌&&◌, ◌||◌, ◌∷◌, ◌-◌}
+use Rattle.kit.specs.Names.{refl, ap, sym, ◌∙◌, Bool, true, false, cond, not, [], ℕ, zero, suc, arith, eqb, leb, ltb}
 use Rattle.kit.specs.Names.{take, ne_eqb, eqb-true, eqb-false, leb-true, lt-ltb}
 use Rattle.definitions.specs.Basics.{any}
 use Rattle.definitions.specs.ContractFile.{NodeRecord, is_final_code, kind_of, node_of, node_of_kind, fields_named}

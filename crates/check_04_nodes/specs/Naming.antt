@@ -1,5 +1,6 @@
 -- 01, number 4: a field's owner code, a function's root and a node that name nothing.
-use Rattle.kit.specs.Names.{Bool, ◌||◌, ℕ, leb}
+use Rattle.std.specs.Prelude.{◌||◌}
+use Rattle.kit.specs.Names.{Bool, ℕ, leb}
 use Rattle.definitions.specs.Basics.{any}
 use Rattle.definitions.specs.ContractFile.{FieldRecord, FunctionRecord, NodeRecord, field_of, node_of, fields_named, children}
 use Rattle.definitions.specs.Numbers.{field_of_declared_owner}

@@ -1,7 +1,8 @@
 // Number 4 for one node: its arg names a field, and its children are below it.
 #![tactic(auto)]
 
-ghost use Rattle.kit.specs.Names.{◌≡◌, ◌-◌, leb};
+ghost use Rattle.std.specs.Prelude.{◌≡◌, ◌-◌};
+ghost use Rattle.kit.specs.Names.{leb};
 ghost use Rattle.definitions.specs.Basics.{any};
 ghost use Rattle.definitions.specs.ContractFile.{node_of, fields_named, children};
 ghost use Rattle.file_bytes.specs.Node.{record_of};

@@ -1,5 +1,6 @@
 -- The loop over a node's children: what is left to look at.
-use Rattle.kit.specs.Names.{◌≡◌, refl, ap, sym, ◌∙◌, Bool, true, false, List, [], ◌∷◌, map, ℕ, zero, suc, ◌+◌, ◌-◌, ◌<◌, ◌≤◌, max, arith, leb, ltb}
+use Rattle.std.specs.Prelude.{◌≡◌, ◌∷◌, ◌+◌, ◌-◌, ◌<◌, ◌≤◌}
+use Rattle.kit.specs.Names.{refl, ap, sym, ◌∙◌, Bool, true, false, List, [], map, ℕ, zero, suc, max, arith, leb, ltb}
 use Rattle.kit.specs.Names.{take, drop, ltb-true, ltb-false, leb-true}
 use Rattle.definitions.specs.Basics.{largest}
 use Rattle.file_decoded.specs.Slices.{number_at, node_from}

@@ -1,5 +1,6 @@
 -- The first of the sentences 5 to 7 that holds.
-use Rattle.kit.specs.Names.{◌≡◌, ◌∙◌, Bool, cond, ◌||◌, or_comm, List, [], ◌∷◌, map, ℕ, ◌/◌, ◌≤◌, arith, length}
+use Rattle.std.specs.Prelude.{◌≡◌, ◌||◌, ◌∷◌, ◌/◌, ◌≤◌}
+use Rattle.kit.specs.Names.{◌∙◌, Bool, cond, or_comm, List, [], map, ℕ, arith, length}
 use Rattle.definitions.specs.Basics.{any, flat_map, first_that_holds}
 use Rattle.definitions.specs.ContractFile.{FunctionRecord, Sections}
 use Rattle.definitions.specs.Numbers.{used_other_than_once, too_deep, wrong_sort}

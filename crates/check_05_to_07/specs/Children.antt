@@ -1,5 +1,6 @@
 -- 01, numbers 5 to 7: what one look at a node's children tells.
-use Rattle.kit.specs.Names.{◌≡◌, List, map, ℕ, ◌≤◌}
+use Rattle.std.specs.Prelude.{◌≡◌, ◌≤◌}
+use Rattle.kit.specs.Names.{List, map, ℕ}
 use Rattle.definitions.specs.Basics.{largest}
 use Rattle.definitions.specs.ContractFile.{node_of}
 use Rattle.file_decoded.specs.Slices.{node_from}

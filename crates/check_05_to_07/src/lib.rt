@@ -1,7 +1,8 @@
 // Numbers 5 to 7 of a contract that is decoded and that number 4 lets pass: its nodes are read once for all three.
 #![tactic(auto)]
 
-ghost use Rattle.kit.specs.Names.{◌≡◌, List, [], ◌∷◌, ℕ, ◌+◌, ◌*◌, ◌/◌, ◌≤◌, length};
+ghost use Rattle.std.specs.Prelude.{◌≡◌, ◌∷◌, ◌+◌, ◌*◌, ◌/◌, ◌≤◌};
+ghost use Rattle.kit.specs.Names.{List, [], ℕ, length};
 ghost use Rattle.definitions.specs.Basics.{any, flat_map, first_that_holds};
 ghost use Rattle.definitions.specs.Numbers.{used_other_than_once, too_deep, wrong_sort};
 ghost use Rattle.file_decoded.specs.Slices.{nodes_from, sections_from, Shaped};

@@ -1,5 +1,6 @@
 -- The loop over the roots.
-use Rattle.kit.specs.Names.{◌≡◌, ap, Bool, cond, ◌||◌, List, [], ◌∷◌, ℕ, ◌+◌, ◌-◌, ◌<◌, ◌≤◌}
+use Rattle.std.specs.Prelude.{◌≡◌, ◌||◌, ◌∷◌, ◌+◌, ◌-◌, ◌<◌, ◌≤◌}
+use Rattle.kit.specs.Names.{ap, Bool, cond, List, [], ℕ}
 use Rattle.definitions.specs.Basics.{any, first_that_holds}
 use Rattle.definitions.specs.ContractFile.{FunctionRecord}
 use Rattle.file_children.proofs.Loops.{noted_next, noted_done}

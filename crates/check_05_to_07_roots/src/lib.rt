@@ -2,7 +2,8 @@
 // does not prove the other again.
 #![tactic(auto)]
 
-ghost use Rattle.kit.specs.Names.{◌≡◌, ◌||◌, List, [], ◌∷◌, map, ℕ, ◌/◌, length};
+ghost use Rattle.std.specs.Prelude.{◌≡◌, ◌||◌, ◌∷◌, ◌/◌};
+ghost use Rattle.kit.specs.Names.{List, [], map, ℕ, length};
 ghost use Rattle.definitions.specs.Basics.{any, first_that_holds};
 ghost use Rattle.file_decoded.specs.Slices.{functions_from};
 ghost use Rattle.check_05_uses.specs.Counting.{Room, Counted, root_of};

@@ -1,6 +1,7 @@
 -- The loops that count uses: what is left to count leads to the same counts.
-use Rattle.kit.specs.Names.{◌≡◌, refl, ap, sym, ◌∙◌, Bool, not, ◌||◌, or_assoc, or-false, List, [], ◌∷◌, ◌++◌, map, ℕ, zero, suc, ◌+◌, ◌*◌, ◌-◌}
-use Rattle.kit.specs.Names.{◌<◌, ◌≤◌, arith, add-one, eqb, length, get_or, take, replicate, get_or-replicate}
+use Rattle.std.specs.Prelude.{◌≡◌, ◌||◌, ◌∷◌, ◌++◌, ◌+◌, ◌*◌, ◌-◌, ◌<◌, ◌≤◌}
+use Rattle.kit.specs.Names.{refl, ap, sym, ◌∙◌, Bool, not, or_assoc, or-false, List, [], map, ℕ, zero, suc}
+use Rattle.kit.specs.Names.{arith, add-one, eqb, length, get_or, take, replicate, get_or-replicate}
 use Rattle.definitions.specs.Basics.{any_numbered, count_if, flat_map}
 use Rattle.definitions.specs.ContractFile.{NodeRecord, Sections, node_of, children}
 use Rattle.definitions.specs.Numbers.{uses_of, used_other_than_once}

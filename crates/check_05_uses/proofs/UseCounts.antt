@@ -1,5 +1,6 @@
 -- Counts of uses: one more, none, and one after the other.
-use Rattle.kit.specs.Names.{◌≡◌, refl, ◌∙◌, Bool, true, false, cond, List, [], ◌∷◌, ◌++◌, ℕ, ◌+◌, ◌<◌, ◌≤◌, arith, eqb, length, get_or, set}
+use Rattle.std.specs.Prelude.{◌≡◌, ◌∷◌, ◌++◌, ◌+◌, ◌<◌, ◌≤◌}
+use Rattle.kit.specs.Names.{refl, ◌∙◌, Bool, true, false, cond, List, [], ℕ, arith, eqb, length, get_or, set}
 use Rattle.kit.specs.Names.{length-set, get_or-set_same, get_or-set_other, eqb-true, eqb-false}
 use Rattle.definitions.specs.Basics.{count_if}
 use Rattle.theory_laws.proofs.Lists.{count_append, count_length}

@@ -1,5 +1,6 @@
 -- 01, number 5: counts of uses, one for each node that there can be.
-use Rattle.kit.specs.Names.{◌≡◌, Bool, false, not, ◌||◌, List, ℕ, zero, suc, ◌+◌, ◌<◌, ◌≤◌, eqb, length, get_or}
+use Rattle.std.specs.Prelude.{◌≡◌, ◌||◌, ◌+◌, ◌<◌, ◌≤◌}
+use Rattle.kit.specs.Names.{Bool, false, not, List, ℕ, zero, suc, eqb, length, get_or}
 use Rattle.definitions.specs.Basics.{count_if}
 use Rattle.definitions.specs.ContractFile.{FunctionRecord, NodeRecord, node_of, children}
 

@@ -1,7 +1,8 @@
 // Number 5: "A node is used other than once, as a root or a child."
 #![tactic(auto)]
 
-ghost use Rattle.kit.specs.Names.{◌≡◌, [], ◌∷◌, ◌≤◌};
+ghost use Rattle.std.specs.Prelude.{◌≡◌, ◌∷◌, ◌≤◌};
+ghost use Rattle.kit.specs.Names.{[]};
 ghost use Rattle.check_05_uses.specs.Counting.{Room, Counted, other_than_one, any_from};
 
 // One more use of node n, where n can be a node.

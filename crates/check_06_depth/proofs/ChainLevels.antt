@@ -1,5 +1,6 @@
 -- Chains of nodes whose children are below them: levels that are enough give the same length.
-use Rattle.kit.specs.Names.{◌≡◌, refl, ap, sym, ◌∙◌, Bool, true, false, List, [], ◌∷◌, map, ℕ, zero, suc, ◌+◌, ◌<◌, ◌≤◌, arith, max-le, eqb}
+use Rattle.std.specs.Prelude.{◌≡◌, ◌∷◌, ◌+◌, ◌<◌, ◌≤◌}
+use Rattle.kit.specs.Names.{refl, ap, sym, ◌∙◌, Bool, true, false, List, [], map, ℕ, zero, suc, arith, max-le, eqb}
 use Rattle.kit.specs.Names.{leb, length, set, length-set, get_or-set_same, get_or-set_other, eqb-true, eqb-false, leb-false}
 use Rattle.definitions.specs.Basics.{any, largest}
 use Rattle.definitions.specs.ContractFile.{Node, node_at, children, chain_length}

@@ -1,5 +1,6 @@
 -- The loop that notes depths, and number 6 in what it has noted.
-use Rattle.kit.specs.Names.{◌≡◌, refl, ap, sym, ◌∙◌, Bool, true, false, List, [], ◌∷◌, map, ℕ, suc, ◌+◌, ◌*◌, ◌<◌, ◌≤◌, arith, add-one, leb}
+use Rattle.std.specs.Prelude.{◌≡◌, ◌∷◌, ◌+◌, ◌*◌, ◌<◌, ◌≤◌}
+use Rattle.kit.specs.Names.{refl, ap, sym, ◌∙◌, Bool, true, false, List, [], map, ℕ, suc, arith, add-one, leb}
 use Rattle.kit.specs.Names.{ltb, length, set, replicate, length-map, get_or_eq_default, lt-leb, ltb-true, ltb-false}
 use Rattle.definitions.specs.Basics.{all, any, largest}
 use Rattle.definitions.specs.ContractFile.{FunctionRecord, Sections, Node as Form, unknown_node, node_of, children, expression_parts, statement_parts, chain_length}

@@ -1,5 +1,6 @@
 -- 01, number 6: the depths of nodes, one for each node that there can be.
-use Rattle.kit.specs.Names.{◌≡◌, Bool, false, List, ℕ, suc, ◌<◌, ◌≤◌, leb, ltb, length, get_or}
+use Rattle.std.specs.Prelude.{◌≡◌, ◌<◌, ◌≤◌}
+use Rattle.kit.specs.Names.{Bool, false, List, ℕ, suc, leb, ltb, length, get_or}
 use Rattle.definitions.specs.Basics.{any}
 use Rattle.definitions.specs.ContractFile.{FunctionRecord, Node, node_at, children, chain_length}
 

@@ -1,7 +1,8 @@
 // Number 6: "A chain from root to leaf has more than 64 nodes."
 #![tactic(auto)]
 
-ghost use Rattle.kit.specs.Names.{◌≡◌, ◌≤◌, max};
+ghost use Rattle.std.specs.Prelude.{◌≡◌, ◌≤◌};
+ghost use Rattle.kit.specs.Names.{max};
 ghost use Rattle.check_06_depth.specs.Chains.{Bounded, depth_in};
 
 pub fn larger(a: usize, b: usize) -> usize

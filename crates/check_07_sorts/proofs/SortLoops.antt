@@ -1,5 +1,6 @@
 -- The sort of a node that is looked up, a node's children by its kind, and the loop over the nodes.
-use Rattle.kit.specs.Names.{◌≡◌, refl, ap, sym, ◌∙◌, Bool, true, false, not, ◌||◌, List, ℕ, ◌+◌, ◌*◌, ◌-◌, ◌/◌, ◌<◌, ◌≤◌, arith, ltb}
+use Rattle.std.specs.Prelude.{◌≡◌, ◌||◌, ◌+◌, ◌*◌, ◌-◌, ◌/◌, ◌<◌, ◌≤◌}
+use Rattle.kit.specs.Names.{refl, ap, sym, ◌∙◌, Bool, true, false, not, List, ℕ, arith, ltb}
 use Rattle.kit.specs.Names.{length, take}
 use Rattle.definitions.specs.Basics.{any, any_numbered}
 use Rattle.definitions.specs.ContractFile.{NodeRecord, Kind, constant_kind, me_kind, field_kind, entry_kind, parameter_kind, operator_kind, negation_kind}

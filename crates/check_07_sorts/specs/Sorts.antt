@@ -1,5 +1,6 @@
 -- 01, number 7: roots and children of another sort than is due.
-use Rattle.kit.specs.Names.{Bool, cond, not, ◌||◌, List, map, ℕ, ◌/◌, length}
+use Rattle.std.specs.Prelude.{◌||◌, ◌/◌}
+use Rattle.kit.specs.Names.{Bool, cond, not, List, map, ℕ, length}
 use Rattle.definitions.specs.Basics.{any}
 use Rattle.definitions.specs.ContractFile.{FunctionRecord, Node, node_of, node_at, is_expression, is_statement, expression_parts, statement_parts}
 use Rattle.file_decoded.specs.Slices.{nodes_from}

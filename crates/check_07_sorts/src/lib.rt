@@ -1,7 +1,7 @@
 // Number 7: "A statement stands where an expression is due, or the reverse."
 #![tactic(auto)]
 
-ghost use Rattle.kit.specs.Names.{◌≡◌};
+ghost use Rattle.std.specs.Prelude.{◌≡◌};
 ghost use Rattle.check_07_sorts.specs.Sorts.{nodes_in, has_sort};
 
 use file_children::{is_expression_kind, is_statement_kind};

@@ -1,5 +1,6 @@
 -- Numbers 1 and 2 bound the sections, so that the rooms hold them.
-use Rattle.kit.specs.Names.{◌≡◌, ap, sym, ◌∙◌, false, ◌||◌, List, ℕ, zero, suc, ◌+◌, ◌*◌, ◌-◌, ◌≤◌, arith, eqb, ltb, length, take}
+use Rattle.std.specs.Prelude.{◌≡◌, ◌||◌, ◌+◌, ◌*◌, ◌-◌, ◌≤◌}
+use Rattle.kit.specs.Names.{ap, sym, ◌∙◌, false, List, ℕ, zero, suc, arith, eqb, ltb, length, take}
 use Rattle.kit.specs.Names.{length-take-le, ltb-false, eqb-true, not-false}
 use Rattle.definitions.specs.Basics.{any}
 use Rattle.definitions.specs.ContractFile.{byte_at, function_end, functions_end, function_record, function_records, file_end}

@@ -1,5 +1,6 @@
 -- Numbers 1 and 2 first, then 3 to 7 of the decoded sections, then 8 to 15.
-use Rattle.kit.specs.Names.{◌≡◌, refl, ap, sym, ◌∙◌, Bool, true, false, ◌||◌, List, [], ◌∷◌, ℕ, zero, suc, ◌<◌, arith, ltb, length}
+use Rattle.std.specs.Prelude.{◌≡◌, ◌||◌, ◌∷◌, ◌<◌}
+use Rattle.kit.specs.Names.{refl, ap, sym, ◌∙◌, Bool, true, false, List, [], ℕ, zero, suc, arith, ltb, length}
 use Rattle.definitions.specs.Basics.{any, is_zero, first_that_holds}
 use Rattle.definitions.specs.ContractFile.{Sections, sections_of, contract_of, field_count, function_count, node_count}
 use Rattle.definitions.specs.Numbers.{ends_wrongly, count_off_limits, outside_tables, names_nothing, used_other_than_once, too_deep, wrong_sort, contract_sentences, check_number, or_else}

@@ -1,5 +1,6 @@
 -- The decoded nodes are a source, and stand at the front of the room.
-use Rattle.kit.specs.Names.{◌≡◌, refl, ap, ◌∙◌, List, ◌++◌, ℕ, ◌*◌, arith, length, take, take_at}
+use Rattle.std.specs.Prelude.{◌≡◌, ◌++◌, ◌*◌}
+use Rattle.kit.specs.Names.{refl, ap, ◌∙◌, List, ℕ, arith, length, take, take_at}
 use Rattle.definitions.specs.ContractFile.{Sections, node_count}
 use Rattle.file_bytes.specs.declared.Layout.{Layout}
 use Rattle.file_bytes.specs.Layout.{IsLayout}

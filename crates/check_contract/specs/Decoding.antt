@@ -1,5 +1,6 @@
 -- 01, Numbers: the sentences 3 to 15, which are told of a file's sections; and the slices that a file is decoded into.
-use Rattle.kit.specs.Names.{◌≡◌, false, List, ◌∷◌, ℕ, ◌*◌, ◌/◌, ◌≤◌, ltb, length}
+use Rattle.std.specs.Prelude.{◌≡◌, ◌∷◌, ◌*◌, ◌/◌, ◌≤◌}
+use Rattle.kit.specs.Names.{false, List, ℕ, ltb, length}
 use Rattle.definitions.specs.Basics.{any, first_that_holds}
 use Rattle.definitions.specs.ContractFile.{Sections, contract_of}
 use Rattle.definitions.specs.Numbers.{ends_wrongly, count_off_limits, outside_tables, names_nothing, used_other_than_once, too_deep, wrong_sort}

@@ -2,7 +2,8 @@
 // reads the decoded numbers alone.
 #![tactic(auto)]
 
-ghost use Rattle.kit.specs.Names.{◌≡◌, ◌*◌, ◌≤◌, length, take};
+ghost use Rattle.std.specs.Prelude.{◌≡◌, ◌*◌, ◌≤◌};
+ghost use Rattle.kit.specs.Names.{length, take};
 ghost use Rattle.definitions.specs.ContractFile.{sections_of};
 ghost use Rattle.definitions.specs.Numbers.{check_number};
 ghost use Rattle.file_bytes.specs.Layout.{IsLayout};

@@ -1,5 +1,6 @@
 -- What the test of a number tells of the number.
-use Rattle.kit.specs.Names.{◌≡◌, sym, ◌∙◌, Bool, true, false, not, ℕ, eqb-true, eqb-false, not-true, not-false}
+use Rattle.std.specs.Prelude.{◌≡◌}
+use Rattle.kit.specs.Names.{sym, ◌∙◌, Bool, true, false, not, ℕ, eqb-true, eqb-false, not-true, not-false}
 use Rattle.definitions.specs.Basics.{is_zero}
 
 module _ (number : ℕ) (refused : Bool) (tested : refused ≡ not (is_zero number)) where

@@ -1,7 +1,8 @@
 // 01, Numbers: "0 means accepted": what every entry asks of a number before it goes on.
 #![tactic(auto)]
 
-ghost use Rattle.kit.specs.Names.{◌≡◌, not};
+ghost use Rattle.std.specs.Prelude.{◌≡◌};
+ghost use Rattle.kit.specs.Names.{not};
 ghost use Rattle.definitions.specs.Basics.{is_zero};
 
 // Whether a number refuses. Wrong programs that this rules out: one that makes a call, or writes, reports or passes a file, that a number

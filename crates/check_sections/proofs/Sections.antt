@@ -1,5 +1,6 @@
 -- Where sections lie in a file that ends right, and the part that is handed back.
-use Rattle.kit.specs.Names.{◌≡◌, refl, sym, ◌∙◌, Bool, true, false, List, [], ◌∷◌, ℕ, zero, suc, ◌+◌, ◌-◌, ◌≤◌, arith, eqb, ltb, length}
+use Rattle.std.specs.Prelude.{◌≡◌, ◌∷◌, ◌+◌, ◌-◌, ◌≤◌}
+use Rattle.kit.specs.Names.{refl, sym, ◌∙◌, Bool, true, false, List, [], ℕ, zero, suc, arith, eqb, ltb, length}
 use Rattle.kit.specs.Names.{take, drop, length-drop, slice, take_all, eqb-true, ltb-false, not-false, ne_eqb}
 use Rattle.definitions.specs.Basics.{first_that_holds}
 use Rattle.definitions.specs.ContractFile.{function_end, functions_at, function_count, functions_end, file_end, section_part}

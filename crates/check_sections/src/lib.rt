@@ -1,7 +1,7 @@
 // "Each section, count included, is handed back on request": numbers 1, 2 and 22, and the part of the file.
 #![tactic(auto)]
 
-ghost use Rattle.kit.specs.Names.{◌≡◌};
+ghost use Rattle.std.specs.Prelude.{◌≡◌};
 ghost use Rattle.definitions.specs.Numbers.{section_number, section_answer};
 
 use check_01_02_counts::{count_off_limits, ends_wrongly};

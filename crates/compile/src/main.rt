@@ -2,7 +2,8 @@
 // file to read in place of standard input, a second one the file to write in place of standard output.
 #![tactic(auto)]
 
-ghost use Rattle.kit.specs.Names.{◌≡◌, ◌≤◌, length};
+ghost use Rattle.std.specs.Prelude.{◌≡◌, ◌≤◌};
+ghost use Rattle.kit.specs.Names.{length};
 ghost use Rattle.definitions.specs.Numbers.{check_number};
 ghost use Rattle.write_room.specs.Rooms.{Suffices};
 ghost use Rattle.write_output.specs.Answers.{Promised};

@@ -1,7 +1,8 @@
 -- 01, The contract file: what a file says, as trees; the sections of a file in document 01's own layout; the codes;
 -- the trees that its nodes make; data types.
-use Rattle.definitions.specs.Basics.{Bool, true, false, ◌||◌, List, [], ℕ, eqb, get_or, ◌&&◌, cond, not, ◌∷◌, zero, suc, ◌+◌, ◌*◌, ◌-◌}
-use Rattle.definitions.specs.Basics.{leb, ltb, ◌++◌, map, largest}
+use Rattle.std.specs.Prelude.{◌||◌, ◌&&◌, ◌∷◌, ◌+◌, ◌*◌, ◌-◌, ◌++◌}
+use Rattle.definitions.specs.Basics.{Bool, true, false, List, [], ℕ, eqb, get_or, cond, not, zero, suc}
+use Rattle.definitions.specs.Basics.{leb, ltb, map, largest}
 pub use Rattle.definitions.specs.Reading.{byte_at, two_bytes_at, FieldRecord, ParameterRecord, FunctionRecord, NodeRecord, Sections}
 pub use Rattle.definitions.specs.Reading.{node}
 use Rattle.definitions.specs.Reading.{narrow, fields_counted, functions_begin, functions_counted, function_passed, functions_passed}

@@ -1,7 +1,8 @@
 -- 02, Note 2: "let writing hand back, beside its length, each function's count of variables with origins 0 to 3"; Note 3: "the number of
 -- variables with origins 0 to 3 in the written file, counted there". A crossing is document 01's own term for such a variable. They are
 -- counted in the written file, origin byte by origin byte.
-use Rattle.definitions.specs.Basics.{cond, List, [], ◌∷◌, ◌++◌, map, flat_map, ℕ, zero, suc, ◌+◌, ◌*◌, ◌-◌, eqb, leb, count_if}
+use Rattle.std.specs.Prelude.{◌∷◌, ◌++◌, ◌+◌, ◌*◌, ◌-◌}
+use Rattle.definitions.specs.Basics.{cond, List, [], map, flat_map, ℕ, zero, suc, eqb, leb, count_if}
 use Rattle.definitions.specs.Basics.{length, replicate, force}
 use Rattle.definitions.specs.ContractFile.{byte_at, two_bytes_at, functions_at, function_count}
 use Rattle.definitions.specs.Rewriting.{written_file, write_number}

@@ -1,7 +1,8 @@
 -- 01, Runs and views: plain values and cells, the ledger, the walk of a written body on it; deployment;
 -- calls with supplied values, and honest ones; numbers 17 to 20.
-use Rattle.definitions.specs.Basics.{Bool, true, false, ◌&&◌, ◌||◌, cond, not, List, [], ℕ, eqb, get_or, set, all, is_true, ◌∷◌, ◌++◌}
-use Rattle.definitions.specs.Basics.{map, zip_with, suc, ◌+◌, leb, ltb, length, replicate, any, count_if, is_zero, first_that_holds}
+use Rattle.std.specs.Prelude.{◌&&◌, ◌||◌, ◌∷◌, ◌++◌, ◌+◌}
+use Rattle.definitions.specs.Basics.{Bool, true, false, cond, not, List, [], ℕ, eqb, get_or, set, all, is_true}
+use Rattle.definitions.specs.Basics.{map, zip_with, suc, leb, ltb, length, replicate, any, count_if, is_zero, first_that_holds}
 use Rattle.definitions.specs.ContractFile.{Name, me_name, Field, DataType, boolean, Statement, Parameter, Function, Scope, function_at}
 use Rattle.definitions.specs.ContractFile.{scope_of, is_final, is_of_type, type_of, contract_in}
 use Rattle.definitions.specs.Original.{position, Reader, anyone, only, reader_of, operate, operates, negate, per_place, address_in}

@@ -1,5 +1,6 @@
 -- 01, Numbers given for a bad request: the sentences 1 to 15 of a contract file, and the number of a check and of a section.
-use Rattle.definitions.specs.Basics.{Bool, true, false, ◌&&◌, ◌||◌, cond, not, List, [], ◌∷◌, ◌++◌, map, Option, none, some, ℕ, zero}
+use Rattle.std.specs.Prelude.{◌&&◌, ◌||◌, ◌∷◌, ◌++◌}
+use Rattle.definitions.specs.Basics.{Bool, true, false, cond, not, List, [], map, Option, none, some, ℕ, zero}
 use Rattle.definitions.specs.Basics.{suc, eqb, leb, ltb, length, any, any_numbered, count_if, flat_map, is_zero, first_that_holds}
 use Rattle.definitions.specs.ContractFile.{boolean, address, Name, me_name, final_name, parameter_name, Owner, everyone, owned_by}
 use Rattle.definitions.specs.ContractFile.{FieldOwner, to_everyone, to_key, to_final, Expression, constant, me, field, entry, parameter}

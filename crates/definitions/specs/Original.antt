@@ -1,7 +1,8 @@
 -- 01, Runs and views: the places of a contract, the addresses of names, and "The original is the contract as filed,
 -- with a plain value in every place".
-use Rattle.definitions.specs.Basics.{Bool, true, cond, List, [], ◌∷◌, ◌++◌, map, ℕ, zero, suc, ◌+◌, eqb, get_or, drop, replicate, ◌&&◌}
-use Rattle.definitions.specs.Basics.{◌||◌, not, ◌*◌, ◌-◌, ◌/◌, ◌%◌, leb, ltb, set, bit, is_zero, is_true}
+use Rattle.std.specs.Prelude.{◌∷◌, ◌++◌, ◌+◌, ◌&&◌, ◌||◌, ◌*◌, ◌-◌, ◌/◌, ◌%◌}
+use Rattle.definitions.specs.Basics.{Bool, true, cond, List, [], map, ℕ, zero, suc, eqb, get_or, drop, replicate}
+use Rattle.definitions.specs.Basics.{not, leb, ltb, set, bit, is_zero, is_true}
 use Rattle.definitions.specs.ContractFile.{Name, me_name, final_name, parameter_name, Owner, everyone, owned_by, FieldOwner, to_everyone}
 use Rattle.definitions.specs.ContractFile.{to_key, to_final, Field, Scope, field_at, parameter_at, is_final, is_mapping, Operator, plus}
 use Rattle.definitions.specs.ContractFile.{minus, times, divide, remainder, less, less_or_equal, equal, unequal, conjunction}

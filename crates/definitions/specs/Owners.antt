@@ -1,5 +1,6 @@
 -- 01, Owners: names, links, and what each expression belongs to.
-use Rattle.definitions.specs.Basics.{Bool, true, ◌&&◌, ◌||◌, cond, not, Option, none, some}
+use Rattle.std.specs.Prelude.{◌&&◌, ◌||◌}
+use Rattle.definitions.specs.Basics.{Bool, true, cond, not, Option, none, some}
 use Rattle.definitions.specs.ContractFile.{address, Name, me_name, final_name, parameter_name, Owner, everyone, owned_by, FieldOwner}
 use Rattle.definitions.specs.ContractFile.{to_everyone, to_key, to_final, equal, conjunction, Expression, constant, me, field, entry}
 use Rattle.definitions.specs.ContractFile.{parameter, operator, negation, reveal, Statement, skip, sequence, assign_field, assign_entry}

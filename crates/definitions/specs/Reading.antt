@@ -1,5 +1,6 @@
 -- 01, The contract file: its sections as they lie in the bytes, read into records of numbers. Nothing behind reading knows of layouts.
-use Rattle.definitions.specs.Basics.{Bool, false, cond, List, [], ◌∷◌, ℕ, zero, suc, ◌+◌, ◌*◌, ◌-◌, eqb, get_or, drop, slice, force}
+use Rattle.std.specs.Prelude.{◌∷◌, ◌+◌, ◌*◌, ◌-◌}
+use Rattle.definitions.specs.Basics.{Bool, false, cond, List, [], ℕ, zero, suc, eqb, get_or, drop, slice, force}
 
 -- "Numbers of several bytes are low byte first." A byte that is not there reads as 0.
 abbrev pub byte_at : List ℕ → ℕ → ℕ

@@ -1,6 +1,7 @@
 -- 01, Rewriting (004, figure 5): the rewritten contract as trees, and of an accepted one; the written file, to the byte;
 -- what writing does with the lent output.
-use Rattle.definitions.specs.Basics.{cond, List, [], ℕ, ◌&&◌, ◌∷◌, ◌++◌, map, none, suc, ◌+◌, length, ◌-◌, ◌/◌, ◌%◌, eqb, ltb, drop}
+use Rattle.std.specs.Prelude.{◌&&◌, ◌∷◌, ◌++◌, ◌+◌, ◌-◌, ◌/◌, ◌%◌}
+use Rattle.definitions.specs.Basics.{cond, List, [], ℕ, map, none, suc, length, eqb, ltb, drop}
 use Rattle.definitions.specs.Basics.{any, flat_map, two_bytes, first_that_holds}
 use Rattle.definitions.specs.Reading.{Layout, narrow}
 use Rattle.definitions.specs.ContractFile.{DataType, Owner, everyone, is_everyone, Operator, Expression, Parameter, Field, boolean}

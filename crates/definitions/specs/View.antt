@@ -1,7 +1,8 @@
 -- 01, Runs and views: what a party sees, as items and as bytes; number 21; what a call would disclose to a party;
 -- whole lists of calls beside the original, and when two are alike for a party.
-use Rattle.definitions.specs.Basics.{◌||◌, cond, not, List, [], ◌∷◌, ◌++◌, map, ℕ, eqb, ltb, length, drop, flat_map, two_bytes, ◌%◌}
-use Rattle.definitions.specs.Basics.{◌/◌, first_that_holds, ◌≡◌, Bool, true, false, get_or, is_zero}
+use Rattle.std.specs.Prelude.{◌||◌, ◌∷◌, ◌++◌, ◌%◌, ◌/◌, ◌≡◌}
+use Rattle.definitions.specs.Basics.{cond, not, List, [], map, ℕ, eqb, ltb, length, drop, flat_map, two_bytes}
+use Rattle.definitions.specs.Basics.{first_that_holds, Bool, true, false, get_or, is_zero}
 use Rattle.definitions.specs.Numbers.{or_else}
 use Rattle.definitions.specs.Ledger.{Content, plain, cell, Ledger, opened_number, is_well_formed, deployed, call_number, ledger_after_call}
 use Rattle.definitions.specs.ContractFile.{Contract, function_at, parameter_at, contract_in}

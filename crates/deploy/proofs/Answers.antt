@@ -1,5 +1,6 @@
 -- A refused deployment hands back the ledger of nothing, another the deployed one.
-use Rattle.kit.specs.Names.{◌≡◌, refl, ap, sym, ◌∙◌, cond, List, [], ℕ, ◌<◌, ◌≤◌, arith, eq-eqb, ne_eqb}
+use Rattle.std.specs.Prelude.{◌≡◌, ◌<◌, ◌≤◌}
+use Rattle.kit.specs.Names.{refl, ap, sym, ◌∙◌, cond, List, [], ℕ, arith, eq-eqb, ne_eqb}
 use Rattle.definitions.specs.Basics.{is_zero}
 use Rattle.definitions.specs.Ledger as ledger
 use Rattle.definitions.specs.Ledger.{deploy_number, deployed}

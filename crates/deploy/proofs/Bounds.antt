@@ -1,5 +1,6 @@
 -- A file of number 0 is short enough for a ledger: "0 to 64" fields, "1 to 16" functions of at most 8 parameters, at most 512 nodes.
-use Rattle.kit.specs.Names.{◌≡◌, ap, sym, ◌∙◌, Bool, false, ◌||◌, List, ℕ, zero, suc, ◌+◌, ◌*◌, ◌≤◌, arith, eqb, ltb, length, eqb-true}
+use Rattle.std.specs.Prelude.{◌≡◌, ◌||◌, ◌+◌, ◌*◌, ◌≤◌}
+use Rattle.kit.specs.Names.{ap, sym, ◌∙◌, Bool, false, List, ℕ, zero, suc, arith, eqb, ltb, length, eqb-true}
 use Rattle.kit.specs.Names.{ltb-false, not-false}
 use Rattle.definitions.specs.Basics.{any, is_zero}
 use Rattle.definitions.specs.ContractFile.{FunctionRecord, byte_at, field_count, function_count, functions_at, function_end, functions_end, node_count, file_end, parameter_records, function_record, function_records, sections_of}

@@ -1,5 +1,6 @@
 -- What a deployment hands back.
-use Rattle.kit.specs.Names.{◌≡◌, cond, List, [], ℕ}
+use Rattle.std.specs.Prelude.{◌≡◌}
+use Rattle.kit.specs.Names.{cond, List, [], ℕ}
 use Rattle.definitions.specs.Basics.{is_zero}
 use Rattle.definitions.specs.Ledger as ledger
 use Rattle.definitions.specs.Ledger.{deploy_number, deployed}

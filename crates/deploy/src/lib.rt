@@ -1,7 +1,7 @@
 // Deployment: document 01's numbers 1 to 15 and 17, and the first ledger of an accepted contract.
 #![tactic(auto)]
 
-ghost use Rattle.kit.specs.Names.{◌≡◌, ◌<◌};
+ghost use Rattle.std.specs.Prelude.{◌≡◌, ◌<◌};
 ghost use Rattle.definitions.specs.Numbers.{or_else};
 ghost use Rattle.definitions.specs.Ledger.{deploy_number};
 ghost use Rattle.deploy.specs.Deployments.{Deployed, Refused};

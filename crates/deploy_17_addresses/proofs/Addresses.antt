@@ -1,5 +1,6 @@
 -- Number 17 by counting finals and looking at each address, and the file's own number before it.
-use Rattle.kit.specs.Names.{◌≡◌, refl, ◌∙◌, Bool, true, false, ◌||◌, cond, not, List, ◌∷◌, ℕ, zero, suc, ◌+◌, ◌<◌, ◌≤◌, arith, add-one, eqb}
+use Rattle.std.specs.Prelude.{◌≡◌, ◌||◌, ◌∷◌, ◌+◌, ◌<◌, ◌≤◌}
+use Rattle.kit.specs.Names.{refl, ◌∙◌, Bool, true, false, cond, not, List, ℕ, zero, suc, arith, add-one, eqb}
 use Rattle.kit.specs.Names.{ltb, length, get_or, drop, drop_of_length-le, drop-cons, eq-eqb, ne_eqb, lt-ltb, le-ltb}
 use Rattle.definitions.specs.Basics.{any, count_if, first_that_holds}
 use Rattle.definitions.specs.ContractFile.{Field, field_at, is_final, contract_in}

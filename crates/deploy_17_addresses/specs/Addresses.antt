@@ -1,5 +1,6 @@
 -- 01, Numbers: number 17 by itself, before the file's own number is asked.
-use Rattle.kit.specs.Names.{List, [], ◌∷◌, ℕ}
+use Rattle.std.specs.Prelude.{◌∷◌}
+use Rattle.kit.specs.Names.{List, [], ℕ}
 use Rattle.definitions.specs.Basics.{first_that_holds}
 use Rattle.definitions.specs.ContractFile.{contract_in}
 use Rattle.definitions.specs.Ledger.{finals_off}

@@ -1,7 +1,8 @@
 // "17. Deployment gives other than one address, 0 to 15, for each final."
 #![tactic(auto)]
 
-ghost use Rattle.kit.specs.Names.{◌≡◌, cond, ◌<◌, ◌≤◌, ltb};
+ghost use Rattle.std.specs.Prelude.{◌≡◌, ◌<◌, ◌≤◌};
+ghost use Rattle.kit.specs.Names.{cond, ltb};
 ghost use Rattle.definitions.specs.Basics.{any, count_if};
 ghost use Rattle.definitions.specs.ContractFile.{field_at, is_final, field_count};
 ghost use Rattle.file_accepted.specs.Context.{fields_in};

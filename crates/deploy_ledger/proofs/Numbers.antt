@@ -1,5 +1,6 @@
 -- The numbers of all places at deployment, field by field.
-use Rattle.kit.specs.Names.{◌≡◌, refl, ap, sym, ◌∙◌, Bool, true, false, List, [], ◌∷◌, ◌++◌, ℕ, zero, suc, ◌+◌, ◌*◌, ◌-◌, ◌<◌, ◌≤◌, arith}
+use Rattle.std.specs.Prelude.{◌≡◌, ◌∷◌, ◌++◌, ◌+◌, ◌*◌, ◌-◌, ◌<◌, ◌≤◌}
+use Rattle.kit.specs.Names.{refl, ap, sym, ◌∙◌, Bool, true, false, List, [], ℕ, zero, suc, arith}
 use Rattle.kit.specs.Names.{add-one, add-zero, eqb, length, get_or, set, drop, replicate, length-append, length-replicate, drop_of_length-le}
 use Rattle.kit.specs.Names.{drop-cons, drop-drop, get_or-drop, ne_eqb}
 use Rattle.memory_buffer.specs.Buffer.{stored}

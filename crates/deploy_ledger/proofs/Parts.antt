@@ -1,6 +1,7 @@
 -- The numbers at deployment are one a place and bytes, and the parts of the deployed ledger.
-use Rattle.kit.specs.Names.{◌≡◌, refl, ap, sym, ◌∙◌, Bool, true, false, cond, List, [], ◌∷◌, ◌++◌, map, zip_with, ℕ, zero, suc, ◌+◌, ◌<◌}
-use Rattle.kit.specs.Names.{◌≤◌, arith, length, get_or, drop, replicate, length-append, length-map, length-replicate, get_or-drop}
+use Rattle.std.specs.Prelude.{◌≡◌, ◌∷◌, ◌++◌, ◌+◌, ◌<◌, ◌≤◌}
+use Rattle.kit.specs.Names.{refl, ap, sym, ◌∙◌, Bool, true, false, cond, List, [], map, zip_with, ℕ, zero, suc}
+use Rattle.kit.specs.Names.{arith, length, get_or, drop, replicate, length-append, length-map, length-replicate, get_or-drop}
 use Rattle.theory_laws.proofs.Lists.{numbers_length}
 use Rattle.definitions.specs.ContractFile.{Field, Shape, plain_field, final_field, mapping, is_final, is_mapping, contract_of, field_count, contract_in}
 use Rattle.definitions.specs.Original.{numbers_from, place_count, per_place, place_readers, deployed_numbers}

@@ -1,6 +1,7 @@
 -- The contents of all places at deployment, field by field and key by key.
-use Rattle.kit.specs.Names.{◌≡◌, refl, ap, sym, ◌∙◌, subst, List, [], ◌∷◌, ◌++◌, map, zip_with, append-nil, append_assoc, ℕ, suc, ◌+◌, ◌-◌}
-use Rattle.kit.specs.Names.{◌<◌, ◌≤◌, arith, add-one, length, get_or, set, take, drop, replicate, length-append, length-map, length-drop}
+use Rattle.std.specs.Prelude.{◌≡◌, ◌∷◌, ◌++◌, ◌+◌, ◌-◌, ◌<◌, ◌≤◌}
+use Rattle.kit.specs.Names.{refl, ap, sym, ◌∙◌, subst, List, [], map, zip_with, append-nil, append_assoc, ℕ, suc}
+use Rattle.kit.specs.Names.{arith, add-one, length, get_or, set, take, drop, replicate, length-append, length-map, length-drop}
 use Rattle.kit.specs.Names.{drop_of_length-le, drop-cons, drop-drop, take-suc-set, append_snoc, length-take-le}
 use Rattle.definitions.specs.ContractFile.{Field, FieldOwner, to_everyone, to_key, to_final, field_at}
 use Rattle.definitions.specs.Original as original

@@ -1,5 +1,6 @@
 -- What the parts of a deployment write.
-use Rattle.kit.specs.Names.{◌≡◌, List, ◌++◌, map, zip_with, ℕ, ◌+◌, ◌<◌, ◌≤◌, length, get_or, drop}
+use Rattle.std.specs.Prelude.{◌≡◌, ◌++◌, ◌+◌, ◌<◌, ◌≤◌}
+use Rattle.kit.specs.Names.{List, map, zip_with, ℕ, length, get_or, drop}
 use Rattle.memory_buffer.specs.Buffer.{stored}
 use Rattle.definitions.specs.ContractFile.{Field, field_at, field_count}
 use Rattle.definitions.specs.Original.{Reader, numbers_from, place_reader, place_readers, final_address}

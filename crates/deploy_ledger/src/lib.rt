@@ -1,7 +1,8 @@
 // The deployed ledger of a file: finals are given, all else is 0, private places being cells of serial 0, 0.
 #![tactic(auto)]
 
-ghost use Rattle.kit.specs.Names.{◌≡◌, ◌+◌, ◌*◌, ◌<◌, ◌≤◌, length, get_or, replicate};
+ghost use Rattle.std.specs.Prelude.{◌≡◌, ◌+◌, ◌*◌, ◌<◌, ◌≤◌};
+ghost use Rattle.kit.specs.Names.{length, get_or, replicate};
 ghost use Rattle.memory_buffer.specs.Buffer.{stored};
 ghost use Rattle.definitions.specs.ContractFile.{field_count};
 ghost use Rattle.definitions.specs.Original.{deployed_numbers};

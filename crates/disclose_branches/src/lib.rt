@@ -1,7 +1,8 @@
 // 01, Runs and views: "of an if the condition and the taken branch; a false require fails the call": what a condition's value decides.
 #![tactic(auto)]
 
-ghost use Rattle.kit.specs.Names.{◌≡◌, cond, ◌&&◌};
+ghost use Rattle.std.specs.Prelude.{◌≡◌, ◌&&◌};
+ghost use Rattle.kit.specs.Names.{cond};
 ghost use Rattle.definitions.specs.Basics.{is_true};
 
 // The branch of an if that is taken.

@@ -1,5 +1,6 @@
 -- What the body of a called function discloses is what the call would disclose, and no more values than a file has nodes.
-use Rattle.kit.specs.Names.{◌≡◌, refl, ap, sym, ◌∙◌, List, [], ◌∷◌, map, ℕ, zero, suc, ◌<◌, ◌≤◌, arith, length}
+use Rattle.std.specs.Prelude.{◌≡◌, ◌∷◌, ◌<◌, ◌≤◌}
+use Rattle.kit.specs.Names.{refl, ap, sym, ◌∙◌, List, [], map, ℕ, zero, suc, arith, length}
 use Rattle.definitions.specs.ContractFile.{Name, me_name, Field, Function, function_at, sections_of, contract_of}
 use Rattle.definitions.specs.Original.{address_in, disclosed_by, original_discloses, call_address}
 use Rattle.definitions.specs.Ledger.{Ledger, opened_number, call_number}

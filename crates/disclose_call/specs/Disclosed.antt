@@ -1,5 +1,6 @@
 -- 01, Runs and views: what a request for a call's disclosures gives.
-use Rattle.kit.specs.Names.{◌≡◌, List, ℕ, ◌<◌, ◌≤◌, length}
+use Rattle.std.specs.Prelude.{◌≡◌, ◌<◌, ◌≤◌}
+use Rattle.kit.specs.Names.{List, ℕ, length}
 use Rattle.definitions.specs.ContractFile.{node_count}
 use Rattle.definitions.specs.Numbers.{check_number}
 use Rattle.definitions.specs.Original.{address_in, disclosed_by}

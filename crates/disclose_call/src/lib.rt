@@ -1,7 +1,8 @@
 // 01, Runs and views: what a call would disclose to a party, told before the call is made.
 #![tactic(auto)]
 
-ghost use Rattle.kit.specs.Names.{◌≡◌, ◌/◌, ◌≤◌, length};
+ghost use Rattle.std.specs.Prelude.{◌≡◌, ◌/◌, ◌≤◌};
+ghost use Rattle.kit.specs.Names.{length};
 ghost use Rattle.definitions.specs.Ledger.{call_number};
 ghost use Rattle.definitions.specs.View.{disclosed_on};
 ghost use Rattle.memory_append.specs.Append.{Appended};

@@ -1,5 +1,6 @@
 -- What an expression discloses by its kind, as code learns it from what its parts disclose.
-use Rattle.kit.specs.Names.{◌≡◌, refl, ap, sym, ◌∙◌, Bool, true, false, cond, ◌&&◌, List, [], ◌∷◌, ◌++◌, ℕ, ◌+◌, ◌<◌, ◌≤◌, arith, eqb}
+use Rattle.std.specs.Prelude.{◌≡◌, ◌&&◌, ◌∷◌, ◌++◌, ◌+◌, ◌<◌, ◌≤◌}
+use Rattle.kit.specs.Names.{refl, ap, sym, ◌∙◌, Bool, true, false, cond, List, [], ℕ, arith, eqb}
 use Rattle.kit.specs.Names.{length, eqb-true, eqb-false}
 use Rattle.definitions.specs.ContractFile.{me_name, Owner, Operator, Expression, NodeRecord, node_count}
 use Rattle.definitions.specs.Original.{is_worked_out, operates, may_read, reader_of, disclosed}

@@ -1,5 +1,6 @@
 -- Values appended in turn, where what comes second is appended only if what comes first went through.
-use Rattle.kit.specs.Names.{◌≡◌, ap, ◌∙◌, Bool, true, false, cond, List, [], ◌++◌, append-nil, ℕ, ◌+◌, ◌≤◌, arith, length, length-append}
+use Rattle.std.specs.Prelude.{◌≡◌, ◌++◌, ◌+◌, ◌≤◌}
+use Rattle.kit.specs.Names.{ap, ◌∙◌, Bool, true, false, cond, List, [], append-nil, ℕ, arith, length, length-append}
 use Rattle.memory_append.specs.Append.{Appended}
 use Rattle.memory_append.proofs.Appending.{appended_then, room_then}
 

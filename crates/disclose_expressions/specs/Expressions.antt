@@ -1,5 +1,6 @@
 -- 01, Runs and views: what an expression of a file discloses to a party, where addresses stand at their owner codes.
-use Rattle.kit.specs.Names.{◌≡◌, Bool, List, ℕ, ◌+◌, ◌<◌, ◌≤◌, length}
+use Rattle.std.specs.Prelude.{◌≡◌, ◌+◌, ◌<◌, ◌≤◌}
+use Rattle.kit.specs.Names.{Bool, List, ℕ, length}
 use Rattle.definitions.specs.ContractFile.{Expression, me_name, node_count}
 use Rattle.definitions.specs.Original.{value, is_worked_out, disclosed}
 use Rattle.theory_trees.specs.Trees.{expression_in}

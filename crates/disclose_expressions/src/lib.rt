@@ -2,7 +2,8 @@
 // party, up to a failure." The expressions of the original, on numbers in all places.
 #![tactic(auto)]
 
-ghost use Rattle.kit.specs.Names.{◌≡◌, [], ◌∷◌, ◌+◌, ◌<◌, ◌≤◌, length};
+ghost use Rattle.std.specs.Prelude.{◌≡◌, ◌∷◌, ◌+◌, ◌<◌, ◌≤◌};
+ghost use Rattle.kit.specs.Names.{[], length};
 ghost use Rattle.definitions.specs.ContractFile.{node_count};
 ghost use Rattle.theory_trees.specs.Trees.{expression_in};
 ghost use Rattle.memory_append.specs.Append.{Appended};

@@ -1,5 +1,6 @@
 -- Cases that pin what a line is: "0 7 4294967295", and a refused call's.
-use Rattle.kit.specs.Names.{◌≡◌, refl, [], ◌∷◌}
+use Rattle.std.specs.Prelude.{◌≡◌, ◌∷◌}
+use Rattle.kit.specs.Names.{refl, []}
 use Rattle.definitions.specs.Basics.{flat_map}
 use Rattle.definitions.specs.Report.{digits}
 use Rattle.disclose_lines.specs.Lines.{disclosed_line}

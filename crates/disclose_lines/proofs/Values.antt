@@ -1,5 +1,6 @@
 -- Values in decimal, each after a space, appended one after another.
-use Rattle.kit.specs.Names.{◌≡◌, List, [], ◌∷◌, ◌++◌, ℕ, ◌+◌, ◌*◌, ◌<◌, ◌≤◌, arith, add-one, length, get_or, drop, drop_of_length-le}
+use Rattle.std.specs.Prelude.{◌≡◌, ◌∷◌, ◌++◌, ◌+◌, ◌*◌, ◌<◌, ◌≤◌}
+use Rattle.kit.specs.Names.{List, [], ℕ, arith, add-one, length, get_or, drop, drop_of_length-le}
 use Rattle.kit.specs.Names.{length-append, drop-cons}
 use Rattle.definitions.specs.Basics.{flat_map}
 use Rattle.memory_append.specs.Append.{Appended, Appending}

@@ -1,5 +1,6 @@
 -- The parts of a line make the line, and what a lent output holds afterwards.
-use Rattle.kit.specs.Names.{List, [], ◌∷◌, ◌++◌, ℕ, ◌+◌, ◌*◌, ◌<◌, ◌≤◌, arith, length, length-append, le-leb, lt-leb}
+use Rattle.std.specs.Prelude.{◌∷◌, ◌++◌, ◌+◌, ◌*◌, ◌<◌, ◌≤◌}
+use Rattle.kit.specs.Names.{List, [], ℕ, arith, length, length-append, le-leb, lt-leb}
 use Rattle.definitions.specs.Basics.{flat_map}
 use Rattle.definitions.specs.Report.{decimal}
 use Rattle.memory_append.specs.Append.{Appended}

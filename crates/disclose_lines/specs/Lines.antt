@@ -1,5 +1,6 @@
 -- A line of `disclose`: the call's number in decimal, and each value that it discloses in decimal after a space.
-use Rattle.kit.specs.Names.{◌≡◌, Bool, cond, List, [], ◌∷◌, ◌++◌, ℕ, ◌+◌, ◌*◌, ◌≤◌, leb, length}
+use Rattle.std.specs.Prelude.{◌≡◌, ◌∷◌, ◌++◌, ◌+◌, ◌*◌, ◌≤◌}
+use Rattle.kit.specs.Names.{Bool, cond, List, [], ℕ, leb, length}
 use Rattle.memory_buffer.specs.Buffer.{stored}
 use Rattle.definitions.specs.Basics.{flat_map}
 use Rattle.definitions.specs.Report.{decimal}

@@ -1,7 +1,8 @@
 // The lines that `disclose` prints: a number in decimal, each disclosed value in decimal after a space, a line feed.
 #![tactic(auto)]
 
-ghost use Rattle.kit.specs.Names.{◌+◌, ◌*◌, ◌≤◌, length};
+ghost use Rattle.std.specs.Prelude.{◌+◌, ◌*◌, ◌≤◌};
+ghost use Rattle.kit.specs.Names.{length};
 ghost use Rattle.definitions.specs.Basics.{flat_map};
 ghost use Rattle.memory_append.specs.Append.{Appended};
 ghost use Rattle.disclose_lines.specs.Lines.{spaced_value, disclosed_line, LineWritten};

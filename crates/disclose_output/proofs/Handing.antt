@@ -1,5 +1,6 @@
 -- Disclosed values copied into the lent output, or not begun.
-use Rattle.kit.specs.Names.{◌≡◌, refl, sym, ◌∙◌, List, ◌++◌, ℕ, ◌+◌, ◌<◌, ◌≤◌, arith, zero-add, length, get_or, set, take, drop, lt-ltb}
+use Rattle.std.specs.Prelude.{◌≡◌, ◌++◌, ◌+◌, ◌<◌, ◌≤◌}
+use Rattle.kit.specs.Names.{refl, sym, ◌∙◌, List, ℕ, arith, zero-add, length, get_or, set, take, drop, lt-ltb}
 use Rattle.kit.specs.Names.{le-ltb}
 use Rattle.memory_buffer.specs.Buffer.{stored}
 use Rattle.memory_buffer.proofs.Storing.{stored_one}

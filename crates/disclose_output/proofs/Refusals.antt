@@ -1,5 +1,6 @@
 -- What the number that refuses before all else tells of the call's number and of the party.
-use Rattle.kit.specs.Names.{◌≡◌, refl, sym, ◌∙◌, Bool, true, false, ◌||◌, [], ◌∷◌, ℕ, zero, suc, ◌≤◌, arith, ltb, ltb-false}
+use Rattle.std.specs.Prelude.{◌≡◌, ◌||◌, ◌∷◌, ◌≤◌}
+use Rattle.kit.specs.Names.{refl, sym, ◌∙◌, Bool, true, false, [], ℕ, zero, suc, arith, ltb, ltb-false}
 use Rattle.definitions.specs.Basics.{first_that_holds}
 use Rattle.definitions.specs.Numbers.{or_else}
 

@@ -1,5 +1,6 @@
 -- 01, Runs and views: disclosed values in the lent output.
-use Rattle.kit.specs.Names.{◌≡◌, cond, List, ◌++◌, ℕ, ltb, length, drop}
+use Rattle.std.specs.Prelude.{◌≡◌, ◌++◌}
+use Rattle.kit.specs.Names.{cond, List, ℕ, ltb, length, drop}
 use Rattle.memory_answer.specs.declared.Answer.{Answer}
 
 -- Values are handed over where there is room for them.

@@ -2,7 +2,8 @@
 // call's own number; the disclosed values handed over where they fit.
 #![tactic(auto)]
 
-ghost use Rattle.kit.specs.Names.{◌≡◌, [], ◌∷◌, ◌≤◌, ltb, length};
+ghost use Rattle.std.specs.Prelude.{◌≡◌, ◌∷◌, ◌≤◌};
+ghost use Rattle.kit.specs.Names.{[], ltb, length};
 ghost use Rattle.definitions.specs.Basics.{first_that_holds};
 ghost use Rattle.definitions.specs.Numbers.{or_else};
 ghost use Rattle.memory_buffer.specs.Buffer.{stored};

@@ -1,5 +1,6 @@
 -- Whether a party may read, by the code that a reveal names.
-use Rattle.kit.specs.Names.{◌≡◌, ap, sym, ◌∙◌, Bool, true, List, ℕ, eqb}
+use Rattle.std.specs.Prelude.{◌≡◌}
+use Rattle.kit.specs.Names.{ap, sym, ◌∙◌, Bool, true, List, ℕ, eqb}
 use Rattle.definitions.specs.ContractFile.{owner_of_code}
 use Rattle.definitions.specs.Original.{only, may_read, reader_of}
 use Rattle.ledger_circuits.specs.Circuits.{address_from}

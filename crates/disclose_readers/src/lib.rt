@@ -1,7 +1,7 @@
 // 01, Runs and views: "Each reveal to all or to the party's address": whether a party is told what a reveal shows.
 #![tactic(auto)]
 
-ghost use Rattle.kit.specs.Names.{◌≡◌};
+ghost use Rattle.std.specs.Prelude.{◌≡◌};
 ghost use Rattle.definitions.specs.ContractFile.{owner_of_code};
 ghost use Rattle.definitions.specs.Original.{may_read, reader_of};
 ghost use Rattle.ledger_circuits.specs.Circuits.{address_from};

@@ -1,5 +1,6 @@
 -- Each reveal discloses at most one value, so a statement discloses no more values than it has nodes.
-use Rattle.kit.specs.Names.{Bool, true, false, cond, ◌&&◌, List, [], ◌∷◌, ◌++◌, ℕ, ◌+◌, ◌≤◌, arith, length, length-append}
+use Rattle.std.specs.Prelude.{◌&&◌, ◌∷◌, ◌++◌, ◌+◌, ◌≤◌}
+use Rattle.kit.specs.Names.{Bool, true, false, cond, List, [], ℕ, arith, length, length-append}
 use Rattle.definitions.specs.Basics.{is_true}
 use Rattle.definitions.specs.ContractFile.{Name, Field, Expression, Statement}
 use Rattle.definitions.specs.Original.{value, is_worked_out, places_after, completes, may_read, reader_of, disclosed, disclosed_by}

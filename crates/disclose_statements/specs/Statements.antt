@@ -1,5 +1,6 @@
 -- 01, Runs and views: what a statement of a file discloses to a party, where addresses stand at their owner codes.
-use Rattle.kit.specs.Names.{◌≡◌, Bool, true, List, ℕ, ◌+◌, ◌<◌, ◌≤◌, length}
+use Rattle.std.specs.Prelude.{◌≡◌, ◌+◌, ◌<◌, ◌≤◌}
+use Rattle.kit.specs.Names.{Bool, true, List, ℕ, length}
 use Rattle.definitions.specs.ContractFile.{Statement, me_name, node_count}
 use Rattle.definitions.specs.Original.{places_after, completes, disclosed_by}
 use Rattle.theory_trees.specs.Trees.{statement_in}

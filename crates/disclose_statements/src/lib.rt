@@ -2,7 +2,7 @@
 // works out parts first, second, third, of an if the condition and the taken branch; a false require fails the call."
 #![tactic(auto)]
 
-ghost use Rattle.kit.specs.Names.{◌≡◌};
+ghost use Rattle.std.specs.Prelude.{◌≡◌};
 ghost use Rattle.theory_trees.specs.Trees.{statement_in};
 ghost use Rattle.file_accepted.specs.Context.{nodes_in};
 ghost use Rattle.honest_values.specs.Values.{kind_at};

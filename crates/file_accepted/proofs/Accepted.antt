@@ -1,5 +1,6 @@
 -- What code may rely on holds of a file of which numbers 2, 3, 4 and 7 say nothing, at each of its functions.
-use Rattle.kit.specs.Names.{◌≡◌, refl, ap, sym, ◌∙◌, Bool, true, false, ◌||◌, not, List, [], ◌∷◌, map, ℕ, zero, suc, ◌+◌, ◌*◌, ◌<◌, ◌≤◌}
+use Rattle.std.specs.Prelude.{◌≡◌, ◌||◌, ◌∷◌, ◌+◌, ◌*◌, ◌<◌, ◌≤◌}
+use Rattle.kit.specs.Names.{refl, ap, sym, ◌∙◌, Bool, true, false, not, List, [], map, ℕ, zero, suc}
 use Rattle.kit.specs.Names.{arith, leb, ltb, length, get_or, length-map, get_or_map, get_or_eq_default, ltb-true, ltb-false, leb-false, not-false}
 use Rattle.definitions.specs.Basics.{all, any, is_zero}
 use Rattle.definitions.specs.ContractFile.{FieldRecord, FunctionRecord, NodeRecord, node, byte_at, field_count, function_count, functions_at, function_end, functions_end, nodes_at, node_count, field_records, parameter_records, function_record, function_records, node_record, sections_of, field_of, Node, unknown_node, node_of, node_at, expression_parts, statement_parts, is_expression, is_statement}

@@ -1,5 +1,6 @@
 -- A field and a parameter of the scope, by their number: as the bytes at its place say, or what stands for none.
-use Rattle.kit.specs.Names.{◌≡◌, ap, ◌∙◌, true, List, map, ℕ, zero, suc, ◌+◌, ◌*◌, ◌<◌, ◌≤◌, arith, get_or, length-map, get_or_eq_default}
+use Rattle.std.specs.Prelude.{◌≡◌, ◌+◌, ◌*◌, ◌<◌, ◌≤◌}
+use Rattle.kit.specs.Names.{ap, ◌∙◌, true, List, map, ℕ, zero, suc, arith, get_or, length-map, get_or_eq_default}
 use Rattle.kit.specs.Names.{length}
 use Rattle.definitions.specs.ContractFile.{FieldRecord, Parameter, field_at, parameter_at, plain_field, boolean, to_everyone, byte_at, field_count, field_records, parameter_records, field_of, parameter_of}
 use Rattle.definitions.specs.Reading.{parameters_read}

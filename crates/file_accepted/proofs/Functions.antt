@@ -1,5 +1,6 @@
 -- Function f of a contract, as the bytes at its place say.
-use Rattle.kit.specs.Names.{◌≡◌, refl, ap, ◌∙◌, false, List, [], map, ℕ, ◌+◌, ◌<◌, arith, length, get_or, length-map}
+use Rattle.std.specs.Prelude.{◌≡◌, ◌+◌, ◌<◌}
+use Rattle.kit.specs.Names.{refl, ap, ◌∙◌, false, List, [], map, ℕ, arith, length, get_or, length-map}
 use Rattle.definitions.specs.ContractFile.{function_at, FunctionRecord, function_count, functions_at, function_record, node_count, sections_of, node_of, function_of, contract_of}
 use Rattle.definitions.specs.Numbers.{names_nothing}
 use Rattle.theory_laws.proofs.Records.{functions_length}

@@ -1,5 +1,6 @@
 -- The nodes of a file by number, and that a decoded record is a node's.
-use Rattle.kit.specs.Names.{◌≡◌, refl, ap, sym, subst, ◌∙◌, Bool, true, false, List, ℕ, ◌+◌, ◌*◌, ◌<◌, ◌≤◌, arith, ltb}
+use Rattle.std.specs.Prelude.{◌≡◌, ◌+◌, ◌*◌, ◌<◌, ◌≤◌}
+use Rattle.kit.specs.Names.{refl, ap, sym, subst, ◌∙◌, Bool, true, false, List, ℕ, arith, ltb}
 use Rattle.kit.specs.Names.{length-map, get_or_eq_default, length, ltb-true, ltb-false}
 use Rattle.definitions.specs.ContractFile.{Expression, Statement, NodeRecord, node, nodes_at, node_count, node_record, sections_of, Kind, kind_of, unknown_node, node_of, node_at}
 use Rattle.definitions.specs.Numbers.{kind_in_tables}

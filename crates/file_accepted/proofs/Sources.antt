@@ -1,5 +1,6 @@
 -- What is known of a file, with its nodes in a slice and without; and the slice that the decoder fills.
-use Rattle.kit.specs.Names.{◌≡◌, ap, ◌∙◌, List, ℕ, ◌+◌, ◌*◌, ◌/◌, arith, length}
+use Rattle.std.specs.Prelude.{◌≡◌, ◌+◌, ◌*◌, ◌/◌}
+use Rattle.kit.specs.Names.{ap, ◌∙◌, List, ℕ, arith, length}
 use Rattle.definitions.specs.ContractFile.{NodeRecord, nodes_at, node_count, node_records}
 use Rattle.definitions.specs.Numbers.{node_in_tables}
 use Rattle.file_decoded.specs.Slices.{nodes_from, Narrow}

@@ -1,6 +1,7 @@
 -- What code may rely on when it reads the nodes of a function in an accepted file.
 -- The function begins at a known place; the nodes are decoded.
-use Rattle.kit.specs.Names.{◌≡◌, true, List, map, ℕ, ◌+◌, ◌*◌, ◌<◌, ◌≤◌, length}
+use Rattle.std.specs.Prelude.{◌≡◌, ◌+◌, ◌*◌, ◌<◌, ◌≤◌}
+use Rattle.kit.specs.Names.{true, List, map, ℕ, length}
 use Rattle.definitions.specs.Basics.{all}
 use Rattle.definitions.specs.ContractFile.{Field, Parameter, Scope, FieldRecord, ParameterRecord, byte_at, field_count, nodes_at, node_count}
 use Rattle.definitions.specs.ContractFile.{node_record, parameter_records, sections_of, field_of, parameter_of, Node, node_of, node_at}

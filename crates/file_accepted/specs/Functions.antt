@@ -1,5 +1,6 @@
 -- Where function f of a file begins, and the number of its root node.
-use Rattle.kit.specs.Names.{List, ℕ, ◌+◌, ◌-◌}
+use Rattle.std.specs.Prelude.{◌+◌, ◌-◌}
+use Rattle.kit.specs.Names.{List, ℕ}
 use Rattle.definitions.specs.ContractFile.{two_bytes_at, functions_at, function_end, functions_end}
 
 abbrev pub function_start : List ℕ → ℕ → ℕ

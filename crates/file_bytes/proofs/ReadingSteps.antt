@@ -1,5 +1,6 @@
 -- Steps of the definitions that read a file: functions one after another, and nodes by their number.
-use Rattle.kit.specs.Names.{◌≡◌, sym, ◌∙◌, List, ℕ, zero, suc, ◌+◌, ◌*◌, ◌-◌, ◌<◌, ◌≤◌, arith, length, get_or, get_or_eq_default}
+use Rattle.std.specs.Prelude.{◌≡◌, ◌+◌, ◌*◌, ◌-◌, ◌<◌, ◌≤◌}
+use Rattle.kit.specs.Names.{sym, ◌∙◌, List, ℕ, zero, suc, arith, length, get_or, get_or_eq_default}
 use Rattle.definitions.specs.ContractFile.{NodeRecord, byte_at, function_end, functions_end, node_record, node_records}
 use Rattle.definitions.specs.Reading.{functions_passed, nodes_read}
 use Rattle.theory_laws.proofs.Records.{force_is}

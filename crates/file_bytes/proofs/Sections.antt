@@ -1,5 +1,6 @@
 -- The nodes of a file's sections, as a list that is read from a place on and as what stands at a number.
-use Rattle.kit.specs.Names.{◌≡◌, refl, ap, ◌∙◌, List, ℕ, ◌+◌, ◌*◌, ◌<◌, length, get_or}
+use Rattle.std.specs.Prelude.{◌≡◌, ◌+◌, ◌*◌, ◌<◌}
+use Rattle.kit.specs.Names.{refl, ap, ◌∙◌, List, ℕ, length, get_or}
 use Rattle.definitions.specs.ContractFile.{NodeRecord, field_records, field_count, function_records, function_count, functions_at, node_record, node_records, node_count, nodes_at, sections_of}
 use Rattle.definitions.specs.Reading.{sections_read}
 use Rattle.theory_laws.proofs.Records.{force_is, node_records_length}

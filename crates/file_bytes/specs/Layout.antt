@@ -1,5 +1,6 @@
 -- What a layout says of its file, and how large its numbers can be.
-use Rattle.kit.specs.Names.{◌≡◌, List, ℕ, ◌≤◌}
+use Rattle.std.specs.Prelude.{◌≡◌, ◌≤◌}
+use Rattle.kit.specs.Names.{List, ℕ}
 use Rattle.definitions.specs.ContractFile.{field_count, functions_at, function_count, nodes_at, node_count}
 use Rattle.file_bytes.specs.declared.Layout.{Layout}
 

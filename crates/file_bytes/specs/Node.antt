@@ -1,5 +1,5 @@
 -- A node as code holds it, and the record of the definitions that it is.
-use Rattle.kit.specs.Names.{◌≡◌, ◌≤◌}
+use Rattle.std.specs.Prelude.{◌≡◌, ◌≤◌}
 use Rattle.definitions.specs.ContractFile.{NodeRecord}
 use Rattle.file_bytes.specs.declared.Node.{Node}
 

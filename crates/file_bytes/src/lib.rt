@@ -1,7 +1,7 @@
 // A contract file's bytes, and where its sections lie.
 #![tactic(auto)]
 
-ghost use Rattle.kit.specs.Names.{◌≡◌, ◌+◌, ◌*◌, ◌≤◌};
+ghost use Rattle.std.specs.Prelude.{◌≡◌, ◌+◌, ◌*◌, ◌≤◌};
 ghost use Rattle.definitions.specs.ContractFile.{byte_at, two_bytes_at, function_end, functions_end, node_record};
 ghost use Rattle.file_bytes.specs.Layout.{IsLayout};
 ghost use Rattle.file_bytes.specs.Node.{IsNode};

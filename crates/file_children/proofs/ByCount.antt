@@ -1,5 +1,6 @@
 -- A node's children as a list, by how many its kind has.
-use Rattle.kit.specs.Names.{◌≡◌, refl, ap, sym, ◌∙◌, [], ◌∷◌, ℕ, ◌<◌, ◌≤◌, arith, take, take_all}
+use Rattle.std.specs.Prelude.{◌≡◌, ◌∷◌, ◌<◌, ◌≤◌}
+use Rattle.kit.specs.Names.{refl, ap, sym, ◌∙◌, [], ℕ, arith, take, take_all}
 use Rattle.definitions.specs.ContractFile.{NodeRecord, node_of, children}
 use Rattle.file_children.specs.Children.{child_count, parts}
 use Rattle.file_children.proofs.Children.{children_are}

@@ -1,5 +1,6 @@
 -- A node's children, and its sort, by its kind's number.
-use Rattle.kit.specs.Names.{◌≡◌, refl, ap, sym, ◌∙◌, Bool, true, false, not, cond, ◌&&◌, ◌||◌, or-true, List, [], ◌∷◌, ℕ, ◌<◌, ◌≤◌, arith, eqb, leb, ltb, get_or, take}
+use Rattle.std.specs.Prelude.{◌≡◌, ◌&&◌, ◌||◌, ◌∷◌, ◌<◌, ◌≤◌}
+use Rattle.kit.specs.Names.{refl, ap, sym, ◌∙◌, Bool, true, false, not, cond, or-true, List, [], ℕ, arith, eqb, leb, ltb, get_or, take}
 use Rattle.kit.specs.Names.{eqb-true, ne_eqb, lt-leb, le-leb, leb-true, ltb-true, ltb-false, not-true}
 use Rattle.definitions.specs.ContractFile.{NodeRecord, Kind, constant_kind, me_kind, field_kind, entry_kind, parameter_kind, operator_kind, negation_kind, reveal_kind, skip_kind, sequence_kind, assign_field_kind, assign_entry_kind, require_kind, conditional_kind, no_kind, kind_of, node_of_kind, node_of, expression_parts, statement_parts, children, is_expression, is_statement}
 use Rattle.file_children.specs.Children.{node_of_same, children_of_kind, child_count, expression_count, parts, is_expression_kind, is_statement_kind}

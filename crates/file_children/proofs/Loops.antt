@@ -1,5 +1,6 @@
 -- Steps of a loop that asks whether some element of a list passes a test: what is left to ask has the same answer.
-use Rattle.kit.specs.Names.{◌≡◌, refl, ap, ◌∙◌, Bool, true, false, ◌&&◌, ◌||◌, or_assoc, List, [], ◌∷◌, map, ℕ, zero, suc, ◌+◌, ◌<◌, arith}
+use Rattle.std.specs.Prelude.{◌≡◌, ◌&&◌, ◌||◌, ◌∷◌, ◌+◌, ◌<◌}
+use Rattle.kit.specs.Names.{refl, ap, ◌∙◌, Bool, true, false, or_assoc, List, [], map, ℕ, zero, suc, arith}
 use Rattle.kit.specs.Names.{add-one, eqb, eqb-true, eqb-false}
 use Rattle.definitions.specs.Basics.{any, any_numbered}
 use Rattle.file_children.proofs.Truth.{or-false, both_true}

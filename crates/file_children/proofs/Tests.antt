@@ -1,5 +1,6 @@
 -- Whether some child of a node passes a test, by how many children its kind has.
-use Rattle.kit.specs.Names.{◌≡◌, ap, sym, ◌∙◌, Bool, true, false, List, ℕ, suc, ◌-◌, ◌<◌, ◌≤◌, arith, or-false}
+use Rattle.std.specs.Prelude.{◌≡◌, ◌-◌, ◌<◌, ◌≤◌}
+use Rattle.kit.specs.Names.{ap, sym, ◌∙◌, Bool, true, false, List, ℕ, suc, arith, or-false}
 use Rattle.definitions.specs.Basics.{any}
 use Rattle.definitions.specs.ContractFile.{NodeRecord, node_of, children}
 use Rattle.file_children.specs.Children.{child_count}

@@ -1,6 +1,7 @@
 -- Truth values: what a conjunction that holds and a disjunction that fails tell.
+use Rattle.std.specs.Prelude.{◌≡◌, ◌&&◌, ◌||◌}
 pub use Rattle.kit.specs.Names.{or-false}
-use Rattle.kit.specs.Names.{◌≡◌, Bool, true, false, ◌&&◌, ◌||◌}
+use Rattle.kit.specs.Names.{Bool, true, false}
 use Rattle.theory_laws.proofs.TruthValues.{and_parts, or_left, or_right}
 
 pub both_true : (a b : Bool) → a && b ≡ true → (a ≡ true) × (b ≡ true)

@@ -1,5 +1,6 @@
 -- 01, The contract file, "Kinds": how many parts of a node are children, and of which sort a kind is.
-use Rattle.kit.specs.Names.{Bool, ◌&&◌, List, [], ◌∷◌, ℕ, leb, length}
+use Rattle.std.specs.Prelude.{◌&&◌, ◌∷◌}
+use Rattle.kit.specs.Names.{Bool, List, [], ℕ, leb, length}
 use Rattle.definitions.specs.ContractFile.{NodeRecord, node, Node, Kind, kind_of, node_of_kind, expression_parts, children}
 
 -- Some node of a kind: how many children it has, and its sort, do not depend on its parts.

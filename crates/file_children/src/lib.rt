@@ -1,7 +1,7 @@
 // What a kind of node says of the node's parts.
 #![tactic(auto)]
 
-ghost use Rattle.kit.specs.Names.{◌≡◌, ◌||◌};
+ghost use Rattle.std.specs.Prelude.{◌≡◌, ◌||◌};
 ghost use Rattle.file_children.specs.Children.{child_count, expression_count, is_expression_kind, is_statement_kind};
 
 use file_kinds::*;

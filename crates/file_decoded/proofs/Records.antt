@@ -1,5 +1,6 @@
 -- How many records a slice holds, the first one with those that follow it, and a node by its number.
-use Rattle.kit.specs.Names.{◌≡◌, refl, ap, sym, ◌∙◌, List, [], ◌∷◌, map, ℕ, zero, suc, ◌+◌, ◌*◌, ◌-◌, ◌/◌, ◌<◌, ◌≤◌, arith, length, get_or}
+use Rattle.std.specs.Prelude.{◌≡◌, ◌∷◌, ◌+◌, ◌*◌, ◌-◌, ◌/◌, ◌<◌, ◌≤◌}
+use Rattle.kit.specs.Names.{refl, ap, sym, ◌∙◌, List, [], map, ℕ, zero, suc, arith, length, get_or}
 use Rattle.kit.specs.Names.{add-zero, zero-add, length-map, get_or_map, get_or_eq_default}
 use Rattle.definitions.specs.ContractFile.{NodeRecord, node, node_record, node_records, kind_of, unknown_node, node_of_kind, node_of, node_at}
 use Rattle.file_bytes.proofs.ReadingSteps.{get_or_node_records}

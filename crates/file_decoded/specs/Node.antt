@@ -1,5 +1,5 @@
 -- A node as code holds it, read from a slice of numbers of two bytes.
-use Rattle.kit.specs.Names.{◌≡◌, ◌≤◌}
+use Rattle.std.specs.Prelude.{◌≡◌, ◌≤◌}
 use Rattle.definitions.specs.ContractFile.{NodeRecord}
 use Rattle.file_bytes.specs.declared.Node.{Node}
 use Rattle.file_bytes.specs.Node.{record_of}

@@ -1,6 +1,7 @@
 -- A contract file's sections as numbers one behind another: three for a field (shape, type, owner), two for a parameter (type, owner),
 -- three for a function (where its parameters begin, how many there are, its root), five for a node.
-use Rattle.kit.specs.Names.{◌≡◌, List, [], ◌∷◌, ℕ, zero, suc, ◌+◌, ◌*◌, ◌/◌, ◌%◌, ◌≤◌, length, get_or}
+use Rattle.std.specs.Prelude.{◌≡◌, ◌∷◌, ◌+◌, ◌*◌, ◌/◌, ◌%◌, ◌≤◌}
+use Rattle.kit.specs.Names.{List, [], ℕ, zero, suc, length, get_or}
 use Rattle.definitions.specs.ContractFile.{FieldRecord, ParameterRecord, FunctionRecord, NodeRecord, Sections, node}
 
 -- The number at a place; one that is not there reads as 0.

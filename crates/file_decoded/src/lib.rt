@@ -1,7 +1,8 @@
 // A contract file's sections as slices of numbers.
 #![tactic(auto)]
 
-ghost use Rattle.kit.specs.Names.{◌≡◌, ◌+◌, ◌*◌, ◌<◌, ◌≤◌, length};
+ghost use Rattle.std.specs.Prelude.{◌≡◌, ◌+◌, ◌*◌, ◌<◌, ◌≤◌};
+ghost use Rattle.kit.specs.Names.{length};
 ghost use Rattle.file_bytes.specs.Node.{IsNode};
 ghost use Rattle.file_decoded.specs.Slices.{number_at, node_from, record_at, Narrow};
 ghost use Rattle.file_decoded.specs.Node.{IsDecoded};

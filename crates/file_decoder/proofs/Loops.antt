@@ -1,5 +1,6 @@
 -- The decoder's loops: what is stored already and what is left to store make the whole.
-use Rattle.kit.specs.Names.{◌≡◌, ap, sym, ◌∙◌, List, ◌++◌, ℕ, zero, suc, ◌+◌, ◌*◌, ◌-◌, ◌/◌, ◌<◌, ◌≤◌, arith, length, drop, length-drop, length-take-le}
+use Rattle.std.specs.Prelude.{◌≡◌, ◌++◌, ◌+◌, ◌*◌, ◌-◌, ◌/◌, ◌<◌, ◌≤◌}
+use Rattle.kit.specs.Names.{ap, sym, ◌∙◌, List, ℕ, zero, suc, arith, length, drop, length-drop, length-take-le}
 use Rattle.definitions.specs.ContractFile.{byte_at, function_end, functions_end}
 use Rattle.definitions.specs.Reading.{functions_passed}
 use Rattle.theory_laws.proofs.Records.{force_is}

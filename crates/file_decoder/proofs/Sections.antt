@@ -1,5 +1,6 @@
 -- The numbers that the decoder stores are the file's sections.
-use Rattle.kit.specs.Names.{◌≡◌, refl, ap, ap₂, sym, ◌∙◌, List, ◌∷◌, ◌++◌, ℕ, zero, suc, ◌+◌, ◌*◌, ◌/◌, ◌<◌, ◌≤◌, arith, add-zero, zero-add, add_assoc}
+use Rattle.std.specs.Prelude.{◌≡◌, ◌∷◌, ◌++◌, ◌+◌, ◌*◌, ◌/◌, ◌<◌, ◌≤◌}
+use Rattle.kit.specs.Names.{refl, ap, ap₂, sym, ◌∙◌, List, ℕ, zero, suc, arith, add-zero, zero-add, add_assoc}
 use Rattle.kit.specs.Names.{length, drop, length-drop, length-take-le, drop-drop, drop_at, get_or-drop, get_or-take, get_or_append, append_assoc}
 use Rattle.definitions.specs.ContractFile.{FieldRecord, ParameterRecord, FunctionRecord, NodeRecord, byte_at, field_count, function_count, node_count, function_end, functions_end, field_records, parameter_records, function_records, node, node_record, node_records, sections_of}
 use Rattle.definitions.specs.Reading.{functions_passed, nodes_begin, fields_read, parameters_read, functions_read, nodes_read}

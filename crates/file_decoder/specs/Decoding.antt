@@ -1,5 +1,6 @@
 -- The numbers that the decoder makes of a file's sections, and what decoding a whole file leaves in the slices.
-use Rattle.kit.specs.Names.{◌≡◌, List, [], ◌∷◌, ◌++◌, ℕ, zero, suc, ◌+◌, ◌*◌, ◌/◌, ◌≤◌, length}
+use Rattle.std.specs.Prelude.{◌≡◌, ◌∷◌, ◌++◌, ◌+◌, ◌*◌, ◌/◌, ◌≤◌}
+use Rattle.kit.specs.Names.{List, [], ℕ, zero, suc, length}
 use Rattle.definitions.specs.ContractFile.{byte_at, function_end, functions_end, function_record, file_end, sections_of}
 use Rattle.file_bytes.specs.declared.Layout.{Layout}
 use Rattle.file_bytes.specs.Layout.{IsLayout}

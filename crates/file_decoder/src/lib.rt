@@ -1,7 +1,8 @@
 // The decoder: a contract file whose counts are right, from its bytes into slices of numbers. Each byte is read once.
 #![tactic(auto)]
 
-ghost use Rattle.kit.specs.Names.{◌≡◌, ◌+◌, ◌*◌, ◌/◌, ◌≤◌, length};
+ghost use Rattle.std.specs.Prelude.{◌≡◌, ◌+◌, ◌*◌, ◌/◌, ◌≤◌};
+ghost use Rattle.kit.specs.Names.{length};
 ghost use Rattle.definitions.specs.ContractFile.{byte_at, node_records};
 ghost use Rattle.memory_buffer.specs.Buffer.{stored};
 ghost use Rattle.file_decoded.specs.Slices.{nodes_from, Narrow};

@@ -1,7 +1,7 @@
 // Where a file's functions begin.
 #![tactic(auto)]
 
-ghost use Rattle.kit.specs.Names.{◌≡◌, ◌+◌, ◌*◌, ◌≤◌};
+ghost use Rattle.std.specs.Prelude.{◌≡◌, ◌+◌, ◌*◌, ◌≤◌};
 ghost use Rattle.file_accepted.specs.Functions.{function_start};
 
 use file_bytes::{byte_at, function_end};

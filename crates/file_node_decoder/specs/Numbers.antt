@@ -1,5 +1,6 @@
 -- The numbers that the decoder makes of a file's bytes.
-use Rattle.kit.specs.Names.{List, [], ◌∷◌, ℕ, ◌+◌, take, drop}
+use Rattle.std.specs.Prelude.{◌∷◌, ◌+◌}
+use Rattle.kit.specs.Names.{List, [], ℕ, take, drop}
 use Rattle.definitions.specs.ContractFile.{byte_at, two_bytes_at}
 
 -- So many bytes from a place on, each by itself.

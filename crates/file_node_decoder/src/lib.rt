@@ -2,7 +2,8 @@
 // decoder of whole sections, so that an edit of one of them proves little.
 #![tactic(auto)]
 
-ghost use Rattle.kit.specs.Names.{◌≡◌, ◌+◌, ◌<◌, ◌≤◌, length};
+ghost use Rattle.std.specs.Prelude.{◌≡◌, ◌+◌, ◌<◌, ◌≤◌};
+ghost use Rattle.kit.specs.Names.{length};
 ghost use Rattle.definitions.specs.ContractFile.{byte_at, two_bytes_at};
 ghost use Rattle.memory_buffer.specs.Buffer.{stored};
 ghost use Rattle.file_node_decoder.specs.Numbers.{bytes_at, node_numbers};

@@ -1,5 +1,6 @@
 -- An accepted file has all of its nodes, and the decoded ones are a source.
-use Rattle.kit.specs.Names.{◌≡◌, ap, sym, ◌∙◌, List, ◌++◌, ℕ, ◌+◌, ◌*◌, ◌/◌, ◌≤◌, arith, length, take, drop, length-append, length-drop}
+use Rattle.std.specs.Prelude.{◌≡◌, ◌++◌, ◌+◌, ◌*◌, ◌/◌, ◌≤◌}
+use Rattle.kit.specs.Names.{ap, sym, ◌∙◌, List, ℕ, arith, length, take, drop, length-append, length-drop}
 use Rattle.kit.specs.Names.{take_at, length-take-le, eqb-true, not-false}
 use Rattle.definitions.specs.ContractFile.{node_count, file_end, node_records}
 use Rattle.definitions.specs.Numbers.{check_number, ends_wrongly}

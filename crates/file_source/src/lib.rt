@@ -1,7 +1,8 @@
 // The nodes of an accepted contract, decoded for those who read them.
 #![tactic(auto)]
 
-ghost use Rattle.kit.specs.Names.{◌≡◌, ◌≤◌, length, take};
+ghost use Rattle.std.specs.Prelude.{◌≡◌, ◌≤◌};
+ghost use Rattle.kit.specs.Names.{length, take};
 ghost use Rattle.definitions.specs.Numbers.{check_number};
 ghost use Rattle.file_accepted.specs.Context.{Source};
 

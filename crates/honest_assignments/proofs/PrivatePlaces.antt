@@ -1,5 +1,6 @@
 -- Whether a place is private, by its code; and what an assignment leaves.
-use Rattle.kit.specs.Names.{◌≡◌, ap, sym, ◌∙◌, Bool, true, false, cond, not, List, Option, none, ℕ, eqb, set}
+use Rattle.std.specs.Prelude.{◌≡◌}
+use Rattle.kit.specs.Names.{ap, sym, ◌∙◌, Bool, true, false, cond, not, List, Option, none, ℕ, eqb, set}
 use Rattle.definitions.specs.ContractFile.{Name, Owner, FieldOwner, field_at, is_everyone, field_owner_code}
 use Rattle.definitions.specs.Owners.{name_of, place_owner}
 use Rattle.rewrite_owners.specs.Codes.{name_code, place_code}

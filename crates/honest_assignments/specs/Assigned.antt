@@ -1,5 +1,6 @@
 -- The events of an assignment by its nodes, and what writing their numbers asks.
-use Rattle.kit.specs.Names.{List, none, ℕ, ◌<◌, ◌≤◌}
+use Rattle.std.specs.Prelude.{◌<◌, ◌≤◌}
+use Rattle.kit.specs.Names.{List, none, ℕ}
 use Rattle.definitions.specs.ContractFile.{field_at, node_count}
 use Rattle.definitions.specs.Owners.{name_of, place_owner}
 use Rattle.definitions.specs.Rewriting.{always}

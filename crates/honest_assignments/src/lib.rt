@@ -1,7 +1,8 @@
 // 01, Runs and views: an assignment of the original on numbers, with the numbers of the variables that it makes.
 #![tactic(auto)]
 
-ghost use Rattle.kit.specs.Names.{◌≡◌, cond, not, none, ◌<◌, ◌≤◌, set};
+ghost use Rattle.std.specs.Prelude.{◌≡◌, ◌<◌, ◌≤◌};
+ghost use Rattle.kit.specs.Names.{cond, not, none, set};
 ghost use Rattle.definitions.specs.ContractFile.{field_at, is_everyone, node_count};
 ghost use Rattle.definitions.specs.Owners.{name_of, place_owner};
 ghost use Rattle.definitions.specs.Original.{position};

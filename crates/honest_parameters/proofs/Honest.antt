@@ -1,5 +1,6 @@
 -- Honest parameters, one after another.
-use Rattle.kit.specs.Names.{◌≡◌, refl, ap, ap₂, sym, ◌∙◌, Bool, true, false, cond, not, List, [], ◌∷◌, ℕ, zero, suc, ◌+◌, ◌*◌, ◌<◌, ◌≤◌}
+use Rattle.std.specs.Prelude.{◌≡◌, ◌∷◌, ◌+◌, ◌*◌, ◌<◌, ◌≤◌}
+use Rattle.kit.specs.Names.{refl, ap, ap₂, sym, ◌∙◌, Bool, true, false, cond, not, List, [], ℕ, zero, suc}
 use Rattle.kit.specs.Names.{arith, eqb, length, get_or, take, set, eq-eqb, ne_eqb}
 use Rattle.definitions.specs.ContractFile.{Parameter, parameter_at, byte_at, parameter_of}
 use Rattle.definitions.specs.Original.{Reader, anyone, only}

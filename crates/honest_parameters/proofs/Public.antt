@@ -1,6 +1,7 @@
 -- The public ones of a call's parameters, one after another.
-use Rattle.kit.specs.Names.{◌≡◌, refl, ap, ap₂, sym, ◌∙◌, Bool, true, false, cond, List, [], ◌∷◌, ◌++◌, append-nil, append_assoc, ℕ, zero}
-use Rattle.kit.specs.Names.{suc, ◌+◌, ◌*◌, ◌/◌, ◌<◌, ◌≤◌, arith, add-one, length, take, drop, set, drop_of_length-le, drop-cons}
+use Rattle.std.specs.Prelude.{◌≡◌, ◌∷◌, ◌++◌, ◌+◌, ◌*◌, ◌/◌, ◌<◌, ◌≤◌}
+use Rattle.kit.specs.Names.{refl, ap, ap₂, sym, ◌∙◌, Bool, true, false, cond, List, [], append-nil, append_assoc, ℕ, zero}
+use Rattle.kit.specs.Names.{suc, arith, add-one, length, take, drop, set, drop_of_length-le, drop-cons}
 use Rattle.kit.specs.Names.{take-suc-set}
 use Rattle.definitions.specs.ContractFile.{Parameter, boolean, parameter_at, byte_at}
 use Rattle.definitions.specs.Ledger.{Content, plain, content_at, public_of}

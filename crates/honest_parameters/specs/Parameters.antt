@@ -1,5 +1,6 @@
 -- What putting down a call's parameters asks, and what picking the public ones leaves.
-use Rattle.kit.specs.Names.{◌≡◌, Bool, cond, List, [], ◌∷◌, ◌++◌, ℕ, ◌+◌, ◌*◌, ◌≤◌, length, take}
+use Rattle.std.specs.Prelude.{◌≡◌, ◌∷◌, ◌++◌, ◌+◌, ◌*◌, ◌≤◌}
+use Rattle.kit.specs.Names.{Bool, cond, List, [], ℕ, length, take}
 use Rattle.definitions.specs.ContractFile.{parameter_at, byte_at}
 use Rattle.definitions.specs.Original.{Reader, anyone, only}
 use Rattle.definitions.specs.Ledger.{Content, public_of}

@@ -1,7 +1,8 @@
 // 01, Runs and views: a call's honest parameters, and the public ones alone, as flat contents.
 #![tactic(auto)]
 
-ghost use Rattle.kit.specs.Names.{◌≡◌, ◌<◌, ◌/◌, length};
+ghost use Rattle.std.specs.Prelude.{◌≡◌, ◌<◌, ◌/◌};
+ghost use Rattle.kit.specs.Names.{length};
 ghost use Rattle.definitions.specs.ContractFile.{byte_at};
 ghost use Rattle.definitions.specs.Ledger.{content_at, honest_parameters};
 ghost use Rattle.file_accepted.specs.Context.{parameters_in};

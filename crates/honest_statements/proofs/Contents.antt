@@ -1,6 +1,7 @@
 -- The numbers, with their variables' owners and serials, are the honest variables of the definitions.
-use Rattle.kit.specs.Names.{◌≡◌, refl, ap, ap₂, sym, ◌∙◌, Bool, true, false, ◌&&◌, cond, not, List, [], ◌∷◌, ◌++◌, map, map-append, ℕ, zero}
-use Rattle.kit.specs.Names.{suc, ◌+◌, arith, length, replicate, length-append, length-map}
+use Rattle.std.specs.Prelude.{◌≡◌, ◌&&◌, ◌∷◌, ◌++◌, ◌+◌}
+use Rattle.kit.specs.Names.{refl, ap, ap₂, sym, ◌∙◌, Bool, true, false, cond, not, List, [], map, map-append, ℕ, zero}
+use Rattle.kit.specs.Names.{suc, arith, length, replicate, length-append, length-map}
 use Rattle.definitions.specs.Basics.{is_true}
 use Rattle.definitions.specs.ContractFile.{Name, me_name, Expression, Statement}
 use Rattle.definitions.specs.Owners.{owner_of}

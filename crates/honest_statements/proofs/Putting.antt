@@ -1,5 +1,6 @@
 -- Numbers put one run behind another, and the space that they ask.
-use Rattle.kit.specs.Names.{◌≡◌, refl, ap, sym, ◌∙◌, Bool, List, [], ◌∷◌, ℕ, suc, ◌+◌, ◌<◌, arith, add-one, length, length-append}
+use Rattle.std.specs.Prelude.{◌≡◌, ◌∷◌, ◌+◌, ◌<◌}
+use Rattle.kit.specs.Names.{refl, ap, sym, ◌∙◌, Bool, List, [], ℕ, suc, arith, add-one, length, length-append}
 use Rattle.kit.specs.Names.{length-map}
 use Rattle.memory_buffer.specs.Buffer.{stored}
 use Rattle.memory_buffer.proofs.Storing.{stored_length, stored_nothing, stored_then}

@@ -1,5 +1,6 @@
 -- Each statement by its kind: what it asks of its parts, and what it leaves after them.
-use Rattle.kit.specs.Names.{◌≡◌, refl, ap, ap₂, sym, ◌∙◌, Bool, true, false, ◌&&◌, cond, not, List, [], ◌∷◌, ◌++◌, map, none, ℕ, suc, ◌+◌}
+use Rattle.std.specs.Prelude.{◌≡◌, ◌&&◌, ◌∷◌, ◌++◌, ◌+◌}
+use Rattle.kit.specs.Names.{refl, ap, ap₂, sym, ◌∙◌, Bool, true, false, cond, not, List, [], map, none, ℕ, suc}
 use Rattle.kit.specs.Names.{length, set}
 use Rattle.definitions.specs.Basics.{is_true}
 use Rattle.definitions.specs.ContractFile.{Name, Expression, Statement, field_at, NodeRecord}

@@ -1,5 +1,6 @@
 -- The numbers of the variables that a statement makes, on the numbers that the original has when it comes to it.
-use Rattle.kit.specs.Names.{◌≡◌, Bool, ◌&&◌, cond, not, List, [], ◌∷◌, ◌++◌, map, ℕ, zero, suc, ◌+◌, ◌<◌, ◌≤◌, length}
+use Rattle.std.specs.Prelude.{◌≡◌, ◌&&◌, ◌∷◌, ◌++◌, ◌+◌, ◌<◌, ◌≤◌}
+use Rattle.kit.specs.Names.{Bool, cond, not, List, [], map, ℕ, zero, suc, length}
 use Rattle.definitions.specs.Basics.{is_true}
 use Rattle.definitions.specs.ContractFile.{Name, Expression, Statement, node_count}
 use Rattle.definitions.specs.Rewriting.{Variable, variable_owner, always}

@@ -2,7 +2,8 @@
 // plain 0." The original's statements on lent numbers, with one number for each variable that rewriting makes of them.
 #![tactic(auto)]
 
-ghost use Rattle.kit.specs.Names.{◌≡◌, ◌&&◌, not, ◌<◌};
+ghost use Rattle.std.specs.Prelude.{◌≡◌, ◌&&◌, ◌<◌};
+ghost use Rattle.kit.specs.Names.{not};
 ghost use Rattle.definitions.specs.ContractFile.{node_count};
 ghost use Rattle.file_accepted.specs.Context.{Context};
 ghost use Rattle.rewrite_plans.specs.Plans.{node_expression};

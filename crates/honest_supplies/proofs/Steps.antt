@@ -1,5 +1,6 @@
 -- Each step of writing a node's numbers: what it asks of the next, and what it has written after it.
-use Rattle.kit.specs.Names.{◌≡◌, refl, ap, sym, ◌∙◌, Bool, true, false, cond, not, List, map, ℕ, suc, ◌+◌, ◌≤◌, arith, add-one, eqb, ne_eqb}
+use Rattle.std.specs.Prelude.{◌≡◌, ◌+◌, ◌≤◌}
+use Rattle.kit.specs.Names.{refl, ap, sym, ◌∙◌, Bool, true, false, cond, not, List, map, ℕ, suc, arith, add-one, eqb, ne_eqb}
 use Rattle.definitions.specs.ContractFile.{me_name, Owner, everyone, owned_by, Expression, Scope, is_everyone}
 use Rattle.definitions.specs.Owners.{owner_of, is_public}
 use Rattle.definitions.specs.Rewriting.{Variable, supplied, read_from, always}

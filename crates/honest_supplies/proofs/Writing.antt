@@ -1,5 +1,6 @@
 -- Writing the numbers of events that follow one another, and the room that it asks.
-use Rattle.kit.specs.Names.{◌≡◌, refl, ap, sym, ◌∙◌, List, [], ◌∷◌, ◌++◌, map, map-append, ℕ, suc, ◌+◌, ◌<◌, ◌≤◌, arith, add-one, length}
+use Rattle.std.specs.Prelude.{◌≡◌, ◌∷◌, ◌++◌, ◌+◌, ◌<◌, ◌≤◌}
+use Rattle.kit.specs.Names.{refl, ap, sym, ◌∙◌, List, [], map, map-append, ℕ, suc, arith, add-one, length}
 use Rattle.kit.specs.Names.{length-append, length-map}
 use Rattle.definitions.specs.ContractFile.{Owner, Expression}
 use Rattle.definitions.specs.Rewriting.{Variable, supplied, read_from, Guard}

@@ -1,5 +1,6 @@
 -- The numbers of honest supplied variables, and what writing them for some events asks and does.
-use Rattle.kit.specs.Names.{◌≡◌, Bool, cond, List, map, ℕ, suc, ◌+◌, ◌<◌, ◌≤◌, length}
+use Rattle.std.specs.Prelude.{◌≡◌, ◌+◌, ◌<◌, ◌≤◌}
+use Rattle.kit.specs.Names.{Bool, cond, List, map, ℕ, suc, length}
 use Rattle.definitions.specs.ContractFile.{me_name, owned_by, node_count}
 use Rattle.definitions.specs.Owners.{is_public}
 use Rattle.definitions.specs.Rewriting.{Variable, supplied, read_from, guard, always}

@@ -2,7 +2,8 @@
 // one more than the value of a supplied one, and 0 for any other, and for all where the branch is not taken.
 #![tactic(auto)]
 
-ghost use Rattle.kit.specs.Names.{◌≡◌, cond, [], ◌∷◌, suc, ◌<◌, length};
+ghost use Rattle.std.specs.Prelude.{◌≡◌, ◌∷◌, ◌<◌};
+ghost use Rattle.kit.specs.Names.{cond, [], suc, length};
 ghost use Rattle.definitions.specs.ContractFile.{node_count};
 ghost use Rattle.memory_buffer.specs.Buffer.{stored};
 ghost use Rattle.file_accepted.specs.Context.{Context};

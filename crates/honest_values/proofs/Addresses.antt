@@ -1,5 +1,6 @@
 -- Of all addresses the original asks the caller's alone, so any that agree on it give the same.
-use Rattle.kit.specs.Names.{◌≡◌, refl, ap, ap₂, ◌∙◌, cond, List, ℕ, get_or, set}
+use Rattle.std.specs.Prelude.{◌≡◌}
+use Rattle.kit.specs.Names.{refl, ap, ap₂, ◌∙◌, cond, List, ℕ, get_or, set}
 use Rattle.definitions.specs.Basics.{is_true}
 use Rattle.definitions.specs.ContractFile.{Name, me_name, Field, Expression, Statement}
 use Rattle.definitions.specs.Original.{position, value, operate, negate, places_after}

@@ -1,5 +1,6 @@
 -- The value of an expression by its kind, as code learns it.
-use Rattle.kit.specs.Names.{◌≡◌, ap, ◌∙◌, List, ℕ, get_or}
+use Rattle.std.specs.Prelude.{◌≡◌}
+use Rattle.kit.specs.Names.{ap, ◌∙◌, List, ℕ, get_or}
 use Rattle.definitions.specs.ContractFile.{DataType, Owner, Operator, Expression, NodeRecord}
 use Rattle.definitions.specs.Original.{position, value, operate, negate}
 use Rattle.file_accepted.specs.Context.{fields_in}

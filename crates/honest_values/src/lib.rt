@@ -1,7 +1,7 @@
 // 01, Runs and views: the value that the original works out for an expression, on numbers in all places.
 #![tactic(auto)]
 
-ghost use Rattle.kit.specs.Names.{◌≡◌, ◌+◌, ◌*◌, ◌<◌, ◌≤◌};
+ghost use Rattle.std.specs.Prelude.{◌≡◌, ◌+◌, ◌*◌, ◌<◌, ◌≤◌};
 ghost use Rattle.definitions.specs.ContractFile.{node_count};
 ghost use Rattle.theory_trees.specs.Trees.{expression_in};
 ghost use Rattle.file_accepted.specs.Context.{Context, nodes_in};

@@ -1,5 +1,6 @@
 -- In a call that is not refused, the contents put for the variables are the honest ones, and they can be put.
-use Rattle.kit.specs.Names.{◌≡◌, refl, ap, ap₂, sym, subst, ◌∙◌, true, List, ◌++◌, map, ℕ, suc, ◌+◌, ◌*◌, ◌<◌, ◌≤◌, arith, length, get_or}
+use Rattle.std.specs.Prelude.{◌≡◌, ◌++◌, ◌+◌, ◌*◌, ◌<◌, ◌≤◌}
+use Rattle.kit.specs.Names.{refl, ap, ap₂, sym, subst, ◌∙◌, true, List, map, ℕ, suc, arith, length, get_or}
 use Rattle.kit.specs.Names.{replicate, length-append, length-replicate}
 use Rattle.definitions.specs.ContractFile.{Name, Field, Function, Scope, Statement, function_at, field_count, function_count, owner_of_code, Node, contract_in}
 use Rattle.definitions.specs.Owners.{no_links}

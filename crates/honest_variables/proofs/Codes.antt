@@ -1,5 +1,6 @@
 -- The address of an owner code, and the content of one variable.
-use Rattle.kit.specs.Names.{◌≡◌, refl, ap, ap₂, sym, subst, ◌∙◌, List, ℕ, zero, suc, ◌+◌, ◌-◌, ◌<◌, ◌≤◌, arith, get_or, ne_eqb, lt-ltb}
+use Rattle.std.specs.Prelude.{◌≡◌, ◌+◌, ◌-◌, ◌<◌, ◌≤◌}
+use Rattle.kit.specs.Names.{refl, ap, ap₂, sym, subst, ◌∙◌, List, ℕ, zero, suc, arith, get_or, ne_eqb, lt-ltb}
 use Rattle.kit.specs.Names.{le-ltb, le-leb, lt-leb}
 use Rattle.definitions.specs.ContractFile.{Name, Owner, owner_of_code}
 use Rattle.definitions.specs.Original as original

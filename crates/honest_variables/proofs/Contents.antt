@@ -1,5 +1,6 @@
 -- The contents of a call's variables, put one after another.
-use Rattle.kit.specs.Names.{◌≡◌, refl, ap, sym, ◌∙◌, true, false, List, [], ◌∷◌, ◌++◌, append_assoc, append-nil, ℕ, suc, ◌+◌, ◌-◌, ◌<◌, ◌≤◌}
+use Rattle.std.specs.Prelude.{◌≡◌, ◌∷◌, ◌++◌, ◌+◌, ◌-◌, ◌<◌, ◌≤◌}
+use Rattle.kit.specs.Names.{refl, ap, sym, ◌∙◌, true, false, List, [], append_assoc, append-nil, ℕ, suc}
 use Rattle.kit.specs.Names.{arith, add-one, length, get_or, take, drop, set, length-append, drop-cons, take-suc-set, take_all}
 use Rattle.definitions.specs.ContractFile.{Name, owner_of_code}
 use Rattle.definitions.specs.Ledger.{Content}

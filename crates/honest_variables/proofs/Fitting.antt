@@ -1,5 +1,6 @@
 -- The variables of a body without faults: their owners are names that fit, and what is supplied has no faults either.
-use Rattle.kit.specs.Names.{◌≡◌, refl, sym, subst, Bool, true, false, ◌&&◌, cond, List, [], ◌∷◌, ◌++◌, Option, none, some, ℕ, suc, ◌+◌}
+use Rattle.std.specs.Prelude.{◌≡◌, ◌&&◌, ◌∷◌, ◌++◌, ◌+◌}
+use Rattle.kit.specs.Names.{refl, sym, subst, Bool, true, false, cond, List, [], Option, none, some, ℕ, suc}
 use Rattle.definitions.specs.ContractFile.{Name, me_name, final_name, parameter_name, Owner, everyone, owned_by, FieldOwner, to_everyone, to_key, to_final, Expression, Statement, Parameter, Scope, field_at, parameter_at, is_final, is_division}
 use Rattle.definitions.specs.Owners.{Links, is_public_address, place_owner, parameter_owner, name_of, owner_of, is_public, links_of_condition, links_after}
 use Rattle.definitions.specs.Numbers.{owner_fits, expression_faults, statement_faults}

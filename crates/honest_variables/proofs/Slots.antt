@@ -1,5 +1,6 @@
 -- The numbers of a call's variables, put one after another.
-use Rattle.kit.specs.Names.{◌≡◌, refl, ap, ap₂, sym, ◌∙◌, true, List, [], ◌∷◌, ◌++◌, ℕ, ◌+◌, ◌<◌, ◌≤◌, arith, length, take, drop, replicate}
+use Rattle.std.specs.Prelude.{◌≡◌, ◌∷◌, ◌++◌, ◌+◌, ◌<◌, ◌≤◌}
+use Rattle.kit.specs.Names.{refl, ap, ap₂, sym, ◌∙◌, true, List, [], ℕ, arith, length, take, drop, replicate}
 use Rattle.kit.specs.Names.{length-append, length-replicate, replicate-append-replicate, take_at}
 use Rattle.definitions.specs.Rewriting.{always}
 use Rattle.memory_buffer.specs.Buffer.{stored}

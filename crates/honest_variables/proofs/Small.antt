@@ -1,5 +1,6 @@
 -- The honest numbers of a body without faults are at most one more than the largest value.
-use Rattle.kit.specs.Names.{◌≡◌, subst, Bool, true, false, ◌&&◌, List, [], ◌∷◌, ◌++◌, map, ℕ, zero, suc, ◌≤◌, arith, get_or, replicate}
+use Rattle.std.specs.Prelude.{◌≡◌, ◌&&◌, ◌∷◌, ◌++◌, ◌≤◌}
+use Rattle.kit.specs.Names.{subst, Bool, true, false, List, [], map, ℕ, zero, suc, arith, get_or, replicate}
 use Rattle.definitions.specs.ContractFile.{Name, me_name, Expression, Statement, type_of}
 use Rattle.definitions.specs.Owners.{Links, links_of_condition, links_after}
 use Rattle.definitions.specs.Numbers.{statement_faults}

@@ -1,6 +1,7 @@
 -- What the owner codes of a log tell of its variables, where their owners are names that fit.
-use Rattle.kit.specs.Names.{◌≡◌, refl, ap, ap₂, sym, subst, ◌∙◌, Bool, true, false, not, false≢true, List, [], ◌∷◌, ◌++◌, ℕ, zero, suc, ◌+◌}
-use Rattle.kit.specs.Names.{◌<◌, ◌≤◌, arith, ltb, length, get_or, replicate, get_or_eq_default, ltb-true, ltb-false}
+use Rattle.std.specs.Prelude.{◌≡◌, ◌∷◌, ◌++◌, ◌+◌, ◌<◌, ◌≤◌}
+use Rattle.kit.specs.Names.{refl, ap, ap₂, sym, subst, ◌∙◌, Bool, true, false, not, false≢true, List, [], ℕ, zero, suc}
+use Rattle.kit.specs.Names.{arith, ltb, length, get_or, replicate, get_or_eq_default, ltb-true, ltb-false}
 use Rattle.definitions.specs.ContractFile.{DataType, boolean, address, Name, me_name, final_name, parameter_name, Owner, everyone, owned_by, to_everyone, Field, Expression, Scope, field_at, parameter_at, plain_field, is_final, same_type, is_of_type, owner_of_code, owner_code, Node}
 use Rattle.definitions.specs.Numbers.{owner_fits}
 use Rattle.definitions.specs.Rewriting.{Variable, supplied, read_from, guard, variable_owner, openings}

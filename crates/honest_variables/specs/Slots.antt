@@ -1,5 +1,6 @@
 -- The numbers of all variables of a call: 0 for each read of a private parameter, and those of the body.
-use Rattle.kit.specs.Names.{◌≡◌, true, List, ◌++◌, ℕ, ◌+◌, ◌<◌, ◌≤◌, length, take, replicate}
+use Rattle.std.specs.Prelude.{◌≡◌, ◌++◌, ◌+◌, ◌<◌, ◌≤◌}
+use Rattle.kit.specs.Names.{true, List, ℕ, length, take, replicate}
 use Rattle.definitions.specs.ContractFile.{node_count}
 use Rattle.file_accepted.specs.Context.{Context}
 use Rattle.file_accepted.specs.Functions.{root_at}

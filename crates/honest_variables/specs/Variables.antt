@@ -1,5 +1,6 @@
 -- The contents of a call's variables, by their owner codes and numbers.
-use Rattle.kit.specs.Names.{◌≡◌, false, cond, List, [], ◌∷◌, ◌++◌, ℕ, zero, suc, ◌+◌, ◌*◌, ◌≤◌, ◌<◌, length, get_or, take, drop, replicate}
+use Rattle.std.specs.Prelude.{◌≡◌, ◌∷◌, ◌++◌, ◌+◌, ◌*◌, ◌≤◌, ◌<◌}
+use Rattle.kit.specs.Names.{false, cond, List, [], ℕ, zero, suc, length, get_or, take, drop, replicate}
 use Rattle.definitions.specs.ContractFile.{Name, Owner, owner_of_code}
 use Rattle.definitions.specs.Original.{Reader, anyone, only, reader_of}
 use Rattle.definitions.specs.Ledger.{Content, plain, content_for}

@@ -1,7 +1,8 @@
 // 01, Runs and views: "An honest supplied variable holds what the original works out for its expression, as a cell of its owner if a cell".
 #![tactic(auto)]
 
-ghost use Rattle.kit.specs.Names.{◌≡◌, ◌≤◌, get_or};
+ghost use Rattle.std.specs.Prelude.{◌≡◌, ◌≤◌};
+ghost use Rattle.kit.specs.Names.{get_or};
 ghost use Rattle.definitions.specs.ContractFile.{owner_of_code};
 ghost use Rattle.definitions.specs.Original.{reader_of};
 ghost use Rattle.file_accepted.specs.Functions.{root_at};

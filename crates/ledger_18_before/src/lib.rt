@@ -1,7 +1,8 @@
 // "18. The ledger isn't well formed": a ledger before any call.
 #![tactic(auto)]
 
-ghost use Rattle.kit.specs.Names.{◌≡◌, []};
+ghost use Rattle.std.specs.Prelude.{◌≡◌};
+ghost use Rattle.kit.specs.Names.{[]};
 ghost use Rattle.definitions.specs.Ledger.{is_before_calls};
 ghost use Rattle.ledger_struct.specs.Ledgers.{ledger_from};
 

@@ -1,7 +1,8 @@
 // "18. The ledger isn't well formed": its last call is a possible one.
 #![tactic(auto)]
 
-ghost use Rattle.kit.specs.Names.{◌≡◌, List, map, ◌≤◌, length};
+ghost use Rattle.std.specs.Prelude.{◌≡◌, ◌≤◌};
+ghost use Rattle.kit.specs.Names.{List, map, length};
 ghost use Rattle.definitions.specs.Ledger.{Content, plain_number, is_after_call};
 ghost use Rattle.definitions.specs.Numbers.{check_number};
 ghost use Rattle.ledger_struct.specs.Ledgers.{ledger_from};

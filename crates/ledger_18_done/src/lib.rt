@@ -1,7 +1,8 @@
 // "18. The ledger isn't well formed": a ledger after a done call.
 #![tactic(auto)]
 
-ghost use Rattle.kit.specs.Names.{◌≡◌, List, map, ◌<◌, ◌≤◌, ◌/◌, length};
+ghost use Rattle.std.specs.Prelude.{◌≡◌, ◌<◌, ◌≤◌, ◌/◌};
+ghost use Rattle.kit.specs.Names.{List, map, length};
 ghost use Rattle.definitions.specs.ContractFile.{function_count};
 ghost use Rattle.definitions.specs.Ledger.{Content, plain_number, all_fit, is_after_done};
 ghost use Rattle.definitions.specs.Numbers.{check_number};

@@ -1,7 +1,8 @@
 // "18. The ledger isn't well formed": a ledger after a failed call.
 #![tactic(auto)]
 
-ghost use Rattle.kit.specs.Names.{◌≡◌, [], ◌<◌};
+ghost use Rattle.std.specs.Prelude.{◌≡◌, ◌<◌};
+ghost use Rattle.kit.specs.Names.{[]};
 ghost use Rattle.definitions.specs.ContractFile.{function_count};
 ghost use Rattle.definitions.specs.Ledger.{is_after_failed};
 ghost use Rattle.definitions.specs.Numbers.{check_number};

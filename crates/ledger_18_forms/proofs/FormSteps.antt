@@ -1,5 +1,6 @@
 -- One form more is tested, and some forms before the rest.
-use Rattle.kit.specs.Names.{◌≡◌, refl, ap, sym, ◌∙◌, Bool, true, false, ◌&&◌, ◌||◌, List, [], ◌∷◌, ◌++◌, ℕ, suc, ◌+◌, ◌/◌, ◌<◌, ◌≤◌, arith}
+use Rattle.std.specs.Prelude.{◌≡◌, ◌&&◌, ◌||◌, ◌∷◌, ◌++◌, ◌+◌, ◌/◌, ◌<◌, ◌≤◌}
+use Rattle.kit.specs.Names.{refl, ap, sym, ◌∙◌, Bool, true, false, List, [], ℕ, suc, arith}
 use Rattle.kit.specs.Names.{add-one, ltb, leb, length, drop, drop_of_length-le, drop-cons, lt-ltb, ltb-false, ltb-true, leb-true, leb-false}
 use Rattle.definitions.specs.Ledger.{Content, plain, content_at, Form, fits, is_plain_zero, all_fit}
 use Rattle.ledger_contents.specs.Contents.{contents_of}

@@ -1,5 +1,6 @@
 -- Contents tested against forms one position after another.
-use Rattle.kit.specs.Names.{Bool, true, false, ◌&&◌, ◌||◌, List, [], ◌∷◌, ℕ, ltb, length}
+use Rattle.std.specs.Prelude.{◌&&◌, ◌||◌, ◌∷◌}
+use Rattle.kit.specs.Names.{Bool, true, false, List, [], ℕ, ltb, length}
 use Rattle.definitions.specs.Ledger.{Content, content_at, Form, fits, is_plain_zero}
 
 -- "a variable may be plain 0"

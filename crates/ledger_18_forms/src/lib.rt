@@ -1,7 +1,7 @@
 // Whether the content at a position is what a form asks.
 #![tactic(auto)]
 
-ghost use Rattle.kit.specs.Names.{◌≡◌};
+ghost use Rattle.std.specs.Prelude.{◌≡◌};
 ghost use Rattle.definitions.specs.Ledger.{fits, is_plain_zero};
 ghost use Rattle.ledger_contents.specs.Contents.{content_of_code, contents_of};
 ghost use Rattle.ledger_readers.specs.Readers.{form_of};

@@ -1,5 +1,6 @@
 -- The parameters are tested one after another.
-use Rattle.kit.specs.Names.{◌≡◌, refl, ap, sym, ◌∙◌, Bool, true, false, ◌&&◌, not, cond, List, [], ◌∷◌, ℕ, suc, ◌+◌, ◌*◌, ◌<◌, ◌≤◌, ◌/◌}
+use Rattle.std.specs.Prelude.{◌≡◌, ◌&&◌, ◌∷◌, ◌+◌, ◌*◌, ◌<◌, ◌≤◌, ◌/◌}
+use Rattle.kit.specs.Names.{refl, ap, sym, ◌∙◌, Bool, true, false, not, cond, List, [], ℕ, suc}
 use Rattle.kit.specs.Names.{add-one, eqb, leb, length, drop, drop_of_length-le, drop-cons, eq-eqb, ne_eqb}
 use Rattle.definitions.specs.ContractFile.{Parameter, parameter_at, byte_at, parameter_of, data_type_of}
 use Rattle.definitions.specs.Original.{anyone, only}

@@ -1,5 +1,6 @@
 -- The forms of a call's parameters, as the view lists them.
-use Rattle.kit.specs.Names.{Bool, ◌&&◌, not, cond, List, [], ◌∷◌, map, ℕ}
+use Rattle.std.specs.Prelude.{◌&&◌, ◌∷◌}
+use Rattle.kit.specs.Names.{Bool, not, cond, List, [], map, ℕ}
 use Rattle.definitions.specs.ContractFile.{Parameter}
 use Rattle.definitions.specs.Ledger.{Form, public_of, parameter_form}
 

@@ -1,7 +1,8 @@
 // Whether the parameters of a ledger's last call have the types and the owners that the file asks.
 #![tactic(auto)]
 
-ghost use Rattle.kit.specs.Names.{◌≡◌, ◌&&◌, not, cond, ◌≤◌, eqb};
+ghost use Rattle.std.specs.Prelude.{◌≡◌, ◌&&◌, ◌≤◌};
+ghost use Rattle.kit.specs.Names.{not, cond, eqb};
 ghost use Rattle.definitions.specs.ContractFile.{byte_at};
 ghost use Rattle.definitions.specs.Original.{anyone, only};
 ghost use Rattle.definitions.specs.Ledger.{fits, all_fit};

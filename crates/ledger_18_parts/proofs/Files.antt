@@ -1,5 +1,6 @@
 -- What an accepted file gives to the test.
-use Rattle.kit.specs.Names.{◌≡◌, List, ℕ, ◌<◌, ◌≤◌}
+use Rattle.std.specs.Prelude.{◌≡◌, ◌<◌, ◌≤◌}
+use Rattle.kit.specs.Names.{List, ℕ}
 use Rattle.definitions.specs.ContractFile.{byte_at, field_count, function_count}
 use Rattle.definitions.specs.Numbers.{check_number}
 use Rattle.theory_accepted.proofs.Sentences.{accepted_settled}

@@ -1,5 +1,6 @@
 -- Flat contents: their plain numbers, and none shown.
-use Rattle.kit.specs.Names.{◌≡◌, refl, ap, sym, ◌∙◌, List, [], ◌∷◌, ℕ, ◌/◌, arith, ltb, length, take, length-map, le-ltb}
+use Rattle.std.specs.Prelude.{◌≡◌, ◌∷◌, ◌/◌}
+use Rattle.kit.specs.Names.{refl, ap, sym, ◌∙◌, List, [], ℕ, arith, ltb, length, take, length-map, le-ltb}
 use Rattle.definitions.specs.Ledger.{plain_number, fits, all_fit}
 use Rattle.ledger_contents.specs.Contents.{contents_of}
 use Rattle.ledger_contents.proofs.FlatContents.{length_contents_of}

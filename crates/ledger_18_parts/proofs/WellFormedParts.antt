@@ -1,5 +1,6 @@
 -- The parts of number 18's test make the definition's.
-use Rattle.kit.specs.Names.{◌≡◌, refl, ap, sym, ◌∙◌, Bool, true, false, ◌&&◌, ◌||◌, List, [], map, ℕ, ◌<◌, eqb, eq-eqb}
+use Rattle.std.specs.Prelude.{◌≡◌, ◌&&◌, ◌||◌, ◌<◌}
+use Rattle.kit.specs.Names.{refl, ap, sym, ◌∙◌, Bool, true, false, List, [], map, ℕ, eqb, eq-eqb}
 use Rattle.definitions.specs.ContractFile.{Function, Scope, function_count, contract_of}
 use Rattle.definitions.specs.Numbers.{check_number}
 use Rattle.definitions.specs.Rewriting.{rewrite_function}

@@ -1,6 +1,7 @@
 -- The places are tested field by field and key by key.
-use Rattle.kit.specs.Names.{◌≡◌, refl, ap, ap₂, sym, ◌∙◌, Bool, true, false, ◌&&◌, List, [], ◌∷◌, ◌++◌, map, zip_with, ℕ, suc, ◌+◌, ◌-◌, ◌<◌}
-use Rattle.kit.specs.Names.{◌≤◌, ◌/◌, arith, add-one, leb, length, drop, length-map, drop_of_length-le, drop-cons, drop-drop}
+use Rattle.std.specs.Prelude.{◌≡◌, ◌&&◌, ◌∷◌, ◌++◌, ◌+◌, ◌-◌, ◌<◌, ◌≤◌, ◌/◌}
+use Rattle.kit.specs.Names.{refl, ap, ap₂, sym, ◌∙◌, Bool, true, false, List, [], map, zip_with, ℕ, suc}
+use Rattle.kit.specs.Names.{arith, add-one, leb, length, drop, length-map, drop_of_length-le, drop-cons, drop-drop}
 use Rattle.definitions.specs.ContractFile.{DataType, Field, field_at, data_type_of}
 use Rattle.definitions.specs.Original as original
 use Rattle.definitions.specs.Original.{numbers_from, place_count, per_place, place_reader, final_address}

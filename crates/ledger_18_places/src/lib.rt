@@ -1,7 +1,8 @@
 // Whether all places of a ledger have the types and the owners that the file asks.
 #![tactic(auto)]
 
-ghost use Rattle.kit.specs.Names.{◌≡◌, ◌+◌, ◌<◌, ◌≤◌, drop};
+ghost use Rattle.std.specs.Prelude.{◌≡◌, ◌+◌, ◌<◌, ◌≤◌};
+ghost use Rattle.kit.specs.Names.{drop};
 ghost use Rattle.definitions.specs.ContractFile.{field_count};
 ghost use Rattle.definitions.specs.Ledger.{fits, all_fit};
 ghost use Rattle.file_accepted.specs.Context.{fields_in};

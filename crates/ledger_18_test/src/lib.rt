@@ -1,7 +1,8 @@
 // "18. The ledger isn't well formed": the test of any ledger at all.
 #![tactic(auto)]
 
-ghost use Rattle.kit.specs.Names.{◌≡◌, ◌/◌, ◌≤◌, length};
+ghost use Rattle.std.specs.Prelude.{◌≡◌, ◌/◌, ◌≤◌};
+ghost use Rattle.kit.specs.Names.{length};
 ghost use Rattle.definitions.specs.Ledger.{is_well_formed};
 ghost use Rattle.ledger_contents.specs.Contents.{contents_of};
 ghost use Rattle.ledger_struct.specs.Ledgers.{ledger_from};

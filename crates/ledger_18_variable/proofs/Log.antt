@@ -1,5 +1,6 @@
 -- The variables of a log are tested entry by entry.
-use Rattle.kit.specs.Names.{◌≡◌, refl, ap, sym, ◌∙◌, Bool, true, false, cond, List, [], ◌∷◌, ℕ, ◌+◌, ◌/◌, ◌<◌, ◌≤◌, arith, eqb, leb, length}
+use Rattle.std.specs.Prelude.{◌≡◌, ◌∷◌, ◌+◌, ◌/◌, ◌<◌, ◌≤◌}
+use Rattle.kit.specs.Names.{refl, ap, sym, ◌∙◌, Bool, true, false, cond, List, [], ℕ, arith, eqb, leb, length}
 use Rattle.kit.specs.Names.{drop, get_or, length-drop, eq-eqb, ne_eqb}
 use Rattle.definitions.specs.ContractFile.{DataType, boolean, Expression, node_count, data_type_of, Node, expression_of, type_of}
 use Rattle.definitions.specs.Original.{anyone, only}

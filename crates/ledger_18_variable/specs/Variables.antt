@@ -1,5 +1,6 @@
 -- The forms of a function's variables: by their origins, by its parameters and by the log of its events.
-use Rattle.kit.specs.Names.{cond, List, [], ◌∷◌, map, ℕ, eqb, get_or, drop}
+use Rattle.std.specs.Prelude.{◌∷◌}
+use Rattle.kit.specs.Names.{cond, List, [], map, ℕ, eqb, get_or, drop}
 use Rattle.definitions.specs.ContractFile.{boolean, Name, Parameter, Scope, parameter_at, type_of}
 use Rattle.definitions.specs.Rewriting.{Variable, variable_owner, private_parameters}
 use Rattle.definitions.specs.Original.{Reader, anyone, only, reader_of}

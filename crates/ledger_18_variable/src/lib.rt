@@ -1,7 +1,8 @@
 // "each item .. has the type": one variable, by the event that made it.
 #![tactic(auto)]
 
-ghost use Rattle.kit.specs.Names.{◌≡◌, cond, eqb};
+ghost use Rattle.std.specs.Prelude.{◌≡◌};
+ghost use Rattle.kit.specs.Names.{cond, eqb};
 ghost use Rattle.definitions.specs.ContractFile.{boolean, data_type_of, type_of};
 ghost use Rattle.theory_trees.specs.Trees.{expression_in};
 ghost use Rattle.file_accepted.specs.Context.{Context, nodes_in, scope_in};

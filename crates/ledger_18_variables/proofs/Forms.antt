@@ -1,5 +1,6 @@
 -- What the parameters and the log tell of a function's variables is what their origins tell.
-use Rattle.kit.specs.Names.{◌≡◌, refl, ap, ap₂, sym, ◌∙◌, Bool, false, ◌&&◌, List, [], ◌∷◌, ◌++◌, map, ℕ, suc, ◌+◌, ◌*◌, arith, length}
+use Rattle.std.specs.Prelude.{◌≡◌, ◌&&◌, ◌∷◌, ◌++◌, ◌+◌, ◌*◌}
+use Rattle.kit.specs.Names.{refl, ap, ap₂, sym, ◌∙◌, Bool, false, List, [], map, ℕ, suc, arith, length}
 use Rattle.kit.specs.Names.{drop, take, get_or, length-map, take_at, ne_eqb, lt-ltb}
 use Rattle.definitions.specs.ContractFile.{boolean, me_name, final_name, parameter_name, Owner, everyone, owned_by, owner_code, type_of}
 use Rattle.definitions.specs.Rewriting.{Variable, always, private_parameters, openings, rewrite_statement, rewrite_function}

@@ -1,5 +1,6 @@
 -- The reads of private parameters are tested one after another.
-use Rattle.kit.specs.Names.{◌≡◌, ap, sym, ◌∙◌, Bool, true, false, not, cond, List, ◌∷◌, map, ℕ, suc, ◌+◌, ◌*◌, ◌<◌, ◌≤◌, add-one, eqb}
+use Rattle.std.specs.Prelude.{◌≡◌, ◌∷◌, ◌+◌, ◌*◌, ◌<◌, ◌≤◌}
+use Rattle.kit.specs.Names.{ap, sym, ◌∙◌, Bool, true, false, not, cond, List, map, ℕ, suc, add-one, eqb}
 use Rattle.kit.specs.Names.{length, drop, drop_of_length-le, drop-cons, eq-eqb, ne_eqb}
 use Rattle.definitions.specs.ContractFile.{Parameter, parameter_at, byte_at, parameter_of, data_type_of}
 use Rattle.definitions.specs.Original.{only}

@@ -1,5 +1,6 @@
 -- The log of a function's events has room, and what it holds is tested.
-use Rattle.kit.specs.Names.{◌≡◌, ap, ap₂, sym, ◌∙◌, Bool, true, ◌&&◌, List, map, ℕ, ◌≤◌, arith, length, drop, take, get_or, length-take-le}
+use Rattle.std.specs.Prelude.{◌≡◌, ◌&&◌, ◌≤◌}
+use Rattle.kit.specs.Names.{ap, ap₂, sym, ◌∙◌, Bool, true, List, map, ℕ, arith, length, drop, take, get_or, length-take-le}
 use Rattle.definitions.specs.Ledger.{all_fit}
 use Rattle.file_accepted.specs.Context.{Context, nodes_in, parameters_in, scope_in, Source}
 use Rattle.file_accepted.specs.Functions.{root_at}

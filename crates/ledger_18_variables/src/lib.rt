@@ -1,7 +1,8 @@
 // Whether the variables of a ledger's last call have the types and the owners that the file asks.
 #![tactic(auto)]
 
-ghost use Rattle.kit.specs.Names.{◌≡◌, map, ◌≤◌, length, get_or, drop};
+ghost use Rattle.std.specs.Prelude.{◌≡◌, ◌≤◌};
+ghost use Rattle.kit.specs.Names.{map, length, get_or, drop};
 ghost use Rattle.definitions.specs.ContractFile.{byte_at};
 ghost use Rattle.definitions.specs.Ledger.{all_fit};
 ghost use Rattle.file_accepted.specs.Context.{Context, parameters_in, scope_in, Source};

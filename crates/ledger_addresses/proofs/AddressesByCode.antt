@@ -1,5 +1,6 @@
 -- The address of each kind of owner code, and that a list of them gives the address of each name.
-use Rattle.kit.specs.Names.{◌≡◌, refl, ap, sym, ◌∙◌, Bool, true, false, cond, not, List, ℕ, ◌+◌, ◌*◌, ◌-◌, ◌<◌, ◌≤◌, arith, ltb, length}
+use Rattle.std.specs.Prelude.{◌≡◌, ◌+◌, ◌*◌, ◌-◌, ◌<◌, ◌≤◌}
+use Rattle.kit.specs.Names.{refl, ap, sym, ◌∙◌, Bool, true, false, cond, not, List, ℕ, arith, ltb, length}
 use Rattle.kit.specs.Names.{get_or, set, length-set, get_or_eq_default, get_or-set_same, get_or-set_other, eq-eqb, ne_eqb, lt-ltb, le-ltb}
 use Rattle.kit.specs.Names.{le-leb, lt-leb, ltb-true, ltb-false}
 use borrow.Author.Count.{below_more}

@@ -1,5 +1,6 @@
 -- The address that each owner code stands for in a call, what putting them down asks, and what it leaves.
-use Rattle.kit.specs.Names.{◌≡◌, cond, List, ℕ, ◌-◌, ◌≤◌, eqb, length}
+use Rattle.std.specs.Prelude.{◌≡◌, ◌-◌, ◌≤◌}
+use Rattle.kit.specs.Names.{cond, List, ℕ, eqb, length}
 use Rattle.definitions.specs.ContractFile.{Name, final_name, parameter_name, byte_at, field_count, is_final_code, is_parameter_code}
 use Rattle.definitions.specs.Original.{address_in}
 use Rattle.file_accepted.specs.Context.{scope_in}

@@ -1,7 +1,7 @@
 // 01, Owners: the addresses that names stand for in a call, put down at their owner codes.
 #![tactic(auto)]
 
-ghost use Rattle.kit.specs.Names.{◌≡◌, ◌<◌, ◌≤◌};
+ghost use Rattle.std.specs.Prelude.{◌≡◌, ◌<◌, ◌≤◌};
 ghost use Rattle.definitions.specs.ContractFile.{final_name, parameter_name, field_count};
 ghost use Rattle.ledger_addresses.specs.Addresses.{named, address_of_code, FewNames, AddressRoom, Addressed};
 

@@ -1,5 +1,6 @@
 -- An operator by its code: the ten that are listed after the first, and the first for any other.
-use Rattle.kit.specs.Names.{◌≡◌, refl, sym, ◌&&◌, ◌||◌, not, ℕ, zero, suc, ◌/◌, ◌%◌, div-zero, mod-zero, eqb, ne_eqb}
+use Rattle.std.specs.Prelude.{◌≡◌, ◌&&◌, ◌||◌, ◌/◌, ◌%◌}
+use Rattle.kit.specs.Names.{refl, sym, not, ℕ, zero, suc, div-zero, mod-zero, eqb, ne_eqb}
 use Rattle.definitions.specs.Basics.{bit, is_true}
 use Rattle.definitions.specs.ContractFile.{plus, operator_of}
 use Rattle.definitions.specs.Original.{operate}

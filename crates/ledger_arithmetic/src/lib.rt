@@ -1,7 +1,7 @@
 // 01, The contract file: "Operators: 0 +, 1 −, 2 ×, 3 /, 4 %, 5 <, 6 ≤, 7 ==, 8 !=, 9 and, 10 or.", worked out on numbers of 32 bits.
 #![tactic(auto)]
 
-ghost use Rattle.kit.specs.Names.{◌≡◌, ◌&&◌, ◌||◌, ◌/◌, ◌%◌};
+ghost use Rattle.std.specs.Prelude.{◌≡◌, ◌&&◌, ◌||◌, ◌/◌, ◌%◌};
 ghost use Rattle.definitions.specs.Basics.{bit, is_true};
 ghost use Rattle.definitions.specs.ContractFile.{plus, minus, times, operator_of};
 ghost use Rattle.definitions.specs.Original.{operate, negate};

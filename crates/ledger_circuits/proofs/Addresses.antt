@@ -1,5 +1,6 @@
 -- Addresses that stand at their owner codes are those of the names in a call.
-use Rattle.kit.specs.Names.{◌≡◌, refl, sym, Bool, true, false, List, ℕ, ◌+◌, ◌<◌, ◌≤◌, arith, ltb, length, get_or, get_or_eq_default}
+use Rattle.std.specs.Prelude.{◌≡◌, ◌+◌, ◌<◌, ◌≤◌}
+use Rattle.kit.specs.Names.{refl, sym, Bool, true, false, List, ℕ, arith, ltb, length, get_or, get_or_eq_default}
 use Rattle.kit.specs.Names.{ltb-true, ltb-false}
 use Rattle.definitions.specs.ContractFile.{Name, me_name, final_name, parameter_name, Scope, field_at, plain_field, boolean, to_everyone}
 use Rattle.definitions.specs.Original.{address_in}

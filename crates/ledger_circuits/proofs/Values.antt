@@ -1,5 +1,6 @@
 -- The value of a circuit by its kind, as code learns it.
-use Rattle.kit.specs.Names.{◌≡◌, List, ℕ, get_or}
+use Rattle.std.specs.Prelude.{◌≡◌}
+use Rattle.kit.specs.Names.{List, ℕ, get_or}
 use Rattle.definitions.specs.ContractFile.{DataType, Operator}
 use Rattle.definitions.specs.Original.{operate, negate}
 use Rattle.definitions.specs.Rewriting.{Circuit}

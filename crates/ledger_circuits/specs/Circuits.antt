@@ -1,5 +1,6 @@
 -- Circuits and constraints as code finds them: nodes in bytes, variables and addresses in flat numbers.
-use Rattle.kit.specs.Names.{Bool, cond, List, [], ◌∷◌, ℕ, zero, suc, ◌+◌, ◌-◌, ◌/◌, eqb, ltb, length, get_or}
+use Rattle.std.specs.Prelude.{◌∷◌, ◌+◌, ◌-◌, ◌/◌}
+use Rattle.kit.specs.Names.{Bool, cond, List, [], ℕ, zero, suc, eqb, ltb, length, get_or}
 use Rattle.definitions.specs.Basics.{all}
 use Rattle.definitions.specs.ContractFile.{Name, me_name, final_name, parameter_name, NodeRecord, owner_of_code}
 use Rattle.definitions.specs.Rewriting.{Circuit, Claim, equals, opens_for_caller, Guard, always, under, Constraint}

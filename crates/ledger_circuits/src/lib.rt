@@ -1,7 +1,7 @@
 // 01, Runs and views: circuits worked out on a call's variables, and the constraints that a verify tests.
 #![tactic(auto)]
 
-ghost use Rattle.kit.specs.Names.{◌≡◌, ◌+◌, ◌*◌, ◌<◌, ◌≤◌};
+ghost use Rattle.std.specs.Prelude.{◌≡◌, ◌+◌, ◌*◌, ◌<◌, ◌≤◌};
 ghost use Rattle.write_trees.specs.Trees.{circuit_in};
 ghost use Rattle.write_trees.specs.Table.{count_of, table_of, Readable};
 ghost use Rattle.ledger_circuits.specs.Circuits.{value_from};

@@ -1,5 +1,6 @@
 -- Laws of flat contents: their number, the content at a position, parts of whole fives, and a content replaced.
-use Rattle.kit.specs.Names.{◌≡◌, refl, ap, sym, List, [], ◌∷◌, ℕ, zero, suc, ◌+◌, ◌*◌, ◌/◌, ◌%◌, ◌<◌, ◌≤◌, arith, length, get_or, set}
+use Rattle.std.specs.Prelude.{◌≡◌, ◌∷◌, ◌+◌, ◌*◌, ◌/◌, ◌%◌, ◌<◌, ◌≤◌}
+use Rattle.kit.specs.Names.{refl, ap, sym, List, [], ℕ, zero, suc, arith, length, get_or, set}
 use Rattle.kit.specs.Names.{get_or_eq_default, set_out, sets-eq, ne_eqb}
 use Rattle.memory_buffer.specs.Buffer.{stored}
 use Rattle.definitions.specs.Ledger as ledger

@@ -1,5 +1,6 @@
 -- A content as code holds it, and contents as flat numbers: tag (0 plain, else a cell), owner, call, index and value of each.
-use Rattle.kit.specs.Names.{cond, List, [], ◌∷◌, ℕ, ◌%◌, ◌<◌, eqb}
+use Rattle.std.specs.Prelude.{◌∷◌, ◌%◌, ◌<◌}
+use Rattle.kit.specs.Names.{cond, List, [], ℕ, eqb}
 use Rattle.definitions.specs.Ledger as ledger
 use Rattle.ledger_contents.specs.declared.Content.{Content}
 use Rattle.ledger_contents.specs.declared.Content.TheVariants.{Plain, Cell}

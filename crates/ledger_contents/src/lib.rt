@@ -1,7 +1,8 @@
 // What a place, a parameter or a variable holds, and a list of such contents as flat numbers, five a content.
 #![tactic(auto)]
 
-ghost use Rattle.kit.specs.Names.{◌≡◌, ◌+◌, ◌*◌, ◌<◌, ◌≤◌, length, set};
+ghost use Rattle.std.specs.Prelude.{◌≡◌, ◌+◌, ◌*◌, ◌<◌, ◌≤◌};
+ghost use Rattle.kit.specs.Names.{length, set};
 ghost use Rattle.definitions.specs.Ledger.{content_at, plain_number, opened_number};
 ghost use Rattle.memory_buffer.specs.Buffer.{stored};
 ghost use Rattle.ledger_contents.specs.Contents.{content_of_code, contents_of, five};

@@ -1,5 +1,6 @@
 -- Arguments against parameters, one after another.
-use Rattle.kit.specs.Names.{◌≡◌, refl, ap, ap₂, sym, ◌∙◌, Bool, true, false, ◌||◌, not, List, [], ◌∷◌, zip_with, ℕ, suc, ◌+◌, ◌*◌, ◌<◌, ◌≤◌}
+use Rattle.std.specs.Prelude.{◌≡◌, ◌||◌, ◌∷◌, ◌+◌, ◌*◌, ◌<◌, ◌≤◌}
+use Rattle.kit.specs.Names.{refl, ap, ap₂, sym, ◌∙◌, Bool, true, false, not, List, [], zip_with, ℕ, suc}
 use Rattle.kit.specs.Names.{add-one, length, get_or, drop, drop_of_length-le, drop-cons, eq-eqb, ne_eqb}
 use Rattle.definitions.specs.Basics.{any}
 use Rattle.definitions.specs.ContractFile.{Parameter, Function, boolean, parameter_at, is_of_type, byte_at, data_type_of, function_count, parameter_of}

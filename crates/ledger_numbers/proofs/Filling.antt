@@ -1,5 +1,6 @@
 -- A list filled from its front on until it is the list meant.
-use Rattle.kit.specs.Names.{◌≡◌, ap, ap₂, sym, ◌∙◌, List, [], ◌∷◌, ◌++◌, ℕ, suc, ◌+◌, ◌<◌, ◌≤◌, add-one, length, get_or, take, set, take-suc}
+use Rattle.std.specs.Prelude.{◌≡◌, ◌∷◌, ◌++◌, ◌+◌, ◌<◌, ◌≤◌}
+use Rattle.kit.specs.Names.{ap, ap₂, sym, ◌∙◌, List, [], ℕ, suc, add-one, length, get_or, take, set, take-suc}
 use Rattle.kit.specs.Names.{take-suc-set, take_all}
 
 module _ {A : Type 0} (target : List A) where

@@ -1,5 +1,6 @@
 -- The numbers of contents, one after another.
-use Rattle.kit.specs.Names.{◌≡◌, ap, sym, ◌∙◌, List, map, ℕ, ◌+◌, ◌/◌, ◌<◌, ◌≤◌, arith, length, take, set, length-map, get_or_map}
+use Rattle.std.specs.Prelude.{◌≡◌, ◌+◌, ◌/◌, ◌<◌, ◌≤◌}
+use Rattle.kit.specs.Names.{ap, sym, ◌∙◌, List, map, ℕ, arith, length, take, set, length-map, get_or_map}
 use Rattle.kit.specs.Names.{take_all}
 use Rattle.definitions.specs.Ledger.{Content, plain, content_at}
 use Rattle.ledger_contents.specs.Contents.{contents_of}

@@ -1,5 +1,6 @@
 -- 01, Numbers: "19. Arguments differ in number from the parameters, or one is outside its type."
-use Rattle.kit.specs.Names.{Bool, ◌||◌, not, List, zip_with, ℕ, eqb, length}
+use Rattle.std.specs.Prelude.{◌||◌}
+use Rattle.kit.specs.Names.{Bool, not, List, zip_with, ℕ, eqb, length}
 use Rattle.definitions.specs.Basics.{any}
 use Rattle.definitions.specs.ContractFile.{Parameter, is_of_type}
 

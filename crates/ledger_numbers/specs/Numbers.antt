@@ -1,5 +1,6 @@
 -- The number of each content, from flat contents.
-use Rattle.kit.specs.Names.{◌≡◌, List, map, ℕ, ◌/◌, length, take}
+use Rattle.std.specs.Prelude.{◌≡◌, ◌/◌}
+use Rattle.kit.specs.Names.{List, map, ℕ, length, take}
 use Rattle.definitions.specs.Ledger.{Content}
 use Rattle.ledger_contents.specs.Contents.{contents_of}
 

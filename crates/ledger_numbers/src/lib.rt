@@ -1,7 +1,8 @@
 // 01, Runs and views: a call's arguments against its function's parameters, and the numbers of a ledger's contents.
 #![tactic(auto)]
 
-ghost use Rattle.kit.specs.Names.{◌≡◌, ◌/◌, ◌≤◌, length};
+ghost use Rattle.std.specs.Prelude.{◌≡◌, ◌/◌, ◌≤◌};
+ghost use Rattle.kit.specs.Names.{length};
 ghost use Rattle.definitions.specs.ContractFile.{is_of_type, data_type_of};
 ghost use Rattle.definitions.specs.Ledger.{plain_number, opened_number};
 ghost use Rattle.file_accepted.specs.Context.{parameters_in};

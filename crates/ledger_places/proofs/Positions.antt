@@ -1,5 +1,6 @@
 -- Where a place stands, told one field at a time from the first.
-use Rattle.kit.specs.Names.{◌≡◌, refl, ap, sym, ◌∙◌, cond, List, [], ◌∷◌, ℕ, zero, suc, ◌+◌, ◌*◌, ◌-◌, ◌<◌, ◌≤◌, arith, add-one, length}
+use Rattle.std.specs.Prelude.{◌≡◌, ◌∷◌, ◌+◌, ◌*◌, ◌-◌, ◌<◌, ◌≤◌}
+use Rattle.kit.specs.Names.{refl, ap, sym, ◌∙◌, cond, List, [], ℕ, zero, suc, arith, add-one, length}
 use Rattle.kit.specs.Names.{drop, length-map, drop_of_length-le, drop-cons, ne_eqb}
 use Rattle.definitions.specs.ContractFile.{Field, field_at, is_mapping, byte_at, field_count, field_records, field_of, shape_of}
 use Rattle.definitions.specs.Reading.{fields_read}

@@ -1,7 +1,8 @@
 // 01, Runs and views: "places in field order (a mapping is 16)": where a place stands, and numbers read and replaced there.
 #![tactic(auto)]
 
-ghost use Rattle.kit.specs.Names.{◌≡◌, ◌+◌, ◌*◌, ◌≤◌, ◌<◌, get_or, set};
+ghost use Rattle.std.specs.Prelude.{◌≡◌, ◌+◌, ◌*◌, ◌≤◌, ◌<◌};
+ghost use Rattle.kit.specs.Names.{get_or, set};
 ghost use Rattle.definitions.specs.ContractFile.{field_at, field_count};
 ghost use Rattle.definitions.specs.Original.{place_count, position};
 ghost use Rattle.file_accepted.specs.Context.{fields_in};

@@ -1,5 +1,6 @@
 -- A type by its code, a field's owner by its byte, and what a form asks by its two parts.
-use Rattle.kit.specs.Names.{◌≡◌, refl, ap, sym, ◌∙◌, Bool, true, false, ◌&&◌, List, ℕ, ◌+◌, ◌*◌, ◌-◌, ◌<◌, ltb, eq-eqb, ne_eqb, lt-ltb}
+use Rattle.std.specs.Prelude.{◌≡◌, ◌&&◌, ◌+◌, ◌*◌, ◌-◌, ◌<◌}
+use Rattle.kit.specs.Names.{refl, ap, sym, ◌∙◌, Bool, true, false, List, ℕ, ltb, eq-eqb, ne_eqb, lt-ltb}
 use Rattle.definitions.specs.ContractFile.{DataType, Field, field_at, is_of_type, byte_at, field_count, field_of, data_type_of, field_owner_of_code}
 use Rattle.definitions.specs.Original.{anyone, only, place_reader}
 use Rattle.definitions.specs.Ledger as ledger

@@ -1,5 +1,6 @@
 -- A reader as code holds it, and the form that a type's code and a reader make.
-use Rattle.kit.specs.Names.{Bool, true, false, ℕ, ◌<◌, eqb}
+use Rattle.std.specs.Prelude.{◌<◌}
+use Rattle.kit.specs.Names.{Bool, true, false, ℕ, eqb}
 use Rattle.definitions.specs.Ledger as ledger
 use Rattle.definitions.specs.Original as original
 use Rattle.definitions.specs.ContractFile.{data_type_of}

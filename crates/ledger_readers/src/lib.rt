@@ -1,7 +1,7 @@
 // Who can read a value, the content that a value is for its readers, and whether a content is what a form asks.
 #![tactic(auto)]
 
-ghost use Rattle.kit.specs.Names.{◌≡◌, ◌-◌, ◌<◌, ◌≤◌};
+ghost use Rattle.std.specs.Prelude.{◌≡◌, ◌-◌, ◌<◌, ◌≤◌};
 ghost use Rattle.definitions.specs.Ledger.{content_for, fits};
 ghost use Rattle.definitions.specs.ContractFile.{is_of_type, field_at, field_count, data_type_of};
 ghost use Rattle.definitions.specs.Original.{place_reader, final_address};

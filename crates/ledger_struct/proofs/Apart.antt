@@ -1,5 +1,6 @@
 -- The parts that a ledger was taken into: how long they may be, and that they make it again.
-use Rattle.kit.specs.Names.{◌≡◌, List, ℕ, ◌*◌, ◌≤◌, min, arith, length, take}
+use Rattle.std.specs.Prelude.{◌≡◌, ◌*◌, ◌≤◌}
+use Rattle.kit.specs.Names.{List, ℕ, min, arith, length, take}
 use Rattle.definitions.specs.Ledger as ledger
 use Rattle.ledger_contents.specs.Contents.{contents_of}
 use Rattle.ledger_struct.specs.declared.LastCall.{LastCall}

@@ -1,5 +1,6 @@
 -- Steps of the loops between places and flat numbers.
-use Rattle.kit.specs.Names.{◌≡◌, refl, ap, sym, ◌∙◌, Bool, true, false, List, [], ◌∷◌, ◌++◌, map, ℕ, ◌+◌, ◌*◌, ◌/◌, ◌<◌, ◌≤◌, min, arith}
+use Rattle.std.specs.Prelude.{◌≡◌, ◌∷◌, ◌++◌, ◌+◌, ◌*◌, ◌/◌, ◌<◌, ◌≤◌}
+use Rattle.kit.specs.Names.{refl, ap, sym, ◌∙◌, Bool, true, false, List, [], map, ℕ, min, arith}
 use Rattle.kit.specs.Names.{add-one, leb, length, get_or, set, take, drop, replicate, length-map, length-append, length-drop, get_or_map, take-suc}
 use Rattle.kit.specs.Names.{take-suc-set, take_all, take_at, length-take-le, leb-true, leb-false}
 use Rattle.definitions.specs.Ledger as ledger

@@ -1,5 +1,6 @@
 -- What the structs mean: contents that are put into places are read back, and what is laid over such a struct is one.
-use Rattle.kit.specs.Names.{◌≡◌, refl, sym, Bool, true, false, cond, List, [], ◌∷◌, map, ℕ, length, take, length-map}
+use Rattle.std.specs.Prelude.{◌≡◌, ◌∷◌}
+use Rattle.kit.specs.Names.{refl, sym, Bool, true, false, cond, List, [], map, ℕ, length, take, length-map}
 use Rattle.definitions.specs.Basics.{is_zero}
 use Rattle.definitions.specs.Ledger as ledger
 use Rattle.ledger_contents.specs.Contents.{content_of_code, content_of_place}

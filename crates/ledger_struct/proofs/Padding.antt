@@ -1,5 +1,6 @@
 -- Laws of a list that is filled up: how a loop fills it, its front.
-use Rattle.kit.specs.Names.{◌≡◌, refl, List, [], ◌∷◌, ◌++◌, append_assoc, ℕ, suc, ◌+◌, ◌-◌, ◌<◌, ◌≤◌, arith, add-one, length, get_or, set}
+use Rattle.std.specs.Prelude.{◌≡◌, ◌∷◌, ◌++◌, ◌+◌, ◌-◌, ◌<◌, ◌≤◌}
+use Rattle.kit.specs.Names.{refl, List, [], append_assoc, ℕ, suc, arith, add-one, length, get_or, set}
 use Rattle.kit.specs.Names.{take, replicate, length-append, take-suc, set_at, take_at, length-take-le}
 use Rattle.ledger_struct.specs.Whole.{padded}
 

@@ -1,5 +1,6 @@
 -- The ledger of the definitions that a ledger of the code is.
-use Rattle.kit.specs.Names.{◌≡◌, List, map, ℕ, ◌*◌, ◌≤◌, length, take}
+use Rattle.std.specs.Prelude.{◌≡◌, ◌*◌, ◌≤◌}
+use Rattle.kit.specs.Names.{List, map, ℕ, length, take}
 use Rattle.definitions.specs.Ledger as ledger
 use Rattle.ledger_contents.specs.Contents.{content_of_place, contents_of}
 use Rattle.ledger_contents.specs.declared.Place.{Place}

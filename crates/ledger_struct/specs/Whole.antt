@@ -1,5 +1,6 @@
 -- The one ledger of the code that a ledger of the definitions makes, and what a call hands back: no part of a struct is left open.
-use Rattle.kit.specs.Names.{◌≡◌, cond, List, ◌++◌, map, ℕ, ◌-◌, length, replicate}
+use Rattle.std.specs.Prelude.{◌≡◌, ◌++◌, ◌-◌}
+use Rattle.kit.specs.Names.{cond, List, map, ℕ, length, replicate}
 use Rattle.definitions.specs.Basics.{is_zero}
 use Rattle.definitions.specs.Ledger as ledger
 use Rattle.ledger_contents.specs.declared.Content.{Content}

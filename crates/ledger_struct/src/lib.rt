@@ -1,7 +1,8 @@
 // The ledger as code holds it, and its contents to flat numbers and back.
 #![tactic(auto)]
 
-ghost use Rattle.kit.specs.Names.{◌≡◌, ◌*◌, ◌/◌, ◌≤◌, min, length};
+ghost use Rattle.std.specs.Prelude.{◌≡◌, ◌*◌, ◌/◌, ◌≤◌};
+ghost use Rattle.kit.specs.Names.{min, length};
 ghost use Rattle.ledger_contents.specs.Contents.{contents_of};
 ghost use Rattle.ledger_struct.specs.Ledgers.{ledger_of, contents_in, Flat};
 ghost use Rattle.ledger_struct.specs.Whole.{places_for};

@@ -1,5 +1,6 @@
 -- The type of an expression by its kind, and of fields, parameters and operators by their codes.
-use Rattle.kit.specs.Names.{◌≡◌, refl, ap, sym, ◌∙◌, List, [], ◌∷◌, ℕ, zero, suc, ◌+◌, ◌*◌, ◌<◌, ◌≤◌, arith, get_or_eq_default}
+use Rattle.std.specs.Prelude.{◌≡◌, ◌∷◌, ◌+◌, ◌*◌, ◌<◌, ◌≤◌}
+use Rattle.kit.specs.Names.{refl, ap, sym, ◌∙◌, List, [], ℕ, zero, suc, arith, get_or_eq_default}
 use Rattle.definitions.specs.ContractFile.{DataType, boolean, address, Owner, Operator, plus, minus, times, divide, remainder, less, less_or_equal, equal, unequal, conjunction, disjunction, Expression, Scope, Field, Parameter, field_at, parameter_at, byte_at, field_count, data_type_of, field_of, parameter_of, operator_of, result_type, type_of}
 use Rattle.file_accepted.specs.Context.{fields_in, parameters_in}
 use Rattle.file_accepted.proofs.Declarations.{field_declared, field_missing, parameter_declared, parameter_missing}

@@ -1,7 +1,7 @@
 // The data types of expressions, read from the file.
 #![tactic(auto)]
 
-ghost use Rattle.kit.specs.Names.{◌≡◌, ◌<◌, ◌≤◌};
+ghost use Rattle.std.specs.Prelude.{◌≡◌, ◌<◌, ◌≤◌};
 ghost use Rattle.definitions.specs.ContractFile.{field_at, parameter_at, byte_at, field_count, node_count, data_type_of, operator_of, result_type};
 ghost use Rattle.definitions.specs.ContractFile.{type_of};
 ghost use Rattle.theory_trees.specs.Trees.{expression_in};

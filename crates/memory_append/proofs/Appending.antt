@@ -1,5 +1,6 @@
 -- Laws of appending: nothing, one run behind another, and what room is left.
-use Rattle.kit.specs.Names.{◌≡◌, refl, ap, sym, ◌∙◌, List, [], ◌∷◌, ◌++◌, append-nil, append_assoc, ℕ, ◌+◌, ◌<◌, ◌≤◌, arith, add-one}
+use Rattle.std.specs.Prelude.{◌≡◌, ◌∷◌, ◌++◌, ◌+◌, ◌<◌, ◌≤◌}
+use Rattle.kit.specs.Names.{refl, ap, sym, ◌∙◌, List, [], append-nil, append_assoc, ℕ, arith, add-one}
 use Rattle.kit.specs.Names.{add_assoc, length, get_or, take, drop, length-append, length-take-le, take-suc, take_all, take-append-le}
 use Rattle.kit.specs.Names.{take-take, drop_at}
 use Rattle.memory_buffer.specs.Buffer.{stored}

@@ -1,5 +1,6 @@
 -- What a lent buffer holds once some values are appended from a place on, and the place behind them.
-use Rattle.kit.specs.Names.{◌≡◌, List, ◌++◌, ℕ, ◌+◌, length}
+use Rattle.std.specs.Prelude.{◌≡◌, ◌++◌, ◌+◌}
+use Rattle.kit.specs.Names.{List, ℕ, length}
 use Rattle.memory_buffer.specs.Buffer.{stored}
 
 pub record Appended (held after : List ℕ) (at : ℕ) (values : List ℕ) (end : ℕ) : Type 0 where

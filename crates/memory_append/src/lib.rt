@@ -1,7 +1,8 @@
 // Bytes appended to those that a lent buffer already holds up to a place; the answer is the place behind them.
 #![tactic(auto)]
 
-ghost use Rattle.kit.specs.Names.{[], ◌∷◌, ◌+◌, ◌%◌, ◌/◌, ◌≤◌, length};
+ghost use Rattle.std.specs.Prelude.{◌∷◌, ◌+◌, ◌%◌, ◌/◌, ◌≤◌};
+ghost use Rattle.kit.specs.Names.{[], length};
 ghost use Rattle.memory_append.specs.Append.{Appended};
 
 use memory_buffer::put_byte;

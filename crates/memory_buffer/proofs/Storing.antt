@@ -1,5 +1,6 @@
 -- Laws of `stored`: its length, nothing stored, one value, and one run stored right behind another.
-use Rattle.kit.specs.Names.{◌≡◌, ap, sym, ◌∙◌, List, [], ◌∷◌, ◌++◌, append-nil, append_assoc, ℕ, ◌+◌, ◌<◌, ◌≤◌, arith, add-zero, add_assoc}
+use Rattle.std.specs.Prelude.{◌≡◌, ◌∷◌, ◌++◌, ◌+◌, ◌<◌, ◌≤◌}
+use Rattle.kit.specs.Names.{ap, sym, ◌∙◌, List, [], append-nil, append_assoc, ℕ, arith, add-zero, add_assoc}
 use Rattle.kit.specs.Names.{length, set, take, drop, length-append, length-drop, take-append-drop, sets-eq, length-take-le, take_at}
 use Rattle.kit.specs.Names.{drop-append-add, drop-drop}
 use Rattle.memory_buffer.specs.Buffer.{stored}

@@ -1,7 +1,8 @@
 // Values written over a lent buffer, one at a time. Larger runs follow by the laws of `stored`.
 #![tactic(auto)]
 
-ghost use Rattle.kit.specs.Names.{◌≡◌, [], ◌∷◌, ◌<◌, length};
+ghost use Rattle.std.specs.Prelude.{◌≡◌, ◌∷◌, ◌<◌};
+ghost use Rattle.kit.specs.Names.{[], length};
 ghost use Rattle.memory_buffer.specs.Buffer.{stored};
 
 // A store by a function of its own, so that its effect is one equation with `stored`.

@@ -1,7 +1,7 @@
 // The arguments that a program was started with: names of files, and no options so far.
 #![tactic(auto)]
 
-ghost use Rattle.kit.specs.Names.{◌≡◌, ◌≤◌};
+ghost use Rattle.std.specs.Prelude.{◌≡◌, ◌≤◌};
 ghost use Rattle.program_arguments.specs.Options.{is_option};
 
 use std::env::{Env, FillError};

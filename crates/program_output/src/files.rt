@@ -1,5 +1,7 @@
 // A written file under its name, wholly or not at all: it is made beside that name and takes it at the end.
-ghost use Rattle.kit.specs.Names.{◌≡◌, ◌≤◌, length};
+ghost use Rattle.std.specs.Prelude.{Some, pos, ◌≡◌, ◌≤◌};
+ghost use Rattle.kit.specs.Names.{length};
+ghost use Rattle.std.specs.IoError.{error_kind, raw_os_error};
 ghost use Rattle.program_output.specs.Counts.{all_or_none};
 
 use crate::{print, tell, write_all};
@@ -103,12 +105,16 @@ fn replace_named(
 }
 
 // What is told of a name that is not text.
-pub fn not_text() -> Error {
+pub fn not_text() -> Error
+    ensures { error_kind result ≡ ErrorKind.InvalidInput }
+{
     Error::new(ErrorKind::InvalidInput, "the name is not UTF-8")
 }
 
-// What is told of an argument that is longer than the longest name.
-pub fn too_long() -> Error {
+// What is told of an argument that is longer than the longest name: the system's number for that.
+pub fn too_long() -> Error
+    ensures { raw_os_error result ≡ Some (pos 36) }
+{
     Error::from_raw_os_error(36)
 }
 

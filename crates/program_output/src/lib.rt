@@ -4,7 +4,8 @@
 
 mod files;
 
-ghost use Rattle.kit.specs.Names.{◌+◌, ◌≤◌, length};
+ghost use Rattle.std.specs.Prelude.{◌+◌, ◌≤◌};
+ghost use Rattle.kit.specs.Names.{length};
 ghost use Rattle.definitions.specs.Report.{refused_line};
 
 pub use files::{Kept, deliver, not_text, too_long, write_file};

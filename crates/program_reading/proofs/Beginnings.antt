@@ -1,5 +1,6 @@
 -- The beginning of an input at the front of a room, and what is read behind it.
-use Rattle.kit.specs.Names.{◌≡◌, refl, sym, ap, ◌∙◌, Bool, true, false, List, ℕ, ◌≤◌, min, arith, length, take, length-take-le}
+use Rattle.std.specs.Prelude.{◌≡◌, ◌≤◌}
+use Rattle.kit.specs.Names.{refl, sym, ap, ◌∙◌, Bool, true, false, List, ℕ, min, arith, length, take, length-take-le}
 use Rattle.memory_buffer.specs.Buffer.{stored}
 use Rattle.memory_buffer.proofs.Storing.{front_stored}
 use Rattle.program_reading.specs.Inputs.{where_ready, fitting, Begins}

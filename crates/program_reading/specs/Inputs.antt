@@ -1,5 +1,6 @@
 -- What a program is handed of an input: nothing of one that could not be read, and the beginning of a long one at the front of its room.
-use Rattle.kit.specs.Names.{◌≡◌, Bool, cond, List, ℕ, min, length, take}
+use Rattle.std.specs.Prelude.{◌≡◌}
+use Rattle.kit.specs.Names.{Bool, cond, List, ℕ, min, length, take}
 
 abbrev pub where_ready : Bool → ℕ → ℕ
 where_ready ready long = cond ready long 0

@@ -2,7 +2,8 @@
 // stand here, apart from the arguments and the rooms (program_input).
 #![tactic(auto)]
 
-ghost use Rattle.kit.specs.Names.{◌≡◌, ◌≤◌, min, length, take};
+ghost use Rattle.std.specs.Prelude.{◌≡◌, ◌≤◌};
+ghost use Rattle.kit.specs.Names.{min, length, take};
 ghost use Rattle.io.specs.Counts.{IsPrefixLen};
 ghost use Rattle.program_reading.specs.Inputs.{where_ready, fitting, Begins};
 

@@ -3,7 +3,8 @@
 // file that the one argument names, or standard input.
 #![tactic(auto)]
 
-ghost use Rattle.kit.specs.Names.{◌≡◌, length};
+ghost use Rattle.std.specs.Prelude.{◌≡◌};
+ghost use Rattle.kit.specs.Names.{length};
 
 use call::Called;
 use ledger_struct::Ledger;

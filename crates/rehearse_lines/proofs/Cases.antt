@@ -1,5 +1,6 @@
 -- Cases that pin what a line is: "17 00ff9a" and an empty view.
-use Rattle.kit.specs.Names.{◌≡◌, refl, [], ◌∷◌}
+use Rattle.std.specs.Prelude.{◌≡◌, ◌∷◌}
+use Rattle.kit.specs.Names.{refl, []}
 use Rattle.definitions.specs.Basics.{flat_map}
 use Rattle.definitions.specs.Report.{digits}
 use Rattle.rehearse_lines.specs.Lines.{view_line}

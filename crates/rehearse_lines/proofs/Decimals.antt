@@ -1,5 +1,6 @@
 -- A number of one byte in decimal: one, two or three digits.
-use Rattle.kit.specs.Names.{◌≡◌, refl, ap, sym, ◌∙◌, Bool, true, false, List, [], ◌∷◌, ◌++◌, ℕ, ◌+◌, ◌/◌, ◌%◌, ◌<◌, ◌≤◌, arith, ltb, length}
+use Rattle.std.specs.Prelude.{◌≡◌, ◌∷◌, ◌++◌, ◌+◌, ◌/◌, ◌%◌, ◌<◌, ◌≤◌}
+use Rattle.kit.specs.Names.{refl, ap, sym, ◌∙◌, Bool, true, false, List, [], ℕ, arith, ltb, length}
 use Rattle.kit.specs.Names.{ltb-true, ltb-false}
 use Rattle.definitions.specs.Report.{digits, decimal}
 use Rattle.memory_append.specs.Append.{Appended}

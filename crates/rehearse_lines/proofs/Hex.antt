@@ -1,5 +1,6 @@
 -- Hexadecimal digits, two for each byte, appended one byte after another.
-use Rattle.kit.specs.Names.{◌≡◌, refl, List, [], ◌∷◌, ◌++◌, ℕ, ◌+◌, ◌*◌, ◌/◌, ◌%◌, ◌<◌, ◌≤◌, arith, add-one, length, get_or, drop}
+use Rattle.std.specs.Prelude.{◌≡◌, ◌∷◌, ◌++◌, ◌+◌, ◌*◌, ◌/◌, ◌%◌, ◌<◌, ◌≤◌}
+use Rattle.kit.specs.Names.{refl, List, [], ℕ, arith, add-one, length, get_or, drop}
 use Rattle.kit.specs.Names.{drop_of_length-le, drop-cons, lt-ltb, le-ltb}
 use Rattle.definitions.specs.Basics.{flat_map}
 use Rattle.memory_append.specs.Append.{Appended, Appending}

@@ -1,5 +1,6 @@
 -- A line of a rehearsal: "the number in decimal, a space, and the party's view after it in lowercase hexadecimal".
-use Rattle.kit.specs.Names.{◌≡◌, Bool, cond, List, [], ◌∷◌, ◌++◌, ℕ, ◌+◌, ◌*◌, ◌/◌, ◌%◌, ◌≤◌, ltb, leb, length}
+use Rattle.std.specs.Prelude.{◌≡◌, ◌∷◌, ◌++◌, ◌+◌, ◌*◌, ◌/◌, ◌%◌, ◌≤◌}
+use Rattle.kit.specs.Names.{Bool, cond, List, [], ℕ, ltb, leb, length}
 use Rattle.memory_buffer.specs.Buffer.{stored}
 use Rattle.definitions.specs.Basics.{flat_map}
 use Rattle.definitions.specs.Report.{decimal}

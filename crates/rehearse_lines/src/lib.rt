@@ -1,7 +1,8 @@
 // The lines that a rehearsal prints: a number in decimal, a space, a view in lowercase hexadecimal, a line feed.
 #![tactic(auto)]
 
-ghost use Rattle.kit.specs.Names.{◌≡◌, ◌+◌, ◌*◌, ◌<◌, ◌≤◌, length};
+ghost use Rattle.std.specs.Prelude.{◌≡◌, ◌+◌, ◌*◌, ◌<◌, ◌≤◌};
+ghost use Rattle.kit.specs.Names.{length};
 ghost use Rattle.memory_append.specs.Append.{Appended};
 ghost use Rattle.definitions.specs.Report.{decimal};
 ghost use Rattle.rehearse_lines.specs.Lines.{hex_digit, hex_byte, hex_text, view_line, LineWritten};

@@ -1,5 +1,6 @@
 -- Calls one after another, and arguments one after another.
-use Rattle.kit.specs.Names.{◌≡◌, ap, sym, ◌∙◌, true, List, ◌∷◌, ◌++◌, append-nil, ℕ, zero, suc, ◌+◌, ◌-◌, ◌<◌, ◌≤◌, arith, add-one, length}
+use Rattle.std.specs.Prelude.{◌≡◌, ◌∷◌, ◌++◌, ◌+◌, ◌-◌, ◌<◌, ◌≤◌}
+use Rattle.kit.specs.Names.{ap, sym, ◌∙◌, true, List, append-nil, ℕ, zero, suc, arith, add-one, length}
 use Rattle.kit.specs.Names.{set, take, take-suc-set, append_snoc, eqb-true}
 use Rattle.theory_laws.proofs.Records.{force_is}
 use Rattle.rehearse_scripts.specs.Scripts.{four_bytes_at, call_count, calls_at, call_end, calls_end, is_script, numbers_at}

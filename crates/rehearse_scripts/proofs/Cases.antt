@@ -1,5 +1,6 @@
 -- Cases that pin what a script is: one with nothing, one of a file, an address and a call, and the same cut short and running on.
-use Rattle.kit.specs.Names.{◌≡◌, refl, true, false, List, [], ◌∷◌, ◌++◌, ℕ, take}
+use Rattle.std.specs.Prelude.{◌≡◌, ◌∷◌, ◌++◌}
+use Rattle.kit.specs.Names.{refl, true, false, List, [], ℕ, take}
 use Rattle.rehearse_scripts.specs.Scripts.{is_script, calls_end, numbers_at, file_of, addresses_of, arguments_of}
 
 -- A file of 3 bytes, address 9, party 4, and function 2 called by 5 with the argument 1 + 256 * 1.

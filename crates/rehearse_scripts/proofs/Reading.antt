@@ -1,5 +1,6 @@
 -- Parts that are read one after another are those of the script.
-use Rattle.kit.specs.Names.{◌≡◌, ap, sym, ◌∙◌, Bool, true, false, List, [], ℕ, ◌+◌, ◌*◌, ◌-◌, ◌≤◌, arith, eqb, length}
+use Rattle.std.specs.Prelude.{◌≡◌, ◌+◌, ◌*◌, ◌-◌, ◌≤◌}
+use Rattle.kit.specs.Names.{ap, sym, ◌∙◌, Bool, true, false, List, [], ℕ, arith, eqb, length}
 use Rattle.definitions.specs.ContractFile.{byte_at, two_bytes_at}
 use Rattle.rehearse_scripts.specs.declared.Script.{Script}
 use Rattle.rehearse_scripts.specs.declared.Call.{Call}

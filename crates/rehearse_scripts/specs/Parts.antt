@@ -1,5 +1,6 @@
 -- What the parts that are read say of their script, and how far they can lie.
-use Rattle.kit.specs.Names.{◌≡◌, List, ℕ, ◌+◌, ◌≤◌, length, take}
+use Rattle.std.specs.Prelude.{◌≡◌, ◌+◌, ◌≤◌}
+use Rattle.kit.specs.Names.{List, ℕ, length, take}
 use Rattle.definitions.specs.ContractFile.{byte_at}
 use Rattle.rehearse_scripts.specs.Scripts.{file_end, addresses_end, call_count, calls_at, call_at, arguments_of}
 use Rattle.rehearse_scripts.specs.declared.Script.{Script}

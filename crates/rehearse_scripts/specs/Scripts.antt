@@ -1,6 +1,7 @@
 -- A rehearsal script: "length of a contract file (2 bytes), the file, count of addresses (1), the addresses, party (1), count of calls (1),
 -- then each call: function (1), caller (1), count of arguments (1), each argument (4). Numbers are low byte first."
-use Rattle.kit.specs.Names.{Bool, cond, List, [], ◌∷◌, ℕ, zero, suc, ◌+◌, ◌*◌, ◌-◌, eqb, length, take, drop}
+use Rattle.std.specs.Prelude.{◌∷◌, ◌+◌, ◌*◌, ◌-◌}
+use Rattle.kit.specs.Names.{Bool, cond, List, [], ℕ, zero, suc, eqb, length, take, drop}
 use Rattle.definitions.specs.Basics.{force}
 use Rattle.definitions.specs.ContractFile.{byte_at, two_bytes_at}
 

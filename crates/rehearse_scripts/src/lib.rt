@@ -1,7 +1,7 @@
 // A rehearsal script's bytes: whether they are one, and where its parts lie.
 #![tactic(auto)]
 
-ghost use Rattle.kit.specs.Names.{◌≡◌, ◌+◌, ◌*◌, ◌≤◌};
+ghost use Rattle.std.specs.Prelude.{◌≡◌, ◌+◌, ◌*◌, ◌≤◌};
 ghost use Rattle.definitions.specs.ContractFile.{two_bytes_at};
 ghost use Rattle.rehearse_scripts.specs.Scripts.{four_bytes_at, calls_end, is_script, file_of, addresses_of, argument_at};
 ghost use Rattle.rehearse_scripts.specs.Parts.{IsScriptParts, IsCall, ArgumentsStand};

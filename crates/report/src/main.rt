@@ -2,7 +2,8 @@
 // file that the one argument names, or standard input.
 #![tactic(auto)]
 
-ghost use Rattle.kit.specs.Names.{◌≡◌, length};
+ghost use Rattle.std.specs.Prelude.{◌≡◌};
+ghost use Rattle.kit.specs.Names.{length};
 
 use program_input::{Beginning, begin_input, contract_room, read_rest, short_contract_room};
 use program_output::{print, print_refused};

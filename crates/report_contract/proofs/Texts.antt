@@ -1,5 +1,6 @@
 -- The report's text: what it is of an accepted file, how long it can be, and what stands in the output.
-use Rattle.kit.specs.Names.{◌≡◌, refl, ap, sym, ◌∙◌, Bool, true, false, cond, List, [], ◌∷◌, ℕ, zero, suc, ◌+◌, ◌-◌, ◌≤◌, arith, ltb}
+use Rattle.std.specs.Prelude.{◌≡◌, ◌∷◌, ◌+◌, ◌-◌, ◌≤◌}
+use Rattle.kit.specs.Names.{refl, ap, sym, ◌∙◌, Bool, true, false, cond, List, [], ℕ, zero, suc, arith, ltb}
 use Rattle.kit.specs.Names.{length, take, drop, replicate, length-take-le, take_at, eq-eqb, ne_eqb}
 use Rattle.definitions.specs.Basics.{first_that_holds}
 use Rattle.definitions.specs.ContractFile.{function_count}

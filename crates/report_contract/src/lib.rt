@@ -2,7 +2,8 @@
 // 02, Note 2: it prints the counts that writing hands back, and counts nothing itself. Note 3: their total stands last.
 #![tactic(auto)]
 
-ghost use Rattle.kit.specs.Names.{◌≡◌, ◌≤◌, length};
+ghost use Rattle.std.specs.Prelude.{◌≡◌, ◌≤◌};
+ghost use Rattle.kit.specs.Names.{length};
 ghost use Rattle.definitions.specs.Crossings.{sixteen, crossings_in};
 ghost use Rattle.definitions.specs.Numbers.{check_number};
 ghost use Rattle.definitions.specs.Report.{report_text, report_number, report_length, output_after_report};

@@ -1,5 +1,6 @@
 -- The theorems cited at file A, at a text that they rule out, and where their hypothesis does not hold.
-use Rattle.kit.specs.Names.{◌≡◌, ap, sym, ◌∙◌, List, [], ◌∷◌, map, ℕ, arith, length, replicate, get_or, take, drop}
+use Rattle.std.specs.Prelude.{◌≡◌, ◌∷◌}
+use Rattle.kit.specs.Names.{ap, sym, ◌∙◌, List, [], map, ℕ, arith, length, replicate, get_or, take, drop}
 use Rattle.definitions.specs.Crossings.{total_in}
 use Rattle.definitions.specs.Report.{report_number}
 use Rattle.definitions.specs.Rewriting.{written_file}

@@ -1,6 +1,7 @@
 -- Lines and decimal numbers read back are those that were printed.
-use Rattle.kit.specs.Names.{◌≡◌, refl, ap, sym, ◌∙◌, Bool, true, false, cond, List, [], ◌∷◌, ◌++◌, map, append_assoc, append-nil, ℕ, zero}
-use Rattle.kit.specs.Names.{suc, ◌+◌, ◌*◌, ◌-◌, ◌/◌, ◌%◌, ◌^◌, ◌<◌, ◌≤◌, arith, ltb, ltb-true, ne_eqb}
+use Rattle.std.specs.Prelude.{◌≡◌, ◌∷◌, ◌++◌, ◌+◌, ◌*◌, ◌-◌, ◌/◌, ◌%◌, ◌^◌, ◌<◌, ◌≤◌}
+use Rattle.kit.specs.Names.{refl, ap, sym, ◌∙◌, Bool, true, false, cond, List, [], map, append_assoc, append-nil, ℕ, zero}
+use Rattle.kit.specs.Names.{suc, arith, ltb, ltb-true, ne_eqb}
 use Rattle.definitions.specs.Basics.{all, flat_map}
 use Rattle.definitions.specs.Report.{Tally, digits, decimal, tally_line}
 use Rattle.theory_laws.proofs.TruthValues.{and_left, and_right}

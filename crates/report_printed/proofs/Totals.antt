@@ -1,7 +1,8 @@
 -- 02, Note 3: of the number that is printed behind `total`: it "must equal the number of variables with origins 0 to 3 in the written file, counted
 -- there, and also the sum of the lines above". "a refused file prints no total".
-use Rattle.kit.specs.Names.{◌≡◌, refl, ap, ap₂, sym, ◌∙◌, Bool, cond, List, [], ◌∷◌, ◌++◌, map, append_assoc, ℕ, zero, suc, ◌+◌, ◌-◌, ◌^◌}
-use Rattle.kit.specs.Names.{◌<◌, arith, length, get_or, take, drop, length-append, take_at, eq-eqb, ne_eqb}
+use Rattle.std.specs.Prelude.{◌≡◌, ◌∷◌, ◌++◌, ◌+◌, ◌-◌, ◌^◌, ◌<◌}
+use Rattle.kit.specs.Names.{refl, ap, ap₂, sym, ◌∙◌, Bool, cond, List, [], map, append_assoc, ℕ, zero, suc}
+use Rattle.kit.specs.Names.{arith, length, get_or, take, drop, length-append, take_at, eq-eqb, ne_eqb}
 use Rattle.definitions.specs.Basics.{all, flat_map}
 use Rattle.definitions.specs.Crossings.{crossings_in, total_in}
 use Rattle.definitions.specs.Numbers.{check_number, or_else}

@@ -1,5 +1,6 @@
 -- 02, Note 3: a printed report as a reader takes it: its lines, and the number at the end of each.
-use Rattle.kit.specs.Names.{cond, List, [], ◌∷◌, ℕ, ◌+◌, ◌*◌, ◌-◌, eqb, length, get_or, take, drop}
+use Rattle.std.specs.Prelude.{◌∷◌, ◌+◌, ◌*◌, ◌-◌}
+use Rattle.kit.specs.Names.{cond, List, [], ℕ, eqb, length, get_or, take, drop}
 use Rattle.definitions.specs.Report.{report_length, output_after_report}
 
 -- A byte in front of a text's first line.

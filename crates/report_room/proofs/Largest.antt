@@ -1,6 +1,7 @@
 -- 02, Note 3: the largest total. Sixteen functions share 512 nodes; two nodes make at most three variables, and a function opens at most eight
 -- private parameters.
-use Rattle.kit.specs.Names.{◌≡◌, ap, List, [], ◌∷◌, map, ℕ, ◌+◌, ◌*◌, ◌≤◌, arith, leb, length, length-append}
+use Rattle.std.specs.Prelude.{◌≡◌, ◌∷◌, ◌+◌, ◌*◌, ◌≤◌}
+use Rattle.kit.specs.Names.{ap, List, [], map, ℕ, arith, leb, length, length-append}
 use Rattle.definitions.specs.ContractFile.{Field, Function, contract_in, contract_of}
 use Rattle.definitions.specs.Crossings.{crossings_in, total_in}
 use Rattle.definitions.specs.Numbers.{check_number}

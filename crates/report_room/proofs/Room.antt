@@ -1,7 +1,8 @@
 -- 02, Note 3: 131 bytes always suffice for a report. Its numbers have three digits at most: nineteen bytes for the heading, six for the line of a
 -- function below 10, seven for that of another, ten for the total.
-use Rattle.kit.specs.Names.{◌≡◌, refl, ap, ◌∙◌, Bool, true, false, cond, List, [], ◌∷◌, ◌++◌, map, ℕ, zero, suc, ◌+◌, ◌*◌, ◌-◌, ◌/◌, ◌%◌}
-use Rattle.kit.specs.Names.{◌<◌, ◌≤◌, arith, ltb, length, length-append, length-map, le-ltb, ltb-true, ltb-false}
+use Rattle.std.specs.Prelude.{◌≡◌, ◌∷◌, ◌++◌, ◌+◌, ◌*◌, ◌-◌, ◌/◌, ◌%◌, ◌<◌, ◌≤◌}
+use Rattle.kit.specs.Names.{refl, ap, ◌∙◌, Bool, true, false, cond, List, [], map, ℕ, zero, suc}
+use Rattle.kit.specs.Names.{arith, ltb, length, length-append, length-map, le-ltb, ltb-true, ltb-false}
 use Rattle.definitions.specs.Basics.{flat_map, first_that_holds}
 use Rattle.definitions.specs.ContractFile.{contract_in, function_count}
 use Rattle.definitions.specs.Crossings.{crossings_in}

@@ -1,5 +1,6 @@
 -- How a number's digits unfold.
-use Rattle.kit.specs.Names.{◌≡◌, refl, ap, Bool, true, false, cond, List, [], ◌∷◌, ◌++◌, ℕ, zero, suc, ◌+◌, ◌/◌, ◌%◌, ◌-◌, ◌<◌, ◌≤◌, arith}
+use Rattle.std.specs.Prelude.{◌≡◌, ◌∷◌, ◌++◌, ◌+◌, ◌/◌, ◌%◌, ◌-◌, ◌<◌, ◌≤◌}
+use Rattle.kit.specs.Names.{refl, ap, Bool, true, false, cond, List, [], ℕ, zero, suc, arith}
 use Rattle.kit.specs.Names.{ltb, length, length-append, lt-ltb, le-ltb}
 use Rattle.definitions.specs.Report.{digits}
 use Rattle.memory_append.specs.Append.{Appended}

@@ -1,5 +1,6 @@
 -- Laws of the report's lines: from the functions' counts, line by line, and how long they are at most.
-use Rattle.kit.specs.Names.{◌≡◌, ap, sym, ◌∙◌, List, [], ◌∷◌, ◌++◌, append-nil, ℕ, suc, ◌+◌, ◌<◌, ◌≤◌, arith, add-one, length, get_or, take}
+use Rattle.std.specs.Prelude.{◌≡◌, ◌∷◌, ◌++◌, ◌+◌, ◌<◌, ◌≤◌}
+use Rattle.kit.specs.Names.{ap, sym, ◌∙◌, List, [], append-nil, ℕ, suc, arith, add-one, length, get_or, take}
 use Rattle.kit.specs.Names.{drop, length-append, length-map, take-append-drop, get_or_map, take-suc, take_all, length-take-le, get_or-take}
 use Rattle.definitions.specs.Basics.{flat_map}
 use Rattle.definitions.specs.Report.{Tally, sorted, decimal, heading, tally_line, total_line, refused_line, tallies, report_lines}

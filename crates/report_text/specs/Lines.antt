@@ -1,5 +1,6 @@
 -- 01, File A, whole: a count as it stands in the report's lines. 02, Note 3: a line of a word and a number.
-use Rattle.kit.specs.Names.{List, [], ◌∷◌, ◌++◌, ℕ}
+use Rattle.std.specs.Prelude.{◌∷◌, ◌++◌}
+use Rattle.kit.specs.Names.{List, [], ℕ}
 use Rattle.definitions.specs.Report.{decimal}
 
 -- A count behind a space.

@@ -1,7 +1,8 @@
 // The report's text: decimal numbers, the refused line, the lines of the tallies, and their total.
 #![tactic(auto)]
 
-ghost use Rattle.kit.specs.Names.{[], ◌∷◌, ◌++◌, ◌+◌, ◌<◌, ◌≤◌, length};
+ghost use Rattle.std.specs.Prelude.{◌∷◌, ◌++◌, ◌+◌, ◌<◌, ◌≤◌};
+ghost use Rattle.kit.specs.Names.{[], length};
 ghost use Rattle.memory_append.specs.Append.{Appended};
 ghost use Rattle.definitions.specs.Basics.{flat_map};
 ghost use Rattle.definitions.specs.Report.{digits, decimal, refused_line, tally_line, report_lines};

@@ -1,5 +1,6 @@
 -- Sums of counts: one line more, and whatever their order.
-use Rattle.kit.specs.Names.{◌≡◌, refl, ap, ◌∙◌, Bool, true, false, cond, List, [], ◌∷◌, ◌++◌, map, ℕ, suc, ◌+◌, ◌<◌, arith, add-one, length}
+use Rattle.std.specs.Prelude.{◌≡◌, ◌∷◌, ◌++◌, ◌+◌, ◌<◌}
+use Rattle.kit.specs.Names.{refl, ap, ◌∙◌, Bool, true, false, cond, List, [], map, ℕ, suc, arith, add-one, length}
 use Rattle.kit.specs.Names.{get_or, take, take-suc}
 use Rattle.definitions.specs.Report.{Tally, comes_before, insert, sorted, tallies}
 use Rattle.theory_crossings.specs.Crossings.{sum}

@@ -1,7 +1,8 @@
 // 02, Note 3: "the sum of the lines above", which the report prints as its total.
 #![tactic(auto)]
 
-ghost use Rattle.kit.specs.Names.{◌≡◌, ◌≤◌, length};
+ghost use Rattle.std.specs.Prelude.{◌≡◌, ◌≤◌};
+ghost use Rattle.kit.specs.Names.{length};
 ghost use Rattle.report_order.specs.Counts.{ordered_tallies};
 ghost use Rattle.report_total.specs.Totals.{total_of};
 

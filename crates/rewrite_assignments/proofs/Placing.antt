@@ -1,5 +1,6 @@
 -- The log of a value that is put into a place, from the test of the place's code and of the value.
-use Rattle.kit.specs.Names.{◌≡◌, refl, ap, ap₂, sym, ◌∙◌, Bool, true, false, ◌&&◌, not, List, none, ℕ, ◌<◌}
+use Rattle.std.specs.Prelude.{◌≡◌, ◌&&◌, ◌<◌}
+use Rattle.kit.specs.Names.{refl, ap, ap₂, sym, ◌∙◌, Bool, true, false, not, List, none, ℕ}
 use Rattle.definitions.specs.ContractFile.{Owner, is_everyone, field_at, node_count, owner_code, field_owner_code}
 use Rattle.definitions.specs.Owners.{is_public, name_of, place_owner}
 use Rattle.rewrite_owners.specs.Codes.{name_code, place_code}

@@ -1,5 +1,6 @@
 -- The events of assignments and branches of a file's nodes, and what is owed of a value that is put into a place.
-use Rattle.kit.specs.Names.{◌≡◌, List, none, ℕ, ◌<◌}
+use Rattle.std.specs.Prelude.{◌≡◌, ◌<◌}
+use Rattle.kit.specs.Names.{List, none, ℕ}
 use Rattle.definitions.specs.ContractFile.{Owner, field_at, owner_code}
 use Rattle.definitions.specs.Owners.{name_of, place_owner}
 use Rattle.theory_trees.specs.Trees.{statement_in}

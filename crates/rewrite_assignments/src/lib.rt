@@ -1,7 +1,7 @@
 // The events of an assignment, logged in their order: the key's, the value's, the supply for a private place.
 #![tactic(auto)]
 
-ghost use Rattle.kit.specs.Names.{◌<◌, ◌≤◌};
+ghost use Rattle.std.specs.Prelude.{◌<◌, ◌≤◌};
 ghost use Rattle.definitions.specs.ContractFile.{node_count};
 ghost use Rattle.file_accepted.specs.Context.{nodes_in};
 ghost use Rattle.rewrite_log.specs.Logs.{Logged};

@@ -1,5 +1,6 @@
 -- The owners that a file's fields declare and that its reveals name are listed: number 3 lets no other code pass.
-use Rattle.kit.specs.Names.{◌≡◌, refl, Bool, true, false, ◌&&◌, ◌||◌, cond, false≢true, List, ℕ, suc, ◌+◌, ◌*◌, ◌-◌, ◌<◌, ◌≤◌, arith, eqb}
+use Rattle.std.specs.Prelude.{◌≡◌, ◌&&◌, ◌||◌, ◌+◌, ◌*◌, ◌-◌, ◌<◌, ◌≤◌}
+use Rattle.kit.specs.Names.{refl, Bool, true, false, cond, false≢true, List, ℕ, suc, arith, eqb}
 use Rattle.kit.specs.Names.{leb, ltb, ltb-true, ltb-false, leb-true, eqb-true}
 use Rattle.definitions.specs.ContractFile.{me_name, final_name, parameter_name, everyone, owned_by, to_everyone, to_key, to_final, FieldRecord, NodeRecord, byte_at, field_count, nodes_at, node_record, is_final_code, owner_of_code, field_of, Kind, constant_kind, me_kind, field_kind, entry_kind, parameter_kind, operator_kind, negation_kind, reveal_kind, skip_kind, sequence_kind, assign_field_kind, assign_entry_kind, require_kind, conditional_kind, no_kind, kind_of, node_of_kind, expression_of, statement_of, statement_at}
 use Rattle.definitions.specs.Numbers.{field_in_tables, target_in_tables, kind_in_tables}

@@ -1,5 +1,6 @@
 -- Every owner of a function's variables and claims is listed, where those that its fields declare and its reveals name are.
-use Rattle.kit.specs.Names.{◌≡◌, refl, Bool, true, false, ◌&&◌, cond, List, [], ◌∷◌, ◌++◌, Option, none, some, ℕ, suc, ◌+◌, ◌<◌}
+use Rattle.std.specs.Prelude.{◌≡◌, ◌&&◌, ◌∷◌, ◌++◌, ◌+◌, ◌<◌}
+use Rattle.kit.specs.Names.{refl, Bool, true, false, cond, List, [], Option, none, some, ℕ, suc}
 use Rattle.definitions.specs.ContractFile.{Name, me_name, final_name, parameter_name, Owner, everyone, owned_by, FieldOwner, to_everyone, to_key, to_final, Expression, Statement, Parameter, Scope, field_at, parameter_at, is_final, is_division}
 use Rattle.definitions.specs.Owners.{is_public_address, place_owner, parameter_owner, name_of, owner_of, is_public}
 use Rattle.definitions.specs.Rewriting.{Guard, under}

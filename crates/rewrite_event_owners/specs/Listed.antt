@@ -1,5 +1,6 @@
 -- Owners whose codes document 01's tables hold: "16+f final field f (f 0 to 63), 128+k parameter k (k 0 to 7)".
-use Rattle.kit.specs.Names.{List, [], ◌∷◌, ◌<◌}
+use Rattle.std.specs.Prelude.{◌∷◌, ◌<◌}
+use Rattle.kit.specs.Names.{List, []}
 use Rattle.definitions.specs.ContractFile.{Owner, everyone, owned_by, me_name, final_name, parameter_name}
 use Rattle.rewrite_events.specs.Events.{Event, supplied_event, claimed_event, read_event, guard_event, end_event}
 

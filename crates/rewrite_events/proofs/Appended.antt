@@ -1,5 +1,6 @@
 -- What events make, of one list of events behind another.
-use Rattle.kit.specs.Names.{◌≡◌, refl, ap, ◌∙◌, List, [], ◌∷◌, ◌++◌, suc, ◌+◌, length, length-append}
+use Rattle.std.specs.Prelude.{◌≡◌, ◌∷◌, ◌++◌, ◌+◌}
+use Rattle.kit.specs.Names.{refl, ap, ◌∙◌, List, [], suc, length, length-append}
 use Rattle.definitions.specs.ContractFile.{Scope}
 use Rattle.definitions.specs.Owners.{owner_of}
 use Rattle.definitions.specs.Rewriting.{Variable, supplied, read_from, guard, equals, Claim, Guard, Constraint, Step, in_body, in_circuit, held_under}

@@ -1,6 +1,6 @@
 -- The events of expressions hold no end; those of a statement that holds no other have theirs last.
-use Rattle.kit.specs.Names.{◌≡◌, refl, ap, ◌∙◌, Bool, true, false, false≢true, ◌&&◌, cond, List, [], ◌∷◌, ◌++◌, append-nil, none, ℕ, suc}
-use Rattle.kit.specs.Names.{◌+◌}
+use Rattle.std.specs.Prelude.{◌≡◌, ◌&&◌, ◌∷◌, ◌++◌, ◌+◌}
+use Rattle.kit.specs.Names.{refl, ap, ◌∙◌, Bool, true, false, false≢true, cond, List, [], append-nil, none, ℕ, suc}
 use Rattle.definitions.specs.ContractFile.{me_name, Owner, everyone, owned_by, Expression, Statement, Scope, field_at, is_division}
 use Rattle.definitions.specs.Owners.{is_public, name_of, place_owner}
 use Rattle.definitions.specs.Rewriting.{Guard}

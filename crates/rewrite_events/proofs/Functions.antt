@@ -1,5 +1,6 @@
 -- The variables and constraints of a rewritten function: those of its private parameters, then those of its body's events.
-use Rattle.kit.specs.Names.{◌≡◌, ap, sym, List, ◌++◌, length}
+use Rattle.std.specs.Prelude.{◌≡◌, ◌++◌}
+use Rattle.kit.specs.Names.{ap, sym, List, length}
 use Rattle.definitions.specs.ContractFile.{Field, Function, Scope}
 use Rattle.definitions.specs.Rewriting.{Variable, Constraint, always, Piece, held_under, private_parameters, openings, rewrite_function}
 use Rattle.rewrite_events.specs.Events.{Event, variables_of, constraints_of, statement_events}

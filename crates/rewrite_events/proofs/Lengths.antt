@@ -1,5 +1,6 @@
 -- A tree has at most two events for each of its nodes.
-use Rattle.kit.specs.Names.{Bool, true, false, ◌&&◌, cond, List, [], ◌∷◌, none, ℕ, suc, ◌+◌, ◌*◌, ◌≤◌, arith, length, length-append}
+use Rattle.std.specs.Prelude.{◌&&◌, ◌∷◌, ◌+◌, ◌*◌, ◌≤◌}
+use Rattle.kit.specs.Names.{Bool, true, false, cond, List, [], none, ℕ, suc, arith, length, length-append}
 use Rattle.definitions.specs.ContractFile.{me_name, Owner, everyone, owned_by, Expression, Statement, Scope, field_at, is_division}
 use Rattle.definitions.specs.Owners.{name_of, place_owner, is_public}
 use Rattle.definitions.specs.Rewriting.{Guard, under}

@@ -1,5 +1,6 @@
 -- An expression's events are those of its parts, with what it makes itself.
-use Rattle.kit.specs.Names.{◌≡◌, refl, ap, sym, Bool, true, false, ◌&&◌, cond, not}
+use Rattle.std.specs.Prelude.{◌≡◌, ◌&&◌}
+use Rattle.kit.specs.Names.{refl, ap, sym, Bool, true, false, cond, not}
 use Rattle.definitions.specs.ContractFile.{Owner, everyone, owned_by, Expression, Scope, is_everyone, is_division}
 use Rattle.definitions.specs.Owners.{owner_of, is_public}
 use Rattle.definitions.specs.Rewriting.{Guard}

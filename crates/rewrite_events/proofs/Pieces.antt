@@ -1,5 +1,6 @@
 -- The events of an expression make its piece, in the body, in a circuit and in a place; those of a statement make its passage.
-use Rattle.kit.specs.Names.{◌≡◌, refl, ap, ap₂, sym, ◌∙◌, Bool, true, false, cond, List, ◌∷◌, ◌++◌, append-nil, ℕ, suc, ◌+◌, length}
+use Rattle.std.specs.Prelude.{◌≡◌, ◌∷◌, ◌++◌, ◌+◌}
+use Rattle.kit.specs.Names.{refl, ap, ap₂, sym, ◌∙◌, Bool, true, false, cond, List, append-nil, ℕ, suc, length}
 use Rattle.definitions.specs.ContractFile.{me_name, Owner, everyone, owned_by, Operator, Expression, Scope, is_division}
 use Rattle.definitions.specs.Owners.{is_public, owner_of}
 use Rattle.definitions.specs.Rewriting.{Variable, BodyExpression, Circuit, Guard, supplied, Piece, Generator, kept, one_part, two_parts, supplying, reading, in_body, in_circuit, in_place}

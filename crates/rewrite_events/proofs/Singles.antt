@@ -1,5 +1,6 @@
 -- A statement that holds no other: its events make its piece, and its command is its form behind the steps of its reads.
-use Rattle.kit.specs.Names.{◌≡◌, ap, sym, List, ℕ, ◌+◌, length}
+use Rattle.std.specs.Prelude.{◌≡◌, ◌+◌}
+use Rattle.kit.specs.Names.{ap, sym, List, ℕ, length}
 use Rattle.definitions.specs.ContractFile.{Expression, Scope}
 use Rattle.definitions.specs.Owners.{owner_of}
 use Rattle.definitions.specs.Rewriting.{Command, Guard, Step, in_body, steps_before, in_branch, in_branches, StatementGenerator}

@@ -1,5 +1,6 @@
 -- The events of a statement make its passage.
-use Rattle.kit.specs.Names.{◌≡◌, ap, ap₂, ◌∙◌, List, ◌∷◌, ◌++◌, none, ℕ, suc, ◌+◌, length}
+use Rattle.std.specs.Prelude.{◌≡◌, ◌∷◌, ◌++◌, ◌+◌}
+use Rattle.kit.specs.Names.{ap, ap₂, ◌∙◌, List, none, ℕ, suc, length}
 use Rattle.definitions.specs.ContractFile.{Statement, Scope, field_at}
 use Rattle.definitions.specs.Owners.{name_of, place_owner, owner_of}
 use Rattle.definitions.specs.Rewriting.{Variable, BodyExpression, Command, Guard, under, guard, Generator, kept, in_body, in_place, StatementGenerator, single, in_sequence, in_branch, in_branches, rewrite_statement}

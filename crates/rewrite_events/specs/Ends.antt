@@ -1,5 +1,6 @@
 -- The events of a statement that holds no other: none but the last is an end.
-use Rattle.kit.specs.Names.{Bool, true, false, List, [], ◌∷◌, none}
+use Rattle.std.specs.Prelude.{◌∷◌}
+use Rattle.kit.specs.Names.{Bool, true, false, List, [], none}
 use Rattle.definitions.specs.ContractFile.{Statement, Scope, field_at}
 use Rattle.definitions.specs.Owners.{name_of, place_owner}
 use Rattle.definitions.specs.Rewriting.{Guard}

@@ -1,5 +1,6 @@
 -- Rewriting as a list of events: each variable as it is made, and each claim when its circuit is done.
-use Rattle.kit.specs.Names.{◌&&◌, cond, List, [], ◌∷◌, ◌++◌, none, ℕ, suc, ◌+◌, length}
+use Rattle.std.specs.Prelude.{◌&&◌, ◌∷◌, ◌++◌, ◌+◌}
+use Rattle.kit.specs.Names.{cond, List, [], none, ℕ, suc, length}
 use Rattle.definitions.specs.ContractFile.{me_name, Owner, everyone, owned_by, Operator, Expression, Statement, Scope, field_at, is_division}
 use Rattle.definitions.specs.Owners.{name_of, owner_of, place_owner, is_public}
 use Rattle.definitions.specs.Rewriting.{Variable, supplied, read_from, guard, equals, Guard, under, Constraint, Step, in_body, in_circuit}

@@ -1,5 +1,6 @@
 -- When events make a piece, or a statement's passage: the same variables, steps and constraints.
-use Rattle.kit.specs.Names.{◌≡◌, List}
+use Rattle.std.specs.Prelude.{◌≡◌}
+use Rattle.kit.specs.Names.{List}
 use Rattle.definitions.specs.ContractFile.{Scope}
 use Rattle.definitions.specs.Rewriting.{Guard, Piece, Passage, held_under}
 use Rattle.rewrite_events.specs.Events.{Event, variables_of, steps_of, constraints_of}

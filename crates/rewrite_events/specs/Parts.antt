@@ -1,5 +1,6 @@
 -- The events of an expression told by one step: whether it is supplied or read, and the events of its parts.
-use Rattle.kit.specs.Names.{Bool, true, false, ◌&&◌, not}
+use Rattle.std.specs.Prelude.{◌&&◌}
+use Rattle.kit.specs.Names.{Bool, true, false, not}
 use Rattle.definitions.specs.ContractFile.{me_name, Owner, owned_by, Expression, Scope, is_division}
 use Rattle.definitions.specs.Owners.{is_public}
 use Rattle.rewrite_events.specs.Events.{Events, no_events, in_turn}

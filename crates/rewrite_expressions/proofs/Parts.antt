@@ -1,5 +1,6 @@
 -- The log of a node's parts, by any rule: what each part needs, and what the parts' logs make together.
-use Rattle.kit.specs.Names.{◌≡◌, refl, sym, subst, Bool, true, false, List, ℕ, ◌<◌, ◌≤◌, arith, eqb, eqb-true, eqb-false}
+use Rattle.std.specs.Prelude.{◌≡◌, ◌<◌, ◌≤◌}
+use Rattle.kit.specs.Names.{refl, sym, subst, Bool, true, false, List, ℕ, arith, eqb, eqb-true, eqb-false}
 use Rattle.definitions.specs.ContractFile.{Expression}
 use Rattle.file_accepted.specs.Context.{nodes_in}
 use Rattle.rewrite_events.specs.Events.{Events, no_events, in_turn}

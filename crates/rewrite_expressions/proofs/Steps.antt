@@ -1,5 +1,6 @@
 -- One step of each translation: what a node's log needs and what it holds, from the logs of its parts.
-use Rattle.kit.specs.Names.{◌≡◌, ap, sym, subst, ◌∙◌, Bool, true, false, cond, not, List, ℕ, ◌-◌, ◌<◌, arith, length, length-map, eq-eqb}
+use Rattle.std.specs.Prelude.{◌≡◌, ◌-◌, ◌<◌}
+use Rattle.kit.specs.Names.{ap, sym, subst, ◌∙◌, Bool, true, false, cond, not, List, ℕ, arith, length, length-map, eq-eqb}
 use Rattle.kit.specs.Names.{ne_eqb}
 use Rattle.definitions.specs.ContractFile.{Owner, node_count, owner_code, sections_of, node_of}
 use Rattle.file_bytes.proofs.Sections.{count_of_nodes}

@@ -1,5 +1,6 @@
 -- The log of what is supplied: its variable, its circuit, its claim, for any owner of the code.
-use Rattle.kit.specs.Names.{◌≡◌, ap, ◌∙◌, List, [], ◌∷◌, ℕ, suc, ◌+◌, ◌<◌, arith, length, length-append}
+use Rattle.std.specs.Prelude.{◌≡◌, ◌∷◌, ◌+◌, ◌<◌}
+use Rattle.kit.specs.Names.{ap, ◌∙◌, List, [], ℕ, suc, arith, length, length-append}
 use Rattle.definitions.specs.ContractFile.{Owner, Expression}
 use Rattle.definitions.specs.Rewriting.{Guard}
 use Rattle.file_accepted.specs.Context.{nodes_in}

@@ -1,5 +1,6 @@
 -- The events of a file's node, and what the functions that log them need and owe.
-use Rattle.kit.specs.Names.{◌≡◌, List, ℕ, ◌<◌}
+use Rattle.std.specs.Prelude.{◌≡◌, ◌<◌}
+use Rattle.kit.specs.Names.{List, ℕ}
 use Rattle.definitions.specs.ContractFile.{Owner, node_count, owner_code}
 use Rattle.theory_trees.specs.Trees.{statement_in}
 use Rattle.file_accepted.specs.Context.{Context, nodes_in, scope_in}

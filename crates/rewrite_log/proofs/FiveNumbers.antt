@@ -1,5 +1,6 @@
 -- Five numbers one after another, and events one after another.
-use Rattle.kit.specs.Names.{◌≡◌, refl, ap, ap₂, sym, ◌∙◌, List, [], ◌∷◌, ◌++◌, append_assoc, append-nil, ℕ, ◌+◌, ◌*◌, ◌≤◌, arith, length}
+use Rattle.std.specs.Prelude.{◌≡◌, ◌∷◌, ◌++◌, ◌+◌, ◌*◌, ◌≤◌}
+use Rattle.kit.specs.Names.{refl, ap, ap₂, sym, ◌∙◌, List, [], append_assoc, append-nil, ℕ, arith, length}
 use Rattle.kit.specs.Names.{length-append}
 use Rattle.definitions.specs.ContractFile.{Node}
 use Rattle.memory_buffer.specs.Buffer.{stored}

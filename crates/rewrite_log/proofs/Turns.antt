@@ -1,5 +1,6 @@
 -- The log of parts in turn, of what is supplied, of what is read, of what ends and of a branch, each from the logs of its parts.
-use Rattle.kit.specs.Names.{◌≡◌, refl, ap, sym, subst, ◌∙◌, List, [], ◌∷◌, ◌++◌, ℕ, zero, suc, ◌+◌, ◌<◌, arith, add-one, length}
+use Rattle.std.specs.Prelude.{◌≡◌, ◌∷◌, ◌++◌, ◌+◌, ◌<◌}
+use Rattle.kit.specs.Names.{refl, ap, sym, subst, ◌∙◌, List, [], ℕ, zero, suc, arith, add-one, length}
 use Rattle.definitions.specs.ContractFile.{Owner, Expression, owner_code, Node}
 use Rattle.definitions.specs.Rewriting.{Guard, guard_number}
 use Rattle.theory_trees.specs.Trees.{expression_in}

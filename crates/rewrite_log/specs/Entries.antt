@@ -1,5 +1,6 @@
 -- An event as five numbers of a log. A node's number stands for the expression of that node.
-use Rattle.kit.specs.Names.{Bool, ◌||◌, List, [], ◌∷◌, ◌++◌, ℕ, zero, suc, ◌<◌, eqb, length}
+use Rattle.std.specs.Prelude.{◌||◌, ◌∷◌, ◌++◌, ◌<◌}
+use Rattle.kit.specs.Names.{Bool, List, [], ℕ, zero, suc, eqb, length}
 use Rattle.definitions.specs.ContractFile.{Owner, owner_code, Node}
 use Rattle.definitions.specs.Rewriting.{Guard, always, under, guard_number}
 use Rattle.theory_trees.specs.Trees.{expression_in}

@@ -1,5 +1,6 @@
 -- A log that holds events from a position on.
-use Rattle.kit.specs.Names.{◌≡◌, List, ℕ, ◌+◌, ◌*◌, ◌<◌, ◌≤◌, length}
+use Rattle.std.specs.Prelude.{◌≡◌, ◌+◌, ◌*◌, ◌<◌, ◌≤◌}
+use Rattle.kit.specs.Names.{List, ℕ, length}
 use Rattle.definitions.specs.ContractFile.{Node}
 use Rattle.memory_buffer.specs.Buffer.{stored}
 use Rattle.rewrite_events.specs.Events.{Event, variable_count}

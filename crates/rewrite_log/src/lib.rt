@@ -1,7 +1,8 @@
 // A log of events, five numbers each.
 #![tactic(auto)]
 
-ghost use Rattle.kit.specs.Names.{◌≡◌, ◌+◌, ◌≤◌, length};
+ghost use Rattle.std.specs.Prelude.{◌≡◌, ◌+◌, ◌≤◌};
+ghost use Rattle.kit.specs.Names.{length};
 ghost use Rattle.memory_buffer.specs.Buffer.{stored};
 ghost use Rattle.rewrite_log.specs.Entries.{makes_none};
 ghost use Rattle.rewrite_log.specs.Logs.{numbers_of, SmallEntry, Slot, Wrote};

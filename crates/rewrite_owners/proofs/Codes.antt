@@ -1,5 +1,6 @@
 -- The codes of owners are those of the tables, and follow from the codes of the parts.
-use Rattle.kit.specs.Names.{◌≡◌, refl, ap, sym, ◌∙◌, Bool, true, false, ◌&&◌, ◌||◌, cond, Option, none, some, ℕ, ◌+◌, ◌-◌, ◌≤◌, ◌<◌, arith}
+use Rattle.std.specs.Prelude.{◌≡◌, ◌&&◌, ◌||◌, ◌+◌, ◌-◌, ◌≤◌, ◌<◌}
+use Rattle.kit.specs.Names.{refl, ap, sym, ◌∙◌, Bool, true, false, cond, Option, none, some, ℕ, arith}
 use Rattle.kit.specs.Names.{eqb, leb, eqb-true, eqb-false, leb-true, ne_eqb}
 use Rattle.definitions.specs.Basics.{is_zero}
 use Rattle.definitions.specs.ContractFile.{Name, me_name, final_name, parameter_name, Owner, everyone, owned_by, FieldOwner, to_everyone, to_key, to_final, is_everyone, FieldRecord, is_final_code, is_parameter_code, owner_of_code, field_owner_of_code, owner_code, field_owner_code}

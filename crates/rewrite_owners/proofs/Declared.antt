@@ -1,5 +1,6 @@
 -- The codes of declared fields and parameters, by the bytes at their places.
-use Rattle.kit.specs.Names.{◌≡◌, refl, sym, Bool, true, false, ◌&&◌, cond, List, none, some, ℕ, ◌+◌, ◌*◌, ◌<◌, ◌≤◌, arith, eqb, ne_eqb}
+use Rattle.std.specs.Prelude.{◌≡◌, ◌&&◌, ◌+◌, ◌*◌, ◌<◌, ◌≤◌}
+use Rattle.kit.specs.Names.{refl, sym, Bool, true, false, cond, List, none, some, ℕ, arith, eqb, ne_eqb}
 use Rattle.kit.specs.Names.{eq-eqb}
 use Rattle.definitions.specs.ContractFile.{boolean, uint, address, final_name, parameter_name, field_at, parameter_at, is_final, same_type, byte_at, field_count, data_type_of, field_of, parameter_of, owner_code, field_owner_code}
 use Rattle.definitions.specs.Owners.{is_public_address, parameter_owner}

@@ -1,5 +1,6 @@
 -- The name and the owner code of an expression, by its kind, from the codes of its parts.
-use Rattle.kit.specs.Names.{◌≡◌, refl, ap, sym, ◌∙◌, true, cond, none, some, ℕ, eqb, eq-eqb, ne_eqb}
+use Rattle.std.specs.Prelude.{◌≡◌}
+use Rattle.kit.specs.Names.{refl, ap, sym, ◌∙◌, true, cond, none, some, ℕ, eqb, eq-eqb, ne_eqb}
 use Rattle.definitions.specs.ContractFile.{DataType, Owner, everyone, Operator, Expression, Scope, field_at, parameter_at, is_final, final_name, parameter_name, owner_of_code, owner_code, field_owner_code}
 use Rattle.definitions.specs.Owners.{name_of, owner_of, is_public_address, parameter_owner, is_public}
 use Rattle.definitions.specs.Numbers.{target_in_tables}

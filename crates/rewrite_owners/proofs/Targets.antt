@@ -1,5 +1,6 @@
 -- The target of a reveal in an accepted file is an owner code of the tables.
-use Rattle.kit.specs.Names.{◌≡◌, true, ◌&&◌, List, ℕ, ◌<◌}
+use Rattle.std.specs.Prelude.{◌≡◌, ◌&&◌, ◌<◌}
+use Rattle.kit.specs.Names.{true, List, ℕ}
 use Rattle.definitions.specs.Basics.{is_zero}
 use Rattle.definitions.specs.ContractFile.{NodeRecord, node_count, reveal_kind, kind_of}
 use Rattle.definitions.specs.Numbers.{kind_in_tables, target_in_tables}

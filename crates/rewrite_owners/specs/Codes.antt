@@ -1,5 +1,6 @@
 -- Owners, names and places as the codes that a file and the code use for them.
-use Rattle.kit.specs.Names.{◌≡◌, true, cond, List, Option, none, some, ℕ, ◌<◌, eqb}
+use Rattle.std.specs.Prelude.{◌≡◌, ◌<◌}
+use Rattle.kit.specs.Names.{true, cond, List, Option, none, some, ℕ, eqb}
 use Rattle.definitions.specs.ContractFile.{Name, owned_by, field_count, owner_code}
 use Rattle.definitions.specs.Numbers.{field_in_tables}
 use Rattle.file_accepted.specs.Context.{field_record_at}

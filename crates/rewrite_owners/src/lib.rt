@@ -1,7 +1,8 @@
 // 01, Owners: the owner codes of fields, parameters, names and expressions, read from the file.
 #![tactic(auto)]
 
-ghost use Rattle.kit.specs.Names.{◌≡◌, cond, none, some, ◌<◌, ◌≤◌};
+ghost use Rattle.std.specs.Prelude.{◌≡◌, ◌<◌, ◌≤◌};
+ghost use Rattle.kit.specs.Names.{cond, none, some};
 ghost use Rattle.definitions.specs.ContractFile.{final_name, parameter_name, field_at, parameter_at, is_final, byte_at, field_count, node_count};
 ghost use Rattle.definitions.specs.ContractFile.{owner_code, field_owner_code};
 ghost use Rattle.definitions.specs.Owners.{name_of, owner_of, is_public_address, parameter_owner, is_public};

@@ -1,5 +1,6 @@
 -- What is found of a node, by the kind of its record.
-use Rattle.kit.specs.Names.{◌≡◌, refl, ap, sym, ◌∙◌, Bool, true, false, ◌&&◌, cond, not, false≢true, List, ℕ, suc, ◌+◌, ◌<◌, ◌≤◌, arith}
+use Rattle.std.specs.Prelude.{◌≡◌, ◌&&◌, ◌+◌, ◌<◌, ◌≤◌}
+use Rattle.kit.specs.Names.{refl, ap, sym, ◌∙◌, Bool, true, false, cond, not, false≢true, List, ℕ, suc, arith}
 use Rattle.kit.specs.Names.{eqb, eq-eqb, ne_eqb}
 use Rattle.definitions.specs.ContractFile.{me_name, Owner, everyone, owned_by, Operator, Expression, Scope, is_everyone, is_division, NodeRecord, node_count, owner_code}
 use Rattle.definitions.specs.Owners.{owner_of}

@@ -1,5 +1,6 @@
 -- A node's expression by the kind of its record.
-use Rattle.kit.specs.Names.{◌≡◌, refl, Bool, true, false, List, ℕ, ◌+◌, ◌*◌, ◌<◌, eqb, eqb-true, eqb-false}
+use Rattle.std.specs.Prelude.{◌≡◌, ◌+◌, ◌*◌, ◌<◌}
+use Rattle.kit.specs.Names.{refl, Bool, true, false, List, ℕ, eqb, eqb-true, eqb-false}
 use Rattle.definitions.specs.ContractFile.{Expression, NodeRecord, node_count, data_type_of, owner_of_code, operator_of}
 use Rattle.file_accepted.specs.Context.{Context}
 use Rattle.theory_trees.proofs.ByKind.{constant_is, field_is, entry_is, parameter_is, operator_is, negation_is, reveal_is, other_is}

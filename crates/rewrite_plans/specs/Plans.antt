@@ -1,5 +1,6 @@
 -- What code finds of a node: its owner code where it is supplied or read, and the numbers of its parts.
-use Rattle.kit.specs.Names.{◌≡◌, not, List, ℕ, suc, ◌<◌, ◌≤◌, eqb}
+use Rattle.std.specs.Prelude.{◌≡◌, ◌<◌, ◌≤◌}
+use Rattle.kit.specs.Names.{not, List, ℕ, suc, eqb}
 use Rattle.definitions.specs.ContractFile.{Expression, Scope, owner_code}
 use Rattle.definitions.specs.Owners.{owner_of}
 use Rattle.theory_trees.specs.Trees.{expression_in}

@@ -1,7 +1,8 @@
 // What rewriting does with a node: whether it is supplied in the body, read in a circuit, and which parts it has.
 #![tactic(auto)]
 
-ghost use Rattle.kit.specs.Names.{◌≡◌, cond, ◌&&◌, ◌<◌, eqb};
+ghost use Rattle.std.specs.Prelude.{◌≡◌, ◌&&◌, ◌<◌};
+ghost use Rattle.kit.specs.Names.{cond, eqb};
 ghost use Rattle.definitions.specs.ContractFile.{is_division, node_count, operator_of};
 ghost use Rattle.definitions.specs.Owners.{is_public};
 ghost use Rattle.file_accepted.specs.Context.{Context, scope_in};

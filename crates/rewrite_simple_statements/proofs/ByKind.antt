@@ -1,5 +1,6 @@
 -- A statement holds no other if and only if its node's kind is not a sequence's or a conditional's.
-use Rattle.kit.specs.Names.{◌≡◌, refl, ap, sym, ◌∙◌, Bool, true, false, false≢true, List, ℕ, ◌<◌, eqb, eqb-true, eqb-false}
+use Rattle.std.specs.Prelude.{◌≡◌, ◌<◌}
+use Rattle.kit.specs.Names.{refl, ap, sym, ◌∙◌, Bool, true, false, false≢true, List, ℕ, eqb, eqb-true, eqb-false}
 use Rattle.definitions.specs.ContractFile.{NodeRecord, node_count}
 use Rattle.theory_trees.specs.Trees.{statement_in}
 use Rattle.file_decoded.specs.Slices.{record_at}

@@ -1,5 +1,6 @@
 -- The log of events and of their end.
-use Rattle.kit.specs.Names.{◌≡◌, sym, subst, true, List, ℕ}
+use Rattle.std.specs.Prelude.{◌≡◌}
+use Rattle.kit.specs.Names.{sym, subst, true, List, ℕ}
 use Rattle.theory_trees.specs.Trees.{statement_in}
 use Rattle.file_accepted.specs.Context.{nodes_in, scope_in}
 use Rattle.rewrite_events.specs.Events.{Events, ended}

@@ -1,7 +1,8 @@
 // The events of a statement that holds no other, and of a condition, with the mark that ends them.
 #![tactic(auto)]
 
-ghost use Rattle.kit.specs.Names.{◌≡◌, true};
+ghost use Rattle.std.specs.Prelude.{◌≡◌};
+ghost use Rattle.kit.specs.Names.{true};
 ghost use Rattle.theory_trees.specs.Trees.{statement_in};
 ghost use Rattle.file_accepted.specs.Context.{nodes_in};
 ghost use Rattle.rewrite_events.specs.Ends.{is_simple};

@@ -1,5 +1,6 @@
 -- A function's root node, as it is read.
-use Rattle.kit.specs.Names.{◌≡◌, ap, sym, subst, ◌∙◌, List, ℕ, ◌-◌}
+use Rattle.std.specs.Prelude.{◌≡◌, ◌-◌}
+use Rattle.kit.specs.Names.{ap, sym, subst, ◌∙◌, List, ℕ}
 use Rattle.definitions.specs.ContractFile.{two_bytes_at, function_end}
 use Rattle.file_accepted.specs.Context.{nodes_in}
 use Rattle.file_accepted.specs.Functions.{root_at}

@@ -1,5 +1,6 @@
 -- The log of a statement, by the kind of its node's record, from the logs of its parts.
-use Rattle.kit.specs.Names.{◌≡◌, ap, sym, subst, true, List, ℕ, ◌+◌, ◌<◌, arith}
+use Rattle.std.specs.Prelude.{◌≡◌, ◌+◌, ◌<◌}
+use Rattle.kit.specs.Names.{ap, sym, subst, true, List, ℕ, arith}
 use Rattle.definitions.specs.ContractFile.{Statement, NodeRecord}
 use Rattle.theory_trees.specs.Trees.{statement_in}
 use Rattle.file_accepted.specs.Context.{nodes_in, scope_in}

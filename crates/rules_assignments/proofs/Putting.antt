@@ -1,5 +1,6 @@
 -- The faults that code finds are the ones that the definitions tell of statements.
-use Rattle.kit.specs.Names.{◌≡◌, not, none, ℕ, ◌≤◌, eqb}
+use Rattle.std.specs.Prelude.{◌≡◌, ◌≤◌}
+use Rattle.kit.specs.Names.{not, none, ℕ, eqb}
 use Rattle.definitions.specs.ContractFile.{Expression, Statement, Scope, Owner, field_at}
 use Rattle.definitions.specs.Owners.{Links, name_of, place_owner}
 use Rattle.definitions.specs.Numbers.{value_faults, condition_faults, statement_faults}

@@ -1,7 +1,7 @@
 // Faults of what is put into a place and of a condition, from what is found of their expressions: numbers 8, 9, 14 and 15.
 #![tactic(auto)]
 
-ghost use Rattle.kit.specs.Names.{◌≡◌};
+ghost use Rattle.std.specs.Prelude.{◌≡◌};
 ghost use Rattle.rules_links.specs.Classes.{linked_by};
 ghost use Rattle.rules_codes.specs.Codes.{HasClass, place_number};
 ghost use Rattle.rules_assignments.specs.Putting.{value_fault, field_fault, entry_put_fault, condition_fault};

@@ -1,5 +1,6 @@
 -- An array whose front was lent and came back as some list: its length, and its front.
-use Rattle.kit.specs.Names.{◌≡◌, ap, sym, ◌∙◌, List, ◌++◌, ℕ, ◌≤◌, arith, length, take, drop, length-append, length-drop, take-append_seam}
+use Rattle.std.specs.Prelude.{◌≡◌, ◌++◌, ◌≤◌}
+use Rattle.kit.specs.Names.{ap, sym, ◌∙◌, List, ℕ, arith, length, take, drop, length-append, length-drop, take-append_seam}
 
 pub array_long : (front room : List ℕ) (count : ℕ) → length front ≡ count → count ≤ length room → length (front ++ drop count room) ≡ length room
 array_long front room count e h =

@@ -1,5 +1,6 @@
 -- Rules told of numbers are the rules that the definitions tell of data types and owners.
-use Rattle.kit.specs.Names.{◌≡◌, refl, sym, ◌∙◌, Bool, true, false, not, cond, ◌&&◌, List, none, some, ℕ, zero, suc, ◌+◌, ◌-◌, ◌≤◌, ◌<◌}
+use Rattle.std.specs.Prelude.{◌≡◌, ◌&&◌, ◌+◌, ◌-◌, ◌≤◌, ◌<◌}
+use Rattle.kit.specs.Names.{refl, sym, ◌∙◌, Bool, true, false, not, cond, List, none, some, ℕ, zero, suc}
 use Rattle.kit.specs.Names.{arith, eqb, get_or, eqb-false, ne_eqb, le-ltb, get_or_eq_default}
 use Rattle.definitions.specs.ContractFile.{me_name, Owner, everyone, owned_by, to_everyone, to_key, to_final, operator_code, is_everyone, operator_of, Field}
 use Rattle.definitions.specs.Owners.{Links, is_reader, place_owner, owner_of_parts}

@@ -1,5 +1,6 @@
 -- Rules on data types and owners, told of their numbers.
-use Rattle.kit.specs.Names.{Bool, ◌&&◌, cond, List, ℕ, ◌<◌, ◌≤◌, eqb, leb, length}
+use Rattle.std.specs.Prelude.{◌&&◌, ◌<◌, ◌≤◌}
+use Rattle.kit.specs.Names.{Bool, cond, List, ℕ, eqb, leb, length}
 use Rattle.definitions.specs.ContractFile.{Operator, operator_code}
 use Rattle.rules_scopes.specs.declared.Declared.{Declared}
 

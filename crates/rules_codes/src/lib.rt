@@ -1,7 +1,8 @@
 // Rules on data types, operators and owners, over their numbers.
 #![tactic(auto)]
 
-ghost use Rattle.kit.specs.Names.{◌≡◌, not, cond};
+ghost use Rattle.std.specs.Prelude.{◌≡◌};
+ghost use Rattle.kit.specs.Names.{not, cond};
 ghost use Rattle.definitions.specs.Owners.{is_reader};
 ghost use Rattle.definitions.specs.ContractFile.{operator_of, operator_code, data_type_code, is_division, result_type};
 ghost use Rattle.definitions.specs.Numbers.{fault, may_be_put};

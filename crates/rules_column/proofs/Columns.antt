@@ -1,6 +1,7 @@
 -- The column that judging fills holds, at each node of each function, its owner in that function's scope.
-use Rattle.kit.specs.Names.{◌≡◌, refl, ◌∙◌, Bool, true, false, List, [], ◌∷◌, map, Member, member_head, member_tail, member_not_nil, ◌⊎◌, inl, inr, ℕ, zero, suc}
-use Rattle.kit.specs.Names.{◌<◌, ◌≤◌, arith, eqb, length, get_or, set, length-set, get_or-set_same, get_or-set_other, eqb-true, eqb-false}
+use Rattle.std.specs.Prelude.{◌≡◌, ◌∷◌, ◌⊎◌, ◌<◌, ◌≤◌}
+use Rattle.kit.specs.Names.{refl, ◌∙◌, Bool, true, false, List, [], map, Member, member_head, member_tail, member_not_nil, inl, inr, ℕ, zero, suc}
+use Rattle.kit.specs.Names.{arith, eqb, length, get_or, set, length-set, get_or-set_same, get_or-set_other, eqb-true, eqb-false}
 use Rattle.definitions.specs.ContractFile.{FunctionRecord, Field, Sections, Node, field_of, node_of}
 use Rattle.definitions.specs.Numbers.{names_nothing, used_other_than_once}
 use Rattle.rules_marks.specs.Marks.{statement, statements_under, marked, owner_at}

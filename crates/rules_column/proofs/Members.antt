@@ -1,12 +1,14 @@
 -- Members of lists: of lists one behind another, and how often they are counted.
-use Rattle.kit.specs.Names.{◌≡◌, refl, ap, List, [], ◌∷◌, Member, member_head, member_tail, member_not_nil, member_append_cases}
-use Rattle.kit.specs.Names.{member_append_left, member_append_right, ⊎_elim, ℕ, zero, suc, ◌<◌, ◌≤◌, arith, eqb, length, get_or, eq-eqb}
+use Rattle.std.specs.Prelude.{◌≡◌, ◌∷◌, ◌<◌, ◌≤◌}
+use Rattle.kit.specs.Names.{refl, ap, List, [], Member, member_head, member_tail, member_not_nil, member_append_cases}
+use Rattle.kit.specs.Names.{member_append_left, member_append_right, ⊎_elim, ℕ, zero, suc, arith, eqb, length, get_or, eq-eqb}
 use Rattle.definitions.specs.Basics.{count_if, flat_map}
 use Rattle.theory_laws.proofs.Lists.{count_append}
 
 -- What is under one of several numbers is under all of them, and back.
 pub under_all : {A : Type 0} (under : A → List ℕ) (x : ℕ) (m : A) (ms : List A) → Member m ms → Member x (under m) → Member x (flat_map under ms)
 unfolding flat_map
+under_all {A = A} under x m [] h d = elim h [ ]
 under_all under x m (n ∷ ns) (member_head e) d = member_append_left (flat_map under ns) (rw e at d)
 under_all under x m (n ∷ ns) (member_tail h) d = member_append_right (under n) (under_all under x m ns h d)
 
@@ -19,6 +21,7 @@ under_one under x (n ∷ ns) d =
 -- A member is counted.
 pub counted : (m : ℕ) (xs : List ℕ) → Member m xs → 1 ≤ count_if (eqb m) xs
 unfolding count_if
+counted m [] d = elim d [ ]
 counted m (x ∷ xs) (member_head e) = rw (eq-eqb m x e) (omega arith)
 counted m (x ∷ xs) (member_tail d) = let h = counted m xs d in omega arith
 

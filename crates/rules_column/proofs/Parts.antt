@@ -1,6 +1,7 @@
 -- A column that holds the owners of all nodes at a place holds those of the nodes at its parts.
+use Rattle.std.specs.Prelude.{◌≡◌, ◌++◌}
 use mathlib.Core.List.Memᴰ
-use Rattle.kit.specs.Names.{◌≡◌, refl, List, ◌++◌, map, Member, member_head, member_append_left, member_append_right, ℕ, get_or}
+use Rattle.kit.specs.Names.{refl, List, map, Member, member_head, member_append_left, member_append_right, ℕ, get_or}
 use Rattle.definitions.specs.Basics.{flat_map}
 use Rattle.definitions.specs.ContractFile.{Node, node_at, statement_parts}
 use Rattle.theory_trees.specs.Trees.{Falling}

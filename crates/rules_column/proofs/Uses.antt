@@ -1,7 +1,8 @@
 -- A node is under the root of one function only: from a node go up to what uses it, which number 5 leaves no choice of.
-use Rattle.kit.specs.Names.{◌≡◌, refl, ap, false, not, List, [], ◌∷◌, ◌++◌, map, Member, member_head, member_not_nil}
+use Rattle.std.specs.Prelude.{◌≡◌, ◌∷◌, ◌++◌, ◌+◌, ◌<◌}
+use Rattle.kit.specs.Names.{refl, ap, false, not, List, [], map, Member, member_head, member_not_nil}
 use Rattle.kit.specs.Names.{member_append_cases, member_eq_of_singleton, ⊎_elim, ℕ, zero}
-use Rattle.kit.specs.Names.{suc, ◌+◌, ◌<◌, arith, eqb, leb, length, get_or, length-map, leb-false, eqb-true, not-false}
+use Rattle.kit.specs.Names.{suc, arith, eqb, leb, length, get_or, length-map, leb-false, eqb-true, not-false}
 use Rattle.definitions.specs.Basics.{any, count_if, flat_map}
 use Rattle.definitions.specs.ContractFile.{FunctionRecord, NodeRecord, Sections, node, Node, unknown_node, field_of, node_of, node_at, children, expression_parts, statement_parts}
 use Rattle.definitions.specs.Numbers.{names_nothing, uses_of, used_other_than_once, field_of_declared_owner}

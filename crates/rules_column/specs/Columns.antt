@@ -1,5 +1,6 @@
 -- What the column of owners holds, and why no function overwrites what another marked: number 5 lets no node be under two roots.
-use Rattle.kit.specs.Names.{◌≡◌, List, Member, ℕ, ◌<◌, ◌≤◌, eqb, length, get_or}
+use Rattle.std.specs.Prelude.{◌≡◌, ◌<◌, ◌≤◌}
+use Rattle.kit.specs.Names.{List, Member, ℕ, eqb, length, get_or}
 use Rattle.definitions.specs.Basics.{count_if}
 use Rattle.definitions.specs.ContractFile.{Sections, Node, node_at, children}
 use Rattle.definitions.specs.Numbers.{uses_of}

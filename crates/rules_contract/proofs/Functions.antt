@@ -1,5 +1,6 @@
 -- The functions of a contract one after another: the least fault so far, and the column so far, with those of the functions ahead.
-use Rattle.kit.specs.Names.{◌≡◌, refl, ap, sym, ◌∙◌, false, not, List, [], ◌∷◌, map, ℕ, zero, suc, ◌+◌, ◌*◌, ◌-◌, ◌/◌, ◌<◌, ◌≤◌, min, arith}
+use Rattle.std.specs.Prelude.{◌≡◌, ◌∷◌, ◌+◌, ◌*◌, ◌-◌, ◌/◌, ◌<◌, ◌≤◌}
+use Rattle.kit.specs.Names.{refl, ap, sym, ◌∙◌, false, not, List, [], map, ℕ, zero, suc, min, arith}
 use Rattle.kit.specs.Names.{length, take, drop, length-drop, get_or-take, get_or-drop, length-take-le}
 use Rattle.definitions.specs.Basics.{any, flat_map, first_that_holds}
 use Rattle.definitions.specs.ContractFile.{FunctionRecord, function_of, contract_of}

@@ -1,5 +1,6 @@
 -- What numbers 2, 3 and 4 leave, record by record: all that judging relies on.
-use Rattle.kit.specs.Names.{◌≡◌, refl, Bool, false, not, ◌||◌, List, [], ◌∷◌, ℕ, zero, suc, ◌+◌, ◌*◌, ◌/◌, ◌<◌, ◌≤◌, arith, leb, ltb}
+use Rattle.std.specs.Prelude.{◌≡◌, ◌||◌, ◌∷◌, ◌+◌, ◌*◌, ◌/◌, ◌<◌, ◌≤◌}
+use Rattle.kit.specs.Names.{refl, Bool, false, not, List, [], ℕ, zero, suc, arith, leb, ltb}
 use Rattle.kit.specs.Names.{length, ltb-false, leb-false}
 use Rattle.definitions.specs.Basics.{any, any_numbered}
 use Rattle.definitions.specs.ContractFile.{FieldRecord, FunctionRecord, NodeRecord, field_of, node_of, fields_named, children}

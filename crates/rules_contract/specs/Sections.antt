@@ -1,5 +1,6 @@
 -- The least faults of a contract's functions, and the column of owners, as the decoded slices give them.
-use Rattle.kit.specs.Names.{◌≡◌, false, List, [], ◌∷◌, map, ℕ, ◌/◌, ◌≤◌, ltb, length}
+use Rattle.std.specs.Prelude.{◌≡◌, ◌∷◌, ◌/◌, ◌≤◌}
+use Rattle.kit.specs.Names.{false, List, [], map, ℕ, ltb, length}
 use Rattle.definitions.specs.Basics.{any, flat_map}
 use Rattle.definitions.specs.ContractFile.{Field, Scope, Node, FunctionRecord, parameter_of, function_of}
 use Rattle.definitions.specs.Owners.{no_links}

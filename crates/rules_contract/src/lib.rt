@@ -1,7 +1,8 @@
 // Numbers 8 to 15 of a contract that numbers 1 to 7 let pass, from its decoded slices; the owners of all its expressions in a column.
 #![tactic(auto)]
 
-ghost use Rattle.kit.specs.Names.{◌≡◌, ◌/◌, ◌<◌, ◌≤◌, length};
+ghost use Rattle.std.specs.Prelude.{◌≡◌, ◌/◌, ◌<◌, ◌≤◌};
+ghost use Rattle.kit.specs.Names.{length};
 ghost use Rattle.definitions.specs.Basics.{first_that_holds};
 ghost use Rattle.definitions.specs.ContractFile.{contract_of};
 ghost use Rattle.definitions.specs.Numbers.{contract_sentences};

@@ -1,7 +1,7 @@
 // An entry of a mapping judged on its key's judgement: numbers 8, 9, 10 and 11.
 #![tactic(auto)]
 
-ghost use Rattle.kit.specs.Names.{◌≡◌};
+ghost use Rattle.std.specs.Prelude.{◌≡◌};
 ghost use Rattle.rules_links.specs.Classes.{linked_by};
 ghost use Rattle.rules_codes.specs.Codes.{HasClass, place_number};
 ghost use Rattle.rules_judgements.specs.Judging.{entry_fault, entry_judged};

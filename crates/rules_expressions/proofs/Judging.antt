@@ -1,5 +1,6 @@
 -- What judging a node of each kind answers, and leaves in the column of owners, from what judging its parts did.
-use Rattle.kit.specs.Names.{◌≡◌, refl, ap, sym, ◌∙◌, Bool, List, [], ◌∷◌, map, ℕ, ◌+◌, ◌*◌, ◌/◌, ◌<◌, ◌≤◌, arith, length, set, length-map}
+use Rattle.std.specs.Prelude.{◌≡◌, ◌∷◌, ◌+◌, ◌*◌, ◌/◌, ◌<◌, ◌≤◌}
+use Rattle.kit.specs.Names.{refl, ap, sym, ◌∙◌, Bool, List, [], map, ℕ, arith, length, set, length-map}
 use Rattle.definitions.specs.ContractFile.{Expression, Scope, NodeRecord, owner_of_code, constant_value, parameter_of, kind_of, node_of, node_of_kind, expression_parts}
 use Rattle.definitions.specs.Numbers.{owner_fits}
 use Rattle.theory_trees.specs.Trees.{expression_in, Reads}

@@ -1,5 +1,6 @@
 -- What judging an expression's node answers, and leaves in the column of owners.
-use Rattle.kit.specs.Names.{◌≡◌, List, ℕ, length}
+use Rattle.std.specs.Prelude.{◌≡◌}
+use Rattle.kit.specs.Names.{List, ℕ, length}
 use Rattle.theory_trees.specs.Trees.{expression_in}
 use Rattle.rules_links.specs.Classes.{linked_by}
 use Rattle.rules_scopes.specs.Trees.{nodes_in}

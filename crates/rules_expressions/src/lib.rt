@@ -1,7 +1,8 @@
 // The judgement of an expression's node, which marks owners in a column, by recursion over its children.
 #![tactic(auto)]
 
-ghost use Rattle.kit.specs.Names.{◌/◌, ◌<◌, ◌≤◌, length};
+ghost use Rattle.std.specs.Prelude.{◌/◌, ◌<◌, ◌≤◌};
+ghost use Rattle.kit.specs.Names.{length};
 ghost use Rattle.rules_scopes.specs.Scopes.{Ready};
 ghost use Rattle.rules_expressions.specs.Marking.{MarkedAs};
 

@@ -1,5 +1,6 @@
 -- The least fault of lists put together, of one sentence, and of a contract.
-use Rattle.kit.specs.Names.{◌≡◌, refl, Bool, true, false, cond, ◌||◌, List, [], ◌∷◌, ◌++◌, ℕ, zero, suc, ◌+◌, ◌≤◌, min, arith, eqb}
+use Rattle.std.specs.Prelude.{◌≡◌, ◌||◌, ◌∷◌, ◌++◌, ◌+◌, ◌≤◌}
+use Rattle.kit.specs.Names.{refl, Bool, true, false, cond, List, [], ℕ, zero, suc, min, arith, eqb}
 use Rattle.definitions.specs.Basics.{any, first_that_holds}
 use Rattle.definitions.specs.Numbers.{fault, contract_faults, contract_sentences}
 use Rattle.definitions.specs.ContractFile.{Contract}

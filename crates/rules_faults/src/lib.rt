@@ -1,7 +1,8 @@
 // The least of the numbers 8 to 15 that a tree is refused by, 16 standing for none.
 #![tactic(auto)]
 
-ghost use Rattle.kit.specs.Names.{◌≡◌, cond, ◌&&◌, min};
+ghost use Rattle.std.specs.Prelude.{◌≡◌, ◌&&◌};
+ghost use Rattle.kit.specs.Names.{cond, min};
 
 // "The first sentence that holds gives the number": of two faults the lower counts.
 pub fn least(a: u8, b: u8) -> u8

@@ -1,5 +1,6 @@
 -- Faults of a list's elements one after another, and of a field's own owner code.
-use Rattle.kit.specs.Names.{◌≡◌, ap, sym, ◌∙◌, true, false, not, cond, List, [], ◌∷◌, append-nil, ℕ, suc, ◌+◌, ◌-◌, ◌/◌, ◌<◌, ◌≤◌, min}
+use Rattle.std.specs.Prelude.{◌≡◌, ◌∷◌, ◌+◌, ◌-◌, ◌/◌, ◌<◌, ◌≤◌}
+use Rattle.kit.specs.Names.{ap, sym, ◌∙◌, true, false, not, cond, List, [], append-nil, ℕ, suc, min}
 use Rattle.kit.specs.Names.{arith, add-one, eqb, length, get_or, drop, length-map, drop_of_length-le, drop-cons, ne_eqb}
 use Rattle.definitions.specs.Basics.{flat_map}
 use Rattle.definitions.specs.ContractFile.{field_of}

@@ -1,5 +1,6 @@
 -- A contract's fields as the decoded slice holds them, and the least fault of one and of all.
-use Rattle.kit.specs.Names.{List, map, ℕ, ◌/◌, length}
+use Rattle.std.specs.Prelude.{◌/◌}
+use Rattle.kit.specs.Names.{List, map, ℕ, length}
 use Rattle.definitions.specs.Basics.{flat_map}
 use Rattle.definitions.specs.ContractFile.{Field, field_at, field_of}
 use Rattle.definitions.specs.Numbers.{field_faults}

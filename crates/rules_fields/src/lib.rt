@@ -1,7 +1,8 @@
 // Number 8 of a contract's fields, in their declared owners; apart from its functions, whose judging needs none of it.
 #![tactic(auto)]
 
-ghost use Rattle.kit.specs.Names.{◌≡◌, ◌/◌, ◌<◌, length};
+ghost use Rattle.std.specs.Prelude.{◌≡◌, ◌/◌, ◌<◌};
+ghost use Rattle.kit.specs.Names.{length};
 ghost use Rattle.rules_scopes.specs.Scopes.{FieldsReady};
 ghost use Rattle.rules_fields.specs.Fields.{owner_fault, all_fields_fault};
 

@@ -1,5 +1,6 @@
 -- The judgement that code makes of each kind of expression is right if those of its parts are.
-use Rattle.kit.specs.Names.{◌≡◌, refl, ◌∙◌, Bool, true, false, not, cond, ◌&&◌, ◌||◌, ◌++◌, none, some, ℕ, ◌+◌, ◌≤◌, ◌<◌}
+use Rattle.std.specs.Prelude.{◌≡◌, ◌&&◌, ◌||◌, ◌++◌, ◌+◌, ◌≤◌, ◌<◌}
+use Rattle.kit.specs.Names.{refl, ◌∙◌, Bool, true, false, not, cond, none, some, ℕ}
 use Rattle.kit.specs.Names.{arith, eqb, leb, length, eqb-true}
 use Rattle.definitions.specs.ContractFile.{final_name, parameter_name, Expression, constant, me, field, entry, parameter, Scope, field_at, parameter_at, data_type_of, type_of}
 use Rattle.definitions.specs.Owners.{Links, owner_of, name_of, place_owner}

@@ -1,5 +1,6 @@
 -- What the judgement of an expression says, and how it comes from those of its parts.
-use Rattle.kit.specs.Names.{◌≡◌, not, cond, ◌&&◌, ◌||◌, ℕ, ◌+◌, ◌<◌, min, eqb, leb}
+use Rattle.std.specs.Prelude.{◌≡◌, ◌&&◌, ◌||◌, ◌+◌, ◌<◌}
+use Rattle.kit.specs.Names.{not, cond, ℕ, min, eqb, leb}
 use Rattle.definitions.specs.ContractFile.{Expression, Scope, data_type_code, type_of}
 use Rattle.definitions.specs.Owners.{Links, owner_of, name_of, is_reader}
 use Rattle.definitions.specs.Numbers.{expression_faults, fault}

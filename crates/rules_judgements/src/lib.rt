@@ -1,7 +1,8 @@
 // What is found of an expression: its data type, owner, name and least fault; of constants and places.
 #![tactic(auto)]
 
-ghost use Rattle.kit.specs.Names.{◌≡◌, ◌+◌, ◌<◌, ◌≤◌, length};
+ghost use Rattle.std.specs.Prelude.{◌≡◌, ◌+◌, ◌<◌, ◌≤◌};
+ghost use Rattle.kit.specs.Names.{length};
 ghost use Rattle.rules_links.specs.Classes.{linked_by};
 ghost use Rattle.rules_codes.specs.Codes.{HasClass, place_number};
 ghost use Rattle.rules_judgements.specs.Judging.{constant_judged, me_judged, final_name_number, field_judged, argument_name};

@@ -1,5 +1,6 @@
 -- The links that a condition's node gives, by its kind.
-use Rattle.kit.specs.Names.{◌≡◌, refl, List, ℕ, zero, suc, ◌+◌, ◌/◌, length}
+use Rattle.std.specs.Prelude.{◌≡◌, ◌+◌, ◌/◌}
+use Rattle.kit.specs.Names.{refl, List, ℕ, zero, suc, length}
 use Rattle.definitions.specs.ContractFile.{Expression, Scope, operator_of}
 use Rattle.definitions.specs.Owners.{Links, links_of_condition, with_link_of, name_of}
 use Rattle.rules_owners.specs.Numbering.{name_with}

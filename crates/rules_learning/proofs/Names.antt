@@ -1,5 +1,6 @@
 -- The name that a node's expression is, by its kind.
-use Rattle.kit.specs.Names.{◌≡◌, refl, ◌⊎◌, inl, inr, List, [], ℕ, ◌+◌, ◌*◌, ◌/◌, ◌<◌, arith, length}
+use Rattle.std.specs.Prelude.{◌≡◌, ◌⊎◌, ◌+◌, ◌*◌, ◌/◌, ◌<◌}
+use Rattle.kit.specs.Names.{refl, inl, inr, List, [], ℕ, arith, length}
 use Rattle.definitions.specs.ContractFile.{NodeRecord}
 use Rattle.definitions.specs.Owners.{name_of}
 use Rattle.theory_trees.specs.Trees.{expression_in, Reads}

@@ -1,7 +1,8 @@
 // The links that a condition gives, by recursion over its "and" tree; apart from the judgement of expressions, which needs none of it.
 #![tactic(auto)]
 
-ghost use Rattle.kit.specs.Names.{◌≡◌, ◌+◌, ◌/◌, ◌<◌, length};
+ghost use Rattle.std.specs.Prelude.{◌≡◌, ◌+◌, ◌/◌, ◌<◌};
+ghost use Rattle.kit.specs.Names.{length};
 ghost use Rattle.definitions.specs.Owners.{name_of, links_of_condition};
 ghost use Rattle.theory_trees.specs.Trees.{expression_in};
 ghost use Rattle.rules_owners.specs.Numbering.{name_with};

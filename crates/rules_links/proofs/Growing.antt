@@ -1,5 +1,6 @@
 -- Links learnt one after the other, and none learnt.
-use Rattle.kit.specs.Names.{◌≡◌, refl, ◌∙◌, Bool, true, ◌||◌, true≢false, List, ℕ, length}
+use Rattle.std.specs.Prelude.{◌≡◌, ◌||◌}
+use Rattle.kit.specs.Names.{refl, ◌∙◌, Bool, true, true≢false, List, ℕ, length}
 use Rattle.definitions.specs.Owners.{Links}
 use Rattle.theory_laws.proofs.TruthValues.{or_left, or_right}
 use Rattle.rules_links.specs.Classes.{Classed, linked_by, Learnt}

@@ -1,7 +1,8 @@
 -- What classes stand for: at the start, in a test, and after two of them are joined.
+use Rattle.std.specs.Prelude.{◌≡◌, ◌&&◌, ◌||◌, ◌+◌, ◌≤◌, ◌<◌}
 use mathlib.Core.Bool.{and-false}
-use Rattle.kit.specs.Names.{◌≡◌, refl, ap, sym, ◌∙◌, fun_ext, Bool, true, false, cond, ◌&&◌, ◌||◌, and-true, or-false, true≢false, false≢true}
-use Rattle.kit.specs.Names.{List, ℕ, ◌+◌, ◌≤◌, ◌<◌, arith, eqb, ltb, length, get_or, get_or_eq_default, ltb-true, ltb-false, eqb-true, eqb-false}
+use Rattle.kit.specs.Names.{refl, ap, sym, ◌∙◌, fun_ext, Bool, true, false, cond, and-true, or-false, true≢false, false≢true}
+use Rattle.kit.specs.Names.{List, ℕ, arith, eqb, ltb, length, get_or, get_or_eq_default, ltb-true, ltb-false, eqb-true, eqb-false}
 use Rattle.kit.specs.Names.{eq-eqb, ne_eqb}
 use Rattle.definitions.specs.ContractFile.{Name, me_name, final_name, parameter_name, same_name}
 use Rattle.definitions.specs.Owners.{no_links, with_link, with_link_of}

@@ -1,5 +1,6 @@
 -- Names that have a class of their own, and their numbers.
-use Rattle.kit.specs.Names.{◌≡◌, true, ℕ, ◌+◌, ◌≤◌, ◌<◌, arith, ltb-true, lt-ltb}
+use Rattle.std.specs.Prelude.{◌≡◌, ◌+◌, ◌≤◌, ◌<◌}
+use Rattle.kit.specs.Names.{true, ℕ, arith, ltb-true, lt-ltb}
 use Rattle.definitions.specs.ContractFile.{Name, me_name, final_name, parameter_name}
 use Rattle.rules_owners.specs.Numbering.{name_numbered, number_of_name}
 use Rattle.rules_owners.proofs.Numbering.{Numbered, caller, argument, final, numbered, argument_numbered, final_numbered}

@@ -1,5 +1,6 @@
 -- A list whose places are written one after the other.
-use Rattle.kit.specs.Names.{◌≡◌, refl, ◌∙◌, Bool, true, false, List, ℕ, ◌+◌, ◌≤◌, ◌<◌, arith, eqb, length, get_or, set, length-set}
+use Rattle.std.specs.Prelude.{◌≡◌, ◌+◌, ◌≤◌, ◌<◌}
+use Rattle.kit.specs.Names.{refl, ◌∙◌, Bool, true, false, List, ℕ, arith, eqb, length, get_or, set, length-set}
 use Rattle.kit.specs.Names.{get_or-set_same, get_or-set_other, eqb-true, eqb-false}
 
 -- Up to i each place has its value, from i on the list is as before.

@@ -1,5 +1,6 @@
 -- The links that a list of class numbers stands for, one class number at each owner's number.
-use Rattle.kit.specs.Names.{◌≡◌, Bool, true, false, ◌&&◌, cond, List, ℕ, ◌+◌, ◌<◌, ◌≤◌, eqb, ltb, length, get_or}
+use Rattle.std.specs.Prelude.{◌≡◌, ◌&&◌, ◌+◌, ◌<◌, ◌≤◌}
+use Rattle.kit.specs.Names.{Bool, true, false, cond, List, ℕ, eqb, ltb, length, get_or}
 use Rattle.definitions.specs.ContractFile.{Name, me_name, final_name, parameter_name, same_name}
 use Rattle.definitions.specs.Owners.{Links}
 use Rattle.rules_owners.specs.Numbering.{number_of_name}

@@ -3,7 +3,8 @@
 // it, and no class need be looked at.
 #![tactic(auto)]
 
-ghost use Rattle.kit.specs.Names.{◌≡◌, ◌<◌, ◌≤◌, eqb, length, get_or};
+ghost use Rattle.std.specs.Prelude.{◌≡◌, ◌<◌, ◌≤◌};
+ghost use Rattle.kit.specs.Names.{eqb, length, get_or};
 ghost use Rattle.definitions.specs.Owners.{no_links, with_link_of};
 ghost use Rattle.rules_owners.specs.Numbering.{name_with};
 ghost use Rattle.rules_links.specs.Classes.{Classed, linked_by, exchanged, Learnt};

@@ -1,7 +1,8 @@
 -- Marking one list of nodes after another, and the nodes at a place: those of its parts, and then its own.
+use Rattle.std.specs.Prelude.{◌≡◌, ◌∷◌, ◌++◌, ◌<◌}
 use mathlib.Core.List.Memᴰ
-use Rattle.kit.specs.Names.{◌≡◌, refl, ap, ap₂, ◌∙◌, Bool, true, false, cond, List, [], ◌∷◌, ◌++◌, Member, member_head, member_tail}
-use Rattle.kit.specs.Names.{member_not_nil, member_append_cases, member_append_left, member_append_right, ⊎_elim, map, ℕ, zero, suc, ◌<◌}
+use Rattle.kit.specs.Names.{refl, ap, ap₂, ◌∙◌, Bool, true, false, cond, List, [], Member, member_head, member_tail}
+use Rattle.kit.specs.Names.{member_not_nil, member_append_cases, member_append_left, member_append_right, ⊎_elim, map, ℕ, zero, suc}
 use Rattle.kit.specs.Names.{arith, ltb, length, set, length-set, ltb-true}
 use Rattle.definitions.specs.Basics.{all, flat_map}
 use Rattle.definitions.specs.ContractFile.{Node, node_at, children, expression_parts, is_expression, is_statement}

@@ -1,5 +1,6 @@
 -- What marking leaves of the nodes under a node, by its kind: what marking its parts left, one after the other, and then its own owner.
-use Rattle.kit.specs.Names.{◌≡◌, refl, ap, sym, ◌∙◌, Bool, true, false, cond, List, [], ◌∷◌, ◌++◌, map, ℕ, eqb, set, eqb-true}
+use Rattle.std.specs.Prelude.{◌≡◌, ◌∷◌, ◌++◌}
+use Rattle.kit.specs.Names.{refl, ap, sym, ◌∙◌, Bool, true, false, cond, List, [], map, ℕ, eqb, set, eqb-true}
 use Rattle.definitions.specs.Basics.{flat_map}
 use Rattle.definitions.specs.ContractFile.{NodeRecord, Node, Kind, constant_kind, me_kind, field_kind, entry_kind, parameter_kind, operator_kind}
 use Rattle.definitions.specs.ContractFile.{negation_kind, reveal_kind, skip_kind, sequence_kind, assign_field_kind, assign_entry_kind, require_kind, conditional_kind, no_kind, kind_of, node_of, node_of_kind, node_at, expression_parts, statement_parts}

@@ -1,5 +1,6 @@
 -- What judging leaves in the column of owners.
-use Rattle.kit.specs.Names.{cond, List, [], ◌∷◌, ◌++◌, map, ℕ, zero, suc, set}
+use Rattle.std.specs.Prelude.{◌∷◌, ◌++◌}
+use Rattle.kit.specs.Names.{cond, List, [], map, ℕ, zero, suc, set}
 use Rattle.definitions.specs.Basics.{flat_map}
 use Rattle.definitions.specs.ContractFile.{Scope, Node, node_at, expression_parts, statement_parts, is_expression, is_statement}
 use Rattle.definitions.specs.Owners.{owner_of}

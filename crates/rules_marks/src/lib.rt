@@ -1,7 +1,8 @@
 // The column of owners: the number of each judged expression's owner, at its node's number.
 #![tactic(auto)]
 
-ghost use Rattle.kit.specs.Names.{◌≡◌, ◌<◌, length, set};
+ghost use Rattle.std.specs.Prelude.{◌≡◌, ◌<◌};
+ghost use Rattle.kit.specs.Names.{length, set};
 
 use rules_judgements::Judged;
 

@@ -1,6 +1,7 @@
 -- Where one branch has added no link, what both have is what was there before.
+use Rattle.std.specs.Prelude.{◌≡◌, ◌&&◌}
 use mathlib.Core.Bool.{and-false}
-use Rattle.kit.specs.Names.{◌≡◌, refl, sym, fun_ext, Bool, true, false, ◌&&◌, List, ℕ}
+use Rattle.kit.specs.Names.{refl, sym, fun_ext, Bool, true, false, List, ℕ}
 use Rattle.definitions.specs.Owners.{linked_in_both}
 use Rattle.rules_links.specs.Classes.{Classed, linked_by, Learnt}
 use Rattle.rules_links.proofs.Growing.{nothing_learnt}

@@ -1,6 +1,7 @@
 -- Names of one pair of classes, one of each branch, get one number: the last of them.
+use Rattle.std.specs.Prelude.{◌≡◌, ◌&&◌, ◌+◌, ◌*◌, ◌≤◌, ◌<◌}
 use mathlib.Core.Bool.{and_self}
-use Rattle.kit.specs.Names.{◌≡◌, refl, sym, ap, ◌∙◌, fun_ext, Bool, true, false, ◌&&◌, List, ℕ, ◌+◌, ◌*◌, ◌≤◌, ◌<◌, arith, eqb}
+use Rattle.kit.specs.Names.{refl, sym, ap, ◌∙◌, fun_ext, Bool, true, false, List, ℕ, arith, eqb}
 use Rattle.kit.specs.Names.{length, get_or, set, replicate, length-set, length-replicate, get_or-set_same, get_or-set_other, eqb-true, eqb-false, eq-eqb, ne_eqb}
 use Rattle.definitions.specs.ContractFile.{Name}
 use Rattle.definitions.specs.Owners.{linked_in_both}

@@ -1,5 +1,6 @@
 -- What a branch does to the links that an if gives it, and the links behind the if.
-use Rattle.kit.specs.Names.{◌≡◌, Bool, true, false, List, ℕ, length}
+use Rattle.std.specs.Prelude.{◌≡◌}
+use Rattle.kit.specs.Names.{Bool, true, false, List, ℕ, length}
 use Rattle.definitions.specs.ContractFile.{Name}
 use Rattle.definitions.specs.Owners.{linked_in_both}
 use Rattle.rules_links.specs.Classes.{Classed, linked_by, Learnt}

@@ -1,7 +1,8 @@
 // A node's five numbers read at once, so that a function which goes by a node's kind has one step before its match.
 #![tactic(auto)]
 
-ghost use Rattle.kit.specs.Names.{◌≡◌, ◌*◌, ◌/◌, ◌<◌, ◌≤◌, length};
+ghost use Rattle.std.specs.Prelude.{◌≡◌, ◌*◌, ◌/◌, ◌<◌, ◌≤◌};
+ghost use Rattle.kit.specs.Names.{length};
 ghost use Rattle.definitions.specs.ContractFile.{node};
 ghost use Rattle.file_decoded.specs.Slices.{node_from};
 

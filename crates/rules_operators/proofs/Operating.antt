@@ -1,5 +1,6 @@
 -- The judgement that code makes of an operator, not or reveal is right if those of its operands are.
-use Rattle.kit.specs.Names.{◌≡◌, refl, Bool, not, ◌&&◌, ◌||◌, ℕ, ◌≤◌, ◌<◌, arith, eqb}
+use Rattle.std.specs.Prelude.{◌≡◌, ◌&&◌, ◌||◌, ◌≤◌, ◌<◌}
+use Rattle.kit.specs.Names.{refl, Bool, not, ℕ, arith, eqb}
 use Rattle.definitions.specs.ContractFile.{Expression, operator, negation, reveal, Scope, is_division, operator_of, type_of}
 use Rattle.definitions.specs.Owners.{Links, owner_of, name_of}
 use Rattle.definitions.specs.Numbers.{expression_faults, owner_fits}

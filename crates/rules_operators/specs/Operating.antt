@@ -1,5 +1,6 @@
 -- The judgements of operators, not and reveal, from those of their operands.
-use Rattle.kit.specs.Names.{Bool, not, cond, ◌&&◌, ◌||◌, ℕ, min, eqb}
+use Rattle.std.specs.Prelude.{◌&&◌, ◌||◌}
+use Rattle.kit.specs.Names.{Bool, not, cond, ℕ, min, eqb}
 use Rattle.definitions.specs.ContractFile.{data_type_code, is_division, operator_of, result_type}
 use Rattle.definitions.specs.Owners.{Links}
 use Rattle.rules_codes.specs.Codes.{fit_codes, parts_number}

@@ -1,7 +1,7 @@
 // What is found of an operator, from what is found of its operands: numbers 9, 11 and 12.
 #![tactic(auto)]
 
-ghost use Rattle.kit.specs.Names.{◌≡◌};
+ghost use Rattle.std.specs.Prelude.{◌≡◌};
 ghost use Rattle.rules_links.specs.Classes.{linked_by};
 ghost use Rattle.rules_codes.specs.Codes.{HasClass};
 ghost use Rattle.rules_operators.specs.Operating.{operator_judged};

@@ -1,5 +1,6 @@
 -- Owners by number are the owners that the file's codes name.
-use Rattle.kit.specs.Names.{◌≡◌, refl, sym, Bool, true, false, cond, ◌&&◌, ◌||◌, or-false, false≢true, ℕ, ◌+◌, ◌-◌, ◌≤◌, ◌<◌, arith, eqb, leb, ltb}
+use Rattle.std.specs.Prelude.{◌≡◌, ◌&&◌, ◌||◌, ◌+◌, ◌-◌, ◌≤◌, ◌<◌}
+use Rattle.kit.specs.Names.{refl, sym, Bool, true, false, cond, or-false, false≢true, ℕ, arith, eqb, leb, ltb}
 use Rattle.kit.specs.Names.{ltb-true, ltb-false, leb-true, leb-false, eqb-true, eqb-false, lt-ltb, le-ltb, lt-leb, ne_eqb}
 use Rattle.definitions.specs.Basics.{is_zero, any}
 use Rattle.definitions.specs.ContractFile.{me_name, final_name, parameter_name, Owner, everyone, owned_by, is_final_code, owner_of_code, field_owner_of_code}

@@ -1,5 +1,6 @@
 -- Owners and names by number: 0 all, 1 the caller, 2 + k parameter k (k 0 to 7), 10 + f final f.
-use Rattle.kit.specs.Names.{Bool, ◌||◌, cond, Option, none, some, ℕ, ◌+◌, ◌-◌, eqb, ltb}
+use Rattle.std.specs.Prelude.{◌||◌, ◌+◌, ◌-◌}
+use Rattle.kit.specs.Names.{Bool, cond, Option, none, some, ℕ, eqb, ltb}
 use Rattle.definitions.specs.Basics.{is_zero}
 use Rattle.definitions.specs.ContractFile.{Name, me_name, final_name, parameter_name, Owner, everyone, owned_by, FieldOwner, to_everyone, to_key}
 use Rattle.definitions.specs.ContractFile.{to_final, is_final_code}

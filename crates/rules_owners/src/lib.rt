@@ -2,7 +2,8 @@
 // owners lie close together, so that a table has one place for each.
 #![tactic(auto)]
 
-ghost use Rattle.kit.specs.Names.{◌≡◌, true};
+ghost use Rattle.std.specs.Prelude.{◌≡◌};
+ghost use Rattle.kit.specs.Names.{true};
 ghost use Rattle.definitions.specs.ContractFile.{owner_of_code};
 ghost use Rattle.definitions.specs.Numbers.{target_in_tables};
 ghost use Rattle.rules_owners.specs.Numbering.{number_of_owner, is_field_code, declared_number};

@@ -1,7 +1,7 @@
 // A negation and a reveal judged on their part's judgement: numbers 9, 11 and 13.
 #![tactic(auto)]
 
-ghost use Rattle.kit.specs.Names.{◌≡◌};
+ghost use Rattle.std.specs.Prelude.{◌≡◌};
 ghost use Rattle.rules_links.specs.Classes.{linked_by};
 ghost use Rattle.rules_codes.specs.Codes.{HasClass};
 ghost use Rattle.rules_operators.specs.Operating.{negation_judged, reveal_judged};

@@ -1,6 +1,7 @@
 -- What a node names is there: fields, an owner's name; a condition that is no operator gives no links.
-use Rattle.kit.specs.Names.{◌≡◌, refl, ap, ◌∙◌, Bool, true, false, cond, ◌&&◌, List, [], ℕ, ◌+◌, ◌*◌, ◌/◌, ◌<◌, ◌≤◌, eqb, leb, length}
-use Rattle.kit.specs.Names.{◌∷◌, leb-true, leb-false, ne_eqb}
+use Rattle.std.specs.Prelude.{◌≡◌, ◌&&◌, ◌+◌, ◌*◌, ◌/◌, ◌<◌, ◌≤◌, ◌∷◌}
+use Rattle.kit.specs.Names.{refl, ap, ◌∙◌, Bool, true, false, cond, List, [], ℕ, eqb, leb, length}
+use Rattle.kit.specs.Names.{leb-true, leb-false, ne_eqb}
 use Rattle.definitions.specs.Basics.{any, is_zero}
 use Rattle.definitions.specs.ContractFile.{Expression, Scope, NodeRecord, data_type_of, owner_of_code, field_of_owner, is_of_type, Kind, kind_of, node_of, node_of_kind, constant_value, fields_named, expression_of}
 use Rattle.definitions.specs.Numbers.{node_in_tables, kind_in_tables, target_in_tables}

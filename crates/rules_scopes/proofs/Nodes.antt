@@ -1,5 +1,6 @@
 -- The node that a number names among the decoded ones; the numbers of the nodes fall from parent to child.
-use Rattle.kit.specs.Names.{◌≡◌, refl, ap, sym, ◌∙◌, Bool, true, false, List, ℕ, ◌+◌, ◌*◌, ◌/◌, ◌<◌, arith, ltb, length, ltb-false}
+use Rattle.std.specs.Prelude.{◌≡◌, ◌+◌, ◌*◌, ◌/◌, ◌<◌}
+use Rattle.kit.specs.Names.{refl, ap, sym, ◌∙◌, Bool, true, false, List, ℕ, arith, ltb, length, ltb-false}
 use Rattle.kit.specs.Names.{ltb-true}
 use Rattle.definitions.specs.Basics.{all}
 use Rattle.definitions.specs.ContractFile.{NodeRecord, node, unknown_node, node_of, node_at, children, expression_parts, statement_parts}

@@ -1,5 +1,6 @@
 -- The fields and parameters that decoded slices hold at an index, and what the tables say of them.
-use Rattle.kit.specs.Names.{◌≡◌, refl, ap, sym, ◌∙◌, Bool, true, false, not, ◌&&◌, List, ℕ, zero, suc, ◌+◌, ◌*◌, ◌-◌, ◌/◌, ◌<◌, ◌≤◌}
+use Rattle.std.specs.Prelude.{◌≡◌, ◌&&◌, ◌+◌, ◌*◌, ◌-◌, ◌/◌, ◌<◌, ◌≤◌}
+use Rattle.kit.specs.Names.{refl, ap, sym, ◌∙◌, Bool, true, false, not, List, ℕ, zero, suc}
 use Rattle.kit.specs.Names.{arith, map, eqb, leb, length, leb-true, length-map, get_or_eq_default}
 use Rattle.definitions.specs.ContractFile.{boolean, shape_code, shape_of, field_at, field_of, parameter_at, parameter_of}
 use Rattle.definitions.specs.Numbers.{parameter_in_tables, owner_fits}

@@ -1,5 +1,6 @@
 -- A function's scope as the decoded slices hold it, and what numbers 2 to 4 leave of them: all that judging relies on.
-use Rattle.kit.specs.Names.{◌≡◌, true, false, not, List, map, ℕ, ◌+◌, ◌*◌, ◌/◌, ◌<◌, ◌≤◌, eqb, leb, length}
+use Rattle.std.specs.Prelude.{◌≡◌, ◌+◌, ◌*◌, ◌/◌, ◌<◌, ◌≤◌}
+use Rattle.kit.specs.Names.{true, false, not, List, map, ℕ, eqb, leb, length}
 use Rattle.definitions.specs.Basics.{any}
 use Rattle.definitions.specs.ContractFile.{Field, Parameter, Scope, field_at, parameter_at, data_type_code, shape_code, field_of, parameter_of}
 use Rattle.definitions.specs.ContractFile.{node_of, children, fields_named}

@@ -1,7 +1,8 @@
 // The fields and parameters that a function's nodes name, as the decoded slices hold them.
 #![tactic(auto)]
 
-ghost use Rattle.kit.specs.Names.{◌≡◌, ◌+◌, ◌/◌, ◌<◌, length};
+ghost use Rattle.std.specs.Prelude.{◌≡◌, ◌+◌, ◌/◌, ◌<◌};
+ghost use Rattle.kit.specs.Names.{length};
 ghost use Rattle.definitions.specs.Numbers.{owner_fits};
 ghost use Rattle.rules_owners.specs.Numbering.{owner_with};
 ghost use Rattle.rules_scopes.specs.Scopes.{field_on, parameter_on, scope_from, IsField, IsParameter, FieldsReady, ParametersReady};

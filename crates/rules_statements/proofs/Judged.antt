@@ -1,5 +1,6 @@
 -- What judging a statement's node of each kind answers, and leaves in the classes and the column, from what judging its parts did.
-use Rattle.kit.specs.Names.{◌≡◌, refl, ap, ap₂, sym, ◌∙◌, false, ◌||◌, List, ◌++◌, ℕ, ◌*◌, ◌/◌, ◌<◌, ◌≤◌, min, arith, length, take, drop}
+use Rattle.std.specs.Prelude.{◌≡◌, ◌||◌, ◌++◌, ◌*◌, ◌/◌, ◌<◌, ◌≤◌}
+use Rattle.kit.specs.Names.{refl, ap, ap₂, sym, ◌∙◌, false, List, ℕ, min, arith, length, take, drop}
 use Rattle.definitions.specs.ContractFile.{Expression, Statement, Scope, NodeRecord}
 use Rattle.definitions.specs.Owners.{Links, linked_in_both, links_after, links_of_condition}
 use Rattle.definitions.specs.Numbers.{statement_faults, condition_faults}

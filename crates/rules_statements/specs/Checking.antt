@@ -1,5 +1,6 @@
 -- What is found of a condition and of a statement, and what judging it leaves in the classes and in the column of owners.
-use Rattle.kit.specs.Names.{◌≡◌, List, ℕ}
+use Rattle.std.specs.Prelude.{◌≡◌}
+use Rattle.kit.specs.Names.{List, ℕ}
 use Rattle.definitions.specs.ContractFile.{Statement, Scope}
 use Rattle.definitions.specs.Owners.{links_of_condition, links_after}
 use Rattle.definitions.specs.Numbers.{condition_faults, statement_faults}

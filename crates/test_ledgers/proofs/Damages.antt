@@ -1,5 +1,6 @@
 -- Damage by its kind, and the wrong answers counted one by one.
-use Rattle.kit.specs.Names.{◌≡◌, refl, ap, sym, ◌∙◌, Bool, true, false, cond, ◌&&◌, not, List, [], ◌∷◌, ℕ, suc, ◌+◌, ◌-◌, ◌<◌, ◌≤◌, arith}
+use Rattle.std.specs.Prelude.{◌≡◌, ◌&&◌, ◌∷◌, ◌+◌, ◌-◌, ◌<◌, ◌≤◌}
+use Rattle.kit.specs.Names.{refl, ap, sym, ◌∙◌, Bool, true, false, cond, not, List, [], ℕ, suc, arith}
 use Rattle.kit.specs.Names.{add-one, eqb, set, eq-eqb, ne_eqb, lt-ltb, le-ltb}
 use Rattle.definitions.specs.Basics.{is_zero, count_if}
 use Rattle.definitions.specs.Original.{numbers_from}

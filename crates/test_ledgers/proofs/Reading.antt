@@ -1,5 +1,6 @@
 -- What is read of a recorded run, step by step, is what the record says.
-use Rattle.kit.specs.Names.{◌≡◌, refl, ap, ◌∙◌, Bool, cond, ◌&&◌, List, ℕ, ◌+◌, ◌*◌, ◌-◌, ◌≤◌, arith, eqb, take}
+use Rattle.std.specs.Prelude.{◌≡◌, ◌&&◌, ◌+◌, ◌*◌, ◌-◌, ◌≤◌}
+use Rattle.kit.specs.Names.{refl, ap, ◌∙◌, Bool, cond, List, ℕ, arith, eqb, take}
 use Rattle.definitions.specs.Basics.{is_zero}
 use Rattle.definitions.specs.ContractFile.{byte_at}
 use Rattle.definitions.specs.Ledger.{deploy_number, deployed, call_number, ledger_after_call}

@@ -1,5 +1,6 @@
 -- The counts stay in order.
-use Rattle.kit.specs.Names.{◌≡◌, Bool, true, false, cond, ◌&&◌, ℕ, ◌<◌, ◌≤◌, arith, leb}
+use Rattle.std.specs.Prelude.{◌≡◌, ◌&&◌, ◌<◌, ◌≤◌}
+use Rattle.kit.specs.Names.{Bool, true, false, cond, ℕ, arith, leb}
 use Rattle.test_ledgers.specs.declared.recorded.Tally.{Tally}
 use Rattle.test_ledgers.specs.Tallies.{no_runs, Counted}
 

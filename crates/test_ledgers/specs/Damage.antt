@@ -1,5 +1,6 @@
 -- Damaged ledgers, and how many of the answers on them are wrong.
-use Rattle.kit.specs.Names.{◌≡◌, Bool, cond, ◌&&◌, not, List, [], ◌∷◌, ℕ, ◌+◌, eqb, ltb, set}
+use Rattle.std.specs.Prelude.{◌≡◌, ◌&&◌, ◌∷◌, ◌+◌}
+use Rattle.kit.specs.Names.{Bool, cond, not, List, [], ℕ, eqb, ltb, set}
 use Rattle.definitions.specs.Basics.{is_zero, count_if}
 use Rattle.definitions.specs.Original.{numbers_from}
 use Rattle.definitions.specs.Ledger.{deploy_number, deployed, call_number, ledger_after_call}

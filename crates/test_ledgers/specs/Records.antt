@@ -1,5 +1,6 @@
 -- What is read of a recorded run: its deployment, and its calls one after another. It serves document 01's "Runs and views".
-use Rattle.kit.specs.Names.{◌≡◌, cond, ◌&&◌, List, ℕ, ◌+◌, ◌*◌, ◌-◌, ◌≤◌, eqb, length, take}
+use Rattle.std.specs.Prelude.{◌≡◌, ◌&&◌, ◌+◌, ◌*◌, ◌-◌, ◌≤◌}
+use Rattle.kit.specs.Names.{cond, List, ℕ, eqb, length, take}
 use Rattle.definitions.specs.Basics.{is_zero}
 use Rattle.definitions.specs.ContractFile.{byte_at}
 use Rattle.definitions.specs.Ledger.{deploy_number, deployed, call_number, ledger_after_call}

@@ -1,5 +1,6 @@
 -- How many runs there were, and how many of them differ.
-use Rattle.kit.specs.Names.{◌≡◌, Bool, cond, ◌&&◌, ℕ, ◌+◌, leb}
+use Rattle.std.specs.Prelude.{◌≡◌, ◌&&◌, ◌+◌}
+use Rattle.kit.specs.Names.{Bool, cond, ℕ, leb}
 use Rattle.test_ledgers.specs.declared.recorded.Tally.{Tally}
 
 abbrev pub no_runs : Tally

@@ -1,7 +1,8 @@
 // Damaged ledgers. A contract, which is file A, is deployed with its final at address 5, and party 3 calls it with 7. The ledger is then
 // damaged by hand, each kind of damage by itself, and a call and a view on it are asked for: they must be refused, 18 and 21, and taken
 // where nothing is damaged.
-ghost use Rattle.kit.specs.Names.{◌≡◌, ◌<◌, set};
+ghost use Rattle.std.specs.Prelude.{◌≡◌, ◌<◌};
+ghost use Rattle.kit.specs.Names.{set};
 ghost use Rattle.test_ledgers.specs.Damage.{plain_place, cell_place, with_items, damaged_head, damaged_item, damaged_ledger};
 ghost use Rattle.test_ledgers.specs.Damage.{is_answered, wrong_answers, WrongOn};
 

@@ -1,7 +1,8 @@
 // Recorded runs, with what is told to their party: the number of every call and every value that it discloses are compared with what is
 // recorded. A record is one of the module `recorded`, with behind each call's number: count of the values that it discloses to the party
 // (2), each value (4).
-ghost use Rattle.kit.specs.Names.{◌≡◌, ◌+◌, ◌*◌, ◌-◌, ◌<◌, ◌≤◌, length};
+ghost use Rattle.std.specs.Prelude.{◌≡◌, ◌+◌, ◌*◌, ◌-◌, ◌<◌, ◌≤◌};
+ghost use Rattle.kit.specs.Names.{length};
 
 use crate::recorded::{Run, begun, called, read_call};
 use file_bytes::{byte_at, two_bytes_at};

@@ -7,7 +7,8 @@ mod disclosures;
 mod recorded;
 mod runs;
 
-ghost use Rattle.kit.specs.Names.{◌<◌, ◌≤◌, length};
+ghost use Rattle.std.specs.Prelude.{◌<◌, ◌≤◌};
+ghost use Rattle.kit.specs.Names.{length};
 
 use recorded::{Run, Tally, counted, no_runs};
 use test_shared::{part, print};

@@ -1,7 +1,8 @@
 // Recorded runs, as two modules read them. A record begins as a rehearsal's script does: length of a contract file (2), the file, count of
 // addresses (1), the addresses, party (1), count of calls (1). Of each call it has function (1), caller (1), count of arguments (1), each
 // argument (4) and the call's number (1); what else it has is its module's. It serves document 01's "Runs and views".
-ghost use Rattle.kit.specs.Names.{◌≡◌, cond, ◌&&◌, ◌+◌, ◌<◌, ◌≤◌, length, take};
+ghost use Rattle.std.specs.Prelude.{◌≡◌, ◌&&◌, ◌+◌, ◌<◌, ◌≤◌};
+ghost use Rattle.kit.specs.Names.{cond, length, take};
 ghost use Rattle.rehearse_scripts.specs.Scripts.{numbers_at};
 ghost use Rattle.test_shared.specs.Parts.{part_in};
 ghost use Rattle.test_ledgers.specs.Records.{IsBegun, IsRecordedCall, CalledIn};
@@ -13,7 +14,7 @@ use rehearse_scripts::four_bytes_at;
 use test_shared::part;
 
 // How far a run is: the place in its record, the calls that are left, its party, whether all was as recorded so far, and its ledger.
-#[derive(Drop)]
+#[derive(Clone, Copy)]
 pub struct Run {
     pub place: usize,
     pub left: usize,

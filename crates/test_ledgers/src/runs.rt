@@ -1,6 +1,6 @@
 // Recorded runs, with what their party sees: every number and every byte of every view is compared with what is recorded. A record is one
 // of the module `recorded`, with behind its count of calls, and behind each call's number: length of the view that follows (2), that view.
-ghost use Rattle.kit.specs.Names.{◌≡◌, ◌+◌, ◌<◌, ◌≤◌};
+ghost use Rattle.std.specs.Prelude.{◌≡◌, ◌+◌, ◌<◌, ◌≤◌};
 
 use crate::recorded::{Run, begun, called};
 use file_bytes::two_bytes_at;

@@ -1,6 +1,7 @@
 -- Writing and reporting a recorded file, held against its record.
-use Rattle.kit.specs.Names.{◌≡◌, refl, ap, sym, subst, ◌∙◌, Bool, true, false, cond, ◌&&◌, not, List, [], ◌∷◌, ◌++◌, ℕ, zero, suc, ◌+◌, ◌-◌}
-use Rattle.kit.specs.Names.{◌<◌, ◌≤◌, arith, zero-add, eqb, ltb, length, take, drop, eq-eqb, ne_eqb, lt-ltb, le-ltb, ltb-true, le-leb}
+use Rattle.std.specs.Prelude.{◌≡◌, ◌&&◌, ◌∷◌, ◌++◌, ◌+◌, ◌-◌, ◌<◌, ◌≤◌}
+use Rattle.kit.specs.Names.{refl, ap, sym, subst, ◌∙◌, Bool, true, false, cond, not, List, [], ℕ, zero, suc}
+use Rattle.kit.specs.Names.{arith, zero-add, eqb, ltb, length, take, drop, eq-eqb, ne_eqb, lt-ltb, le-ltb, ltb-true, le-leb}
 use Rattle.kit.specs.Names.{lt-leb}
 use Rattle.definitions.specs.Basics.{is_zero, first_that_holds, count_if}
 use Rattle.definitions.specs.ContractFile.{byte_at, two_bytes_at}

@@ -1,6 +1,7 @@
 -- An output before and after something is written to its front, and how it is held against what is due.
-use Rattle.kit.specs.Names.{◌≡◌, refl, ap, sym, ◌∙◌, Bool, true, false, cond, ◌&&◌, List, [], ◌∷◌, ◌++◌, append_assoc, ℕ, zero, suc, ◌+◌}
-use Rattle.kit.specs.Names.{◌-◌, ◌<◌, ◌≤◌, arith, add-one, eqb, length, get_or, take, drop, set, length-append, length-replicate}
+use Rattle.std.specs.Prelude.{◌≡◌, ◌&&◌, ◌∷◌, ◌++◌, ◌+◌, ◌-◌, ◌<◌, ◌≤◌}
+use Rattle.kit.specs.Names.{refl, ap, sym, ◌∙◌, Bool, true, false, cond, List, [], append_assoc, ℕ, zero, suc}
+use Rattle.kit.specs.Names.{arith, add-one, eqb, length, get_or, take, drop, set, length-append, length-replicate}
 use Rattle.kit.specs.Names.{get_or-replicate, replicate-append-replicate, get_or_append, take_all, take-suc-set, get_or-append-add, eqb-true}
 use Rattle.kit.specs.Names.{eq-eqb, ne_eqb}
 use Rattle.test_shared.specs.Bytes.{same_bytes}

@@ -1,5 +1,6 @@
 -- A record of a program as it is read, and records one by one.
-use Rattle.kit.specs.Names.{◌≡◌, ap, sym, subst, ◌∙◌, Bool, true, false, cond, not, List, ℕ, ◌+◌, ◌-◌, ◌<◌, ◌≤◌, arith, zero-add, leb}
+use Rattle.std.specs.Prelude.{◌≡◌, ◌+◌, ◌-◌, ◌<◌, ◌≤◌}
+use Rattle.kit.specs.Names.{ap, sym, subst, ◌∙◌, Bool, true, false, cond, not, List, ℕ, arith, zero-add, leb}
 use Rattle.kit.specs.Names.{length, eq-eqb, ne_eqb, le-leb, lt-leb}
 use Rattle.definitions.specs.Basics.{count_if}
 use Rattle.definitions.specs.ContractFile.{byte_at}

@@ -1,5 +1,6 @@
 -- Counting records one behind another: one more, the last, none left.
-use Rattle.kit.specs.Names.{◌≡◌, refl, ap, ◌∙◌, Bool, cond, List, [], ◌∷◌, ℕ, zero, suc, ◌+◌, ◌-◌, ◌<◌, ◌≤◌, arith, ltb, length, lt-ltb}
+use Rattle.std.specs.Prelude.{◌≡◌, ◌∷◌, ◌+◌, ◌-◌, ◌<◌, ◌≤◌}
+use Rattle.kit.specs.Names.{refl, ap, ◌∙◌, Bool, cond, List, [], ℕ, zero, suc, arith, ltb, length, lt-ltb}
 use Rattle.kit.specs.Names.{le-ltb}
 use Rattle.definitions.specs.Basics.{count_if}
 use Rattle.test_programs.specs.Records.{starts_from}

@@ -1,6 +1,7 @@
 -- A rehearsal's lines, one behind another, held against what is expected.
-use Rattle.kit.specs.Names.{◌≡◌, refl, ap, ap₂, sym, subst, ◌∙◌, Bool, true, false, cond, ◌&&◌, ◌||◌, not, List, [], ◌∷◌, ◌++◌, ℕ, suc, ◌+◌}
-use Rattle.kit.specs.Names.{◌-◌, ◌*◌, ◌<◌, ◌≤◌, min, arith, eqb, ltb, leb, length, take, drop, length-append, length-take, length-drop}
+use Rattle.std.specs.Prelude.{◌≡◌, ◌&&◌, ◌||◌, ◌∷◌, ◌++◌, ◌+◌, ◌-◌, ◌*◌, ◌<◌, ◌≤◌}
+use Rattle.kit.specs.Names.{refl, ap, ap₂, sym, subst, ◌∙◌, Bool, true, false, cond, not, List, [], ℕ, suc}
+use Rattle.kit.specs.Names.{min, arith, eqb, ltb, leb, length, take, drop, length-append, length-take, length-drop}
 use Rattle.kit.specs.Names.{take-append-drop, length-take-le, take_at, drop-drop, drop-length, eq-eqb, ne_eqb, lt-ltb, le-ltb, ltb-false}
 use Rattle.kit.specs.Names.{le-leb, leb-true, leb-false, eqb-true, eqb-false}
 use Rattle.definitions.specs.Basics.{first_that_holds}

@@ -1,6 +1,7 @@
 -- What a program shows, held against what is expected.
-use Rattle.kit.specs.Names.{◌≡◌, refl, ap, ap₂, sym, subst, ◌∙◌, Bool, true, false, cond, ◌&&◌, List, [], ◌∷◌, ◌++◌, ℕ, zero, suc, ◌+◌, ◌<◌}
-use Rattle.kit.specs.Names.{◌≤◌, min, arith, eqb, ltb, leb, length, take, drop, get_or, length-take, length-drop, length-take-le, take_all}
+use Rattle.std.specs.Prelude.{◌≡◌, ◌&&◌, ◌∷◌, ◌++◌, ◌+◌, ◌<◌, ◌≤◌}
+use Rattle.kit.specs.Names.{refl, ap, ap₂, sym, subst, ◌∙◌, Bool, true, false, cond, List, [], ℕ, zero, suc}
+use Rattle.kit.specs.Names.{min, arith, eqb, ltb, leb, length, take, drop, get_or, length-take, length-drop, length-take-le, take_all}
 use Rattle.kit.specs.Names.{take_at, get_or-take, get_or-drop, eq-eqb, ne_eqb, lt-ltb, le-ltb, le-leb, lt-leb, leb-true, leb-false}
 use Rattle.definitions.specs.Basics.{first_that_holds}
 use Rattle.definitions.specs.Numbers.{check_number, or_else}

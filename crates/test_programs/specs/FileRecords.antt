@@ -1,6 +1,7 @@
 -- Recorded contract files. A record is: length of the file (2), the file, its number (1), length of the written file (2), that file, length
 -- of the report (2), the report.
-use Rattle.kit.specs.Names.{◌≡◌, Bool, true, cond, ◌&&◌, not, List, ℕ, ◌+◌, eqb, leb, length}
+use Rattle.std.specs.Prelude.{◌≡◌, ◌&&◌, ◌+◌}
+use Rattle.kit.specs.Names.{Bool, true, cond, not, List, ℕ, eqb, leb, length}
 use Rattle.definitions.specs.Basics.{is_zero, count_if}
 use Rattle.definitions.specs.ContractFile.{byte_at, two_bytes_at}
 use Rattle.definitions.specs.Numbers.{check_number}

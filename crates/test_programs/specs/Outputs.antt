@@ -1,5 +1,6 @@
 -- What entries leave in an output, held against what is due.
-use Rattle.kit.specs.Names.{Bool, true, cond, ◌&&◌, List, ◌++◌, ℕ, ◌-◌, eqb, ltb, length, replicate}
+use Rattle.std.specs.Prelude.{◌&&◌, ◌++◌, ◌-◌}
+use Rattle.kit.specs.Names.{Bool, true, cond, List, ℕ, eqb, ltb, length, replicate}
 use Rattle.definitions.specs.Basics.{is_zero}
 use Rattle.definitions.specs.Rewriting.{written_file}
 use Rattle.test_shared.specs.Bytes.{same_bytes}

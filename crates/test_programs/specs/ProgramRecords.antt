@@ -1,6 +1,7 @@
 -- Recorded inputs of our programs. A record is: length of the program's name (1), the name, length of the options (1), the options, length
 -- of the input (4), the input, length of the expected output (4), that output.
-use Rattle.kit.specs.Names.{◌≡◌, Bool, cond, ◌&&◌, not, List, [], ◌∷◌, ◌++◌, ℕ, zero, suc, ◌+◌, eqb, leb, ltb, length, take, drop}
+use Rattle.std.specs.Prelude.{◌≡◌, ◌&&◌, ◌∷◌, ◌++◌, ◌+◌}
+use Rattle.kit.specs.Names.{Bool, cond, not, List, [], ℕ, zero, suc, eqb, leb, ltb, length, take, drop}
 use Rattle.definitions.specs.Basics.{is_zero, count_if}
 use Rattle.definitions.specs.ContractFile.{byte_at}
 use Rattle.definitions.specs.Numbers.{check_number}

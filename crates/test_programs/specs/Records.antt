@@ -1,5 +1,6 @@
 -- Records that stand one behind another.
-use Rattle.kit.specs.Names.{cond, List, [], ◌∷◌, ℕ, zero, suc, ltb}
+use Rattle.std.specs.Prelude.{◌∷◌}
+use Rattle.kit.specs.Names.{cond, List, [], ℕ, zero, suc, ltb}
 
 -- Where the records begin, from a place on: each begins where the one before it ends. As many levels as there can be records.
 unfoldable pub starts_from : (ℕ → ℕ) → ℕ → ℕ → ℕ → List ℕ

@@ -1,7 +1,8 @@
 // Recorded contract files: each is checked, written and reported on, and every number and byte is compared with those recorded beside it.
 // A record is: length of the file (2), the file, its number (1), length of the written file (2), that file, length of the report (2), the
 // report.
-ghost use Rattle.kit.specs.Names.{◌≡◌, ◌≤◌, ◌+◌, length};
+ghost use Rattle.std.specs.Prelude.{◌≡◌, ◌≤◌, ◌+◌};
+ghost use Rattle.kit.specs.Names.{length};
 ghost use Rattle.definitions.specs.Numbers.{check_number};
 ghost use Rattle.test_shared.specs.Bytes.{same_bytes};
 ghost use Rattle.test_programs.specs.FileRecords.{part_end, file_agrees, is_written_as, is_reported_as, FilesTally};

@@ -6,7 +6,8 @@
 mod files;
 mod programs;
 
-ghost use Rattle.kit.specs.Names.{◌≤◌, length};
+ghost use Rattle.std.specs.Prelude.{◌≤◌};
+ghost use Rattle.kit.specs.Names.{length};
 
 use test_shared::Tally;
 

@@ -1,7 +1,8 @@
 // Recorded inputs of our programs: what each prints is worked out, and every byte compared with what is recorded beside it. A record is:
 // length of the program's name (1), the name, length of the options (1), the options, length of the input (4), the input, length of the
 // expected output (4), that output. Numbers are low byte first.
-ghost use Rattle.kit.specs.Names.{◌≡◌, ◌+◌, ◌<◌, ◌≤◌, length, take};
+ghost use Rattle.std.specs.Prelude.{◌≡◌, ◌+◌, ◌<◌, ◌≤◌};
+ghost use Rattle.kit.specs.Names.{length, take};
 ghost use Rattle.definitions.specs.ContractFile.{byte_at};
 ghost use Rattle.definitions.specs.Numbers.{check_number};
 ghost use Rattle.definitions.specs.Report.{report_text};

@@ -1,5 +1,6 @@
 -- Bytes are the same exactly where the lists are equal; and how a comparison from the front goes on.
-use Rattle.kit.specs.Names.{◌≡◌, refl, ap, ap₂, sym, ◌∙◌, Bool, true, false, ◌&&◌, false≢true, List, [], ◌∷◌, ℕ, suc, ◌+◌, ◌<◌, ◌≤◌, arith}
+use Rattle.std.specs.Prelude.{◌≡◌, ◌&&◌, ◌∷◌, ◌+◌, ◌<◌, ◌≤◌}
+use Rattle.kit.specs.Names.{refl, ap, ap₂, sym, ◌∙◌, Bool, true, false, false≢true, List, [], ℕ, suc, arith}
 use Rattle.kit.specs.Names.{add-one, eqb, length, get_or, drop, drop-cons, drop-length, eqb-true, eq-eqb, ne_eqb}
 use Rattle.theory_laws.proofs.TruthValues.{and_parts, and_both}
 use Rattle.test_shared.specs.Bytes.{same_bytes}

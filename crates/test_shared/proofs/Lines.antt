@@ -1,5 +1,6 @@
 -- The line fits its room.
-use Rattle.kit.specs.Names.{List, ◌++◌, ℕ, ◌+◌, ◌≤◌, arith, length, length-append}
+use Rattle.std.specs.Prelude.{◌++◌, ◌+◌, ◌≤◌}
+use Rattle.kit.specs.Names.{List, ℕ, arith, length, length-append}
 use Rattle.definitions.specs.Report.{decimal}
 use Rattle.report_text.proofs.Digits.{digits_length}
 use Rattle.test_shared.specs.Lines.{tally_line}

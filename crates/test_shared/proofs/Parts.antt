@@ -1,5 +1,6 @@
 -- A part that is not all there, one that ends before it starts, and any other.
-use Rattle.kit.specs.Names.{◌≡◌, ap, sym, ◌∙◌, List, [], ℕ, ◌-◌, ◌<◌, ◌≤◌, arith, length, take, drop, le-leb, lt-leb}
+use Rattle.std.specs.Prelude.{◌≡◌, ◌-◌, ◌<◌, ◌≤◌}
+use Rattle.kit.specs.Names.{ap, sym, ◌∙◌, List, [], ℕ, arith, length, take, drop, le-leb, lt-leb}
 use Rattle.rehearse_scripts.specs.Scripts.{part}
 use Rattle.test_shared.specs.Parts.{part_in}
 

@@ -1,5 +1,6 @@
 -- Whether two lists of bytes are the same.
-use Rattle.kit.specs.Names.{Bool, true, false, ◌&&◌, List, [], ◌∷◌, ℕ, eqb}
+use Rattle.std.specs.Prelude.{◌&&◌, ◌∷◌}
+use Rattle.kit.specs.Names.{Bool, true, false, List, [], ℕ, eqb}
 
 -- As many bytes on both sides, and each equal to the one at its place.
 unfoldable pub same_bytes : List ℕ → List ℕ → Bool

@@ -1,5 +1,6 @@
 -- The line that says how many records there were, and how many of them are wrong.
-use Rattle.kit.specs.Names.{List, ◌++◌, ℕ}
+use Rattle.std.specs.Prelude.{◌++◌}
+use Rattle.kit.specs.Names.{List, ℕ}
 use Rattle.definitions.specs.Report.{decimal}
 
 -- The count and what is counted, then how many of them are wrong and how.

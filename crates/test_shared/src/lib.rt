@@ -1,7 +1,8 @@
 // What the test programs share: the file that an argument names, parts of it, rooms, and the lines that are printed.
 #![tactic(auto)]
 
-ghost use Rattle.kit.specs.Names.{◌≡◌, ◌++◌, ◌+◌, ◌≤◌, length};
+ghost use Rattle.std.specs.Prelude.{◌≡◌, ◌++◌, ◌+◌, ◌≤◌};
+ghost use Rattle.kit.specs.Names.{length};
 ghost use Rattle.definitions.specs.Report.{decimal};
 ghost use Rattle.io.specs.Counts.{IsPrefixLen};
 ghost use Rattle.memory_append.specs.Append.{Appended};

@@ -1,5 +1,6 @@
 -- "0 means accepted": of an accepted file no sentence holds.
-use Rattle.kit.specs.Names.{◌≡◌, refl, Bool, true, false, List, [], ◌∷◌, ℕ, zero, suc, arith, get_or}
+use Rattle.std.specs.Prelude.{◌≡◌, ◌∷◌}
+use Rattle.kit.specs.Names.{refl, Bool, true, false, List, [], ℕ, zero, suc, arith, get_or}
 use Rattle.definitions.specs.Basics.{first_that_holds}
 use Rattle.definitions.specs.Numbers.{check_number}
 use Rattle.theory_accepted.specs.Settled.{sentences, Settled}

@@ -1,5 +1,6 @@
 -- The sentences of a check by their places, and a contract file that numbers 1 to 7 let pass.
-use Rattle.kit.specs.Names.{◌≡◌, Bool, false, List, ◌∷◌, ℕ}
+use Rattle.std.specs.Prelude.{◌≡◌, ◌∷◌}
+use Rattle.kit.specs.Names.{Bool, false, List, ℕ}
 use Rattle.definitions.specs.ContractFile.{sections_of, contract_of}
 use Rattle.definitions.specs.Numbers.{ends_wrongly, count_off_limits, outside_tables, names_nothing, used_other_than_once, too_deep, wrong_sort}
 use Rattle.definitions.specs.Numbers.{contract_sentences}

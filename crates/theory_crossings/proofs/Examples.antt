@@ -1,5 +1,6 @@
 -- The law cited at a written contract with a guard among its variables; and what its hypothesis rules out: a count that two bytes don't hold.
-use Rattle.kit.specs.Names.{◌≡◌, refl, ap, ap₂, List, [], ◌∷◌, map, ℕ, zero, suc, ◌+◌, ◌*◌, ◌%◌, ◌/◌, arith, length, replicate}
+use Rattle.std.specs.Prelude.{◌≡◌, ◌∷◌, ◌+◌, ◌*◌, ◌%◌, ◌/◌}
+use Rattle.kit.specs.Names.{refl, ap, ap₂, List, [], map, ℕ, zero, suc, arith, length, replicate}
 use Rattle.kit.specs.Names.{length-replicate}
 use Rattle.definitions.specs.Basics.{count_if, flat_map}
 use Rattle.definitions.specs.ContractFile.{Expression, everyone, owned_by, me_name}

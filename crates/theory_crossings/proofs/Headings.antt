@@ -1,5 +1,6 @@
 -- 02, Note 2: the origins in the written file, byte by byte, are those of the variables that rewriting makes, and so are their counts.
-use Rattle.kit.specs.Names.{◌≡◌, refl, ap, ap₂, ◌∙◌, Bool, true, false, cond, List, [], ◌∷◌, ◌++◌, map, append_assoc, ℕ, ◌+◌, ◌*◌, ◌-◌, ◌≤◌}
+use Rattle.std.specs.Prelude.{◌≡◌, ◌∷◌, ◌++◌, ◌+◌, ◌*◌, ◌-◌, ◌≤◌}
+use Rattle.kit.specs.Names.{refl, ap, ap₂, ◌∙◌, Bool, true, false, cond, List, [], map, append_assoc, ℕ}
 use Rattle.kit.specs.Names.{arith, leb, length, length-append}
 use Rattle.definitions.specs.Basics.{count_if, flat_map, two_bytes}
 use Rattle.definitions.specs.ContractFile.{Field, Parameter, byte_at, two_bytes_at, functions_at}

@@ -1,5 +1,6 @@
 -- What is read at a place of a file, where the bytes from there on are known.
-use Rattle.kit.specs.Names.{◌≡◌, refl, ap, ap₂, sym, ◌∙◌, List, [], ◌∷◌, ◌++◌, ℕ, ◌+◌, ◌*◌, ◌%◌, ◌/◌, ◌≤◌, arith, length, get_or, drop}
+use Rattle.std.specs.Prelude.{◌≡◌, ◌∷◌, ◌++◌, ◌+◌, ◌*◌, ◌%◌, ◌/◌, ◌≤◌}
+use Rattle.kit.specs.Names.{refl, ap, ap₂, sym, ◌∙◌, List, [], ℕ, arith, length, get_or, drop}
 use Rattle.kit.specs.Names.{get_or-drop, drop-drop, drop_at}
 use Rattle.definitions.specs.Basics.{two_bytes}
 use Rattle.definitions.specs.ContractFile.{byte_at, two_bytes_at}

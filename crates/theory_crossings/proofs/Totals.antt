@@ -1,5 +1,6 @@
 -- 02, Note 3: the count over a whole written file is the sum of its functions' counts.
-use Rattle.kit.specs.Names.{◌≡◌, refl, ap, ◌∙◌, List, [], ◌∷◌, map, ℕ, ◌+◌, leb}
+use Rattle.std.specs.Prelude.{◌≡◌, ◌∷◌, ◌+◌}
+use Rattle.kit.specs.Names.{refl, ap, ◌∙◌, List, [], map, ℕ, leb}
 use Rattle.definitions.specs.Basics.{count_if, flat_map}
 use Rattle.definitions.specs.Crossings.{up_to_three, origins_in, crossings_in, total_in}
 use Rattle.theory_laws.proofs.Lists.{count_append}

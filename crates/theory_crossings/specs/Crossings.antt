@@ -1,5 +1,6 @@
 -- 02, Note 2: a function's crossings where they come from, among the variables that rewriting makes. Note 3: the sum of counts.
-use Rattle.kit.specs.Names.{List, [], ◌∷◌, ℕ, ◌+◌, leb}
+use Rattle.std.specs.Prelude.{◌∷◌, ◌+◌}
+use Rattle.kit.specs.Names.{List, [], ℕ, leb}
 use Rattle.definitions.specs.Basics.{count_if}
 use Rattle.definitions.specs.Rewriting.{origin, WrittenFunction}
 

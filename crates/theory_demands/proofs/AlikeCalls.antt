@@ -1,5 +1,6 @@
 -- Two taken calls that are alike for a party, on ledgers that it cannot tell apart, and that disclose the same to it, leave two such ledgers.
-use Rattle.kit.specs.Names.{◌≡◌, refl, ap, sym, ◌∙◌, subst, fun_ext, Bool, true, false, ◌||◌, cond, not, List, ℕ, suc, eqb, length, get_or}
+use Rattle.std.specs.Prelude.{◌≡◌, ◌||◌}
+use Rattle.kit.specs.Names.{refl, ap, sym, ◌∙◌, subst, fun_ext, Bool, true, false, cond, not, List, ℕ, suc, eqb, length, get_or}
 use Rattle.definitions.specs.ContractFile.{Name, me_name, final_name, parameter_name, Parameter, Scope, field_at, parameter_at, is_final, contract_in}
 use Rattle.definitions.specs.Owners.{parameter_owner}
 use Rattle.definitions.specs.Original.{position, final_address, Reader, anyone, may_read, reader_of, completes, disclosed_by}

@@ -1,5 +1,6 @@
 -- What the definitions compute of the example's calls, with one list of names to unfold.
-use Rattle.kit.specs.Names.{◌≡◌, refl, ap, true, false, ◌||◌, not, false≢true, List, [], ◌∷◌, zip_with, ℕ, zero, suc, eqb, ltb, length, get_or}
+use Rattle.std.specs.Prelude.{◌≡◌, ◌||◌, ◌∷◌}
+use Rattle.kit.specs.Names.{refl, ap, true, false, not, false≢true, List, [], zip_with, ℕ, zero, suc, eqb, ltb, length, get_or}
 use Rattle.definitions.specs.ContractFile.{everyone, Contract, parameter_at, function_at, field_of, parameter_of, type_of, kind_of}
 use Rattle.definitions.specs.ContractFile.{node_of_kind, expression_parts, statement_parts, fields_named, chain_length, expression_of}
 use Rattle.definitions.specs.ContractFile.{expression_at, statement_of, statement_at, contract_of, same_name, contract_in}

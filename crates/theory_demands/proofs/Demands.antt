@@ -1,5 +1,6 @@
 -- The theorems, in the words of the demands: for every accepted deployment and every list of calls from it.
-use Rattle.kit.specs.Names.{◌≡◌, refl, true, List, ℕ, suc, take}
+use Rattle.std.specs.Prelude.{◌≡◌}
+use Rattle.kit.specs.Names.{refl, true, List, ℕ, suc, take}
 use Rattle.definitions.specs.Ledger.{deploy_number, is_well_formed, deployed}
 use Rattle.definitions.specs.View.{Request, Run, run_at_deployment, is_taken, views_after, disclosures, disclosed_in, disclosed_on, Paired}
 use Rattle.theory_demands.specs.Claims.{run_after_all, PlacesStand, CallFaithful, SerialsUpTo, MadeSerials}

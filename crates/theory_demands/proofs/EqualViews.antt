@@ -1,5 +1,6 @@
 -- Demand 3, by induction over two lists of calls.
-use Rattle.kit.specs.Names.{◌≡◌, ap, ap₂, sym, ◌∙◌, subst, true, ◌||◌, cond, not, List, [], ◌∷◌, ℕ, zero, suc, eqb, get_or, take}
+use Rattle.std.specs.Prelude.{◌≡◌, ◌||◌, ◌∷◌}
+use Rattle.kit.specs.Names.{ap, ap₂, sym, ◌∙◌, subst, true, cond, not, List, [], ℕ, zero, suc, eqb, get_or, take}
 use Rattle.definitions.specs.ContractFile.{parameter_at, contract_in}
 use Rattle.definitions.specs.Original.{original_discloses}
 use Rattle.definitions.specs.Ledger.{Ledger, function_of_ledger, call_number, ledger_after_call}

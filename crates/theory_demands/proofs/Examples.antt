@@ -1,5 +1,6 @@
 -- The theorems cited at the example's calls, each for something that is seen there: a theorem that says less does not give it.
-use Rattle.kit.specs.Names.{◌≡◌, ap, sym, ◌∙◌, subst, true, false, ◌||◌, cond, not, false≢true, List, [], ◌∷◌, ℕ, suc, ◌≤◌, arith, get_or}
+use Rattle.std.specs.Prelude.{◌≡◌, ◌||◌, ◌∷◌, ◌≤◌}
+use Rattle.kit.specs.Names.{ap, sym, ◌∙◌, subst, true, false, cond, not, false≢true, List, [], ℕ, suc, arith, get_or}
 use Rattle.kit.specs.Names.{take}
 use Rattle.definitions.specs.Basics.{all, first_that_holds}
 use Rattle.definitions.specs.Original.{Reader, anyone, only}

@@ -1,5 +1,6 @@
 -- Demand 2, second half, and the ledger's own test, over whole lists of calls.
-use Rattle.kit.specs.Names.{◌≡◌, refl, ap, sym, ◌∙◌, subst, Bool, true, false, cond, false≢true, List, [], ◌∷◌, map, ℕ, eqb-true}
+use Rattle.std.specs.Prelude.{◌≡◌, ◌∷◌}
+use Rattle.kit.specs.Names.{refl, ap, sym, ◌∙◌, subst, Bool, true, false, cond, false≢true, List, [], map, ℕ, eqb-true}
 use Rattle.definitions.specs.Basics.{all, is_zero}
 use Rattle.definitions.specs.ContractFile.{contract_in}
 use Rattle.definitions.specs.Original.{place_readers, original_completes, original_after}

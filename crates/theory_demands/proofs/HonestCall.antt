@@ -1,5 +1,6 @@
 -- A taken call: what the ledger is after it, in terms of the original alone.
-use Rattle.kit.specs.Names.{◌≡◌, refl, ap, ◌∙◌, Bool, cond, List, map, ℕ, suc}
+use Rattle.std.specs.Prelude.{◌≡◌}
+use Rattle.kit.specs.Names.{refl, ap, ◌∙◌, Bool, cond, List, map, ℕ, suc}
 use Rattle.definitions.specs.Basics.{is_zero}
 use Rattle.definitions.specs.ContractFile.{Name, Statement, Scope, scope_of, contract_in}
 use Rattle.definitions.specs.Original.{completes, places_after}

@@ -1,5 +1,6 @@
 -- From deployment on, the cells of a ledger have serials of calls up to its last, so the next call's serials are new.
-use Rattle.kit.specs.Names.{Bool, true, false, cond, List, [], ◌∷◌, zip_with, ℕ, suc, arith}
+use Rattle.std.specs.Prelude.{◌∷◌}
+use Rattle.kit.specs.Names.{Bool, true, false, cond, List, [], zip_with, ℕ, suc, arith}
 use Rattle.definitions.specs.Basics.{is_zero}
 use Rattle.definitions.specs.ContractFile.{contract_in}
 use Rattle.definitions.specs.Original.{Reader, anyone, only}

@@ -1,5 +1,6 @@
 -- The parameters of an honest call have the forms that a ledger's own test asks, all of them or the public ones alone.
-use Rattle.kit.specs.Names.{◌≡◌, refl, Bool, true, false, cond, List, [], ◌∷◌, map, ℕ, suc, arith, length, get_or}
+use Rattle.std.specs.Prelude.{◌≡◌, ◌∷◌}
+use Rattle.kit.specs.Names.{refl, Bool, true, false, cond, List, [], map, ℕ, suc, arith, length, get_or}
 use Rattle.definitions.specs.ContractFile.{Parameter, parameter_at, is_of_type}
 use Rattle.definitions.specs.Original.{anyone, only}
 use Rattle.definitions.specs.Ledger.{Content, content_for, Form, fits, all_fit, parameter_form, public_of, honest_parameters}

@@ -1,5 +1,6 @@
 -- A call makes cells with its own serials, and the walk makes none: it copies.
-use Rattle.kit.specs.Names.{refl, Bool, true, false, cond, List, [], ◌∷◌, ◌++◌, ℕ, zero, suc, ◌+◌, length, set, replicate}
+use Rattle.std.specs.Prelude.{◌∷◌, ◌++◌, ◌+◌}
+use Rattle.kit.specs.Names.{refl, Bool, true, false, cond, List, [], ℕ, zero, suc, length, set, replicate}
 use Rattle.definitions.specs.Basics.{is_true}
 use Rattle.definitions.specs.ContractFile.{Name, Statement, Field, Parameter, Scope}
 use Rattle.definitions.specs.Owners.{owner_of}

@@ -1,5 +1,6 @@
 -- The ledger that a taken call returns passes the ledger's own test again.
-use Rattle.kit.specs.Names.{◌≡◌, refl, ap, sym, ◌∙◌, subst, fun_ext, Bool, true, false, ◌&&◌, ◌||◌, cond, List, map, ℕ, suc, ◌<◌, ◌≤◌}
+use Rattle.std.specs.Prelude.{◌≡◌, ◌&&◌, ◌||◌, ◌<◌, ◌≤◌}
+use Rattle.kit.specs.Names.{refl, ap, sym, ◌∙◌, subst, fun_ext, Bool, true, false, cond, List, map, ℕ, suc}
 use Rattle.kit.specs.Names.{arith, leb, ltb, length, lt-ltb, le-leb}
 use Rattle.definitions.specs.Basics.{is_zero}
 use Rattle.definitions.specs.ContractFile.{Name, me_name, final_name, parameter_name, Field, field_at, is_final, contract_in}

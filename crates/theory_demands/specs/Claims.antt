@@ -1,5 +1,6 @@
 -- What the theorems claim of a run: that its ledger stands for the original, and that a call's cells have new serials.
-use Rattle.kit.specs.Names.{◌≡◌, true, cond, List, [], ◌∷◌, ℕ, suc, ◌≤◌}
+use Rattle.std.specs.Prelude.{◌≡◌, ◌∷◌, ◌≤◌}
+use Rattle.kit.specs.Names.{true, cond, List, [], ℕ, suc}
 use Rattle.definitions.specs.Basics.{all}
 use Rattle.definitions.specs.ContractFile.{contract_in}
 use Rattle.definitions.specs.Original.{place_readers, original_completes}

@@ -1,5 +1,6 @@
 -- The contract and the calls at which the theorems are cited: one call is done, one is refused, one discloses, one fails.
-use Rattle.kit.specs.Names.{List, [], ◌∷◌, ℕ, take}
+use Rattle.std.specs.Prelude.{◌∷◌}
+use Rattle.kit.specs.Names.{List, [], ℕ, take}
 use Rattle.definitions.specs.Ledger.{Ledger}
 use Rattle.definitions.specs.View.{Request, Run, run_at_deployment, run_after}
 use Rattle.theory_demands.specs.Claims.{run_after_all}

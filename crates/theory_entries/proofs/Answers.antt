@@ -1,5 +1,6 @@
 -- What the example of theory_demands gives the theorems on the entries: its answers, paired for address 4 with different secrets.
-use Rattle.kit.specs.Names.{◌≡◌, refl, ap, sym, ◌∙◌, false≢true, List, [], ◌∷◌, ℕ, take}
+use Rattle.std.specs.Prelude.{◌≡◌, ◌∷◌}
+use Rattle.kit.specs.Names.{refl, ap, sym, ◌∙◌, false≢true, List, [], ℕ, take}
 use Rattle.definitions.specs.Basics.{is_zero}
 use Rattle.definitions.specs.ContractFile.{contract_in}
 use Rattle.theory_demands.specs.Example.{tagged, pay, show, calls, start}

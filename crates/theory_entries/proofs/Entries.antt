@@ -1,5 +1,6 @@
 -- The demands, of the running entries: for every trace of answers that the contracts of `deploy`, `call` and `view` allow.
-use Rattle.kit.specs.Names.{◌≡◌, refl, ap, sym, ◌∙◌, subst, true, cond, List, [], ◌∷◌, zip_with, ℕ, zero, suc, get_or, take}
+use Rattle.std.specs.Prelude.{◌≡◌, ◌∷◌}
+use Rattle.kit.specs.Names.{refl, ap, sym, ◌∙◌, subst, true, cond, List, [], zip_with, ℕ, zero, suc, get_or, take}
 use Rattle.definitions.specs.ContractFile.{contract_in}
 use Rattle.definitions.specs.Original.{original_completes}
 use Rattle.definitions.specs.View.{Request, Run, run_at_deployment, views_after, disclosures, disclosed_on}

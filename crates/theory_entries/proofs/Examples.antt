@@ -1,5 +1,6 @@
 -- The theorems on the entries cited at the example's calls, for whatever the entries answer there.
-use Rattle.kit.specs.Names.{◌≡◌, ap, sym, ◌∙◌, subst, true, cond, List, [], ◌∷◌, ℕ, ◌<◌, arith, length, get_or, take}
+use Rattle.std.specs.Prelude.{◌≡◌, ◌∷◌, ◌<◌}
+use Rattle.kit.specs.Names.{ap, sym, ◌∙◌, subst, true, cond, List, [], ℕ, arith, length, get_or, take}
 use Rattle.definitions.specs.ContractFile.{contract_in}
 use Rattle.definitions.specs.Original.{Reader, anyone, only, place_readers, original_completes}
 use Rattle.definitions.specs.Ledger.{Content, content_at, opened_number, is_content_of}

@@ -1,5 +1,6 @@
 -- There is a trace for every accepted deployment and every list of calls: the theorems on the entries are not empty.
-use Rattle.kit.specs.Names.{◌≡◌, refl, ap, sym, List, [], ◌∷◌, ℕ, suc, length, replicate}
+use Rattle.std.specs.Prelude.{◌≡◌, ◌∷◌}
+use Rattle.kit.specs.Names.{refl, ap, sym, List, [], ℕ, suc, length, replicate}
 use Rattle.definitions.specs.Ledger.{deploy_number, deployed, call_number}
 use Rattle.definitions.specs.View.{view_number, view_length, output_after_view, Request}
 use Rattle.ledger_struct.specs.declared.Ledger as code

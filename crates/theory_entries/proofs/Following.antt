@@ -1,5 +1,6 @@
 -- A trace of the entries follows the run of the definitions, call by call: its numbers, its structs, and what its looks show.
-use Rattle.kit.specs.Names.{◌≡◌, refl, ap, ap₂, sym, ◌∙◌, Bool, true, ◌||◌, cond, not, false≢true, List, [], ◌∷◌, ◌++◌, zip_with, ℕ, zero}
+use Rattle.std.specs.Prelude.{◌≡◌, ◌||◌, ◌∷◌, ◌++◌}
+use Rattle.kit.specs.Names.{refl, ap, ap₂, sym, ◌∙◌, Bool, true, cond, not, false≢true, List, [], zip_with, ℕ, zero}
 use Rattle.kit.specs.Names.{suc, eqb, ltb, length, take, drop, get_or}
 use Rattle.definitions.specs.Basics.{is_zero, first_that_holds}
 use Rattle.definitions.specs.ContractFile.{contract_in}

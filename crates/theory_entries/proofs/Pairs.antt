@@ -1,5 +1,6 @@
 -- Two lists of calls that are paired by the numbers that `call` answered are paired by document 01's numbers.
-use Rattle.kit.specs.Names.{◌≡◌, ap, sym, ◌∙◌, subst, false, List, ◌∷◌, ℕ, ne_eqb}
+use Rattle.std.specs.Prelude.{◌≡◌, ◌∷◌}
+use Rattle.kit.specs.Names.{ap, sym, ◌∙◌, subst, false, List, ℕ, ne_eqb}
 use Rattle.definitions.specs.Basics.{is_zero}
 use Rattle.definitions.specs.ContractFile.{contract_in}
 use Rattle.definitions.specs.View.{Request, Run, is_taken, run_after, AlikeFor, Paired}

@@ -1,6 +1,7 @@
 -- 01, Runs and views, and demands 2 and 3: what the entries `deploy`, `call` and `view` may answer one after the other, by their contracts;
 -- what is read off such a trace; and when two traces are paired for a party.
-use Rattle.kit.specs.Names.{◌≡◌, cond, List, [], ◌∷◌, ℕ, zero, suc, ◌<◌, length, get_or, take}
+use Rattle.std.specs.Prelude.{◌≡◌, ◌∷◌, ◌<◌}
+use Rattle.kit.specs.Names.{cond, List, [], ℕ, zero, suc, length, get_or, take}
 use Rattle.definitions.specs.Basics.{is_zero}
 use Rattle.definitions.specs.ContractFile.{Contract, contract_in}
 use Rattle.definitions.specs.Original.{anyone, place_readers, deployed_numbers, original_after}

@@ -1,5 +1,6 @@
 -- Types, shapes, operators and owners by their codes.
-use Rattle.kit.specs.Names.{◌≡◌, refl, Bool, true, false, cond, false≢true, ℕ, zero, suc, ◌<◌, ◌≤◌, arith, eqb, ltb-true, ne_eqb}
+use Rattle.std.specs.Prelude.{◌≡◌, ◌<◌, ◌≤◌}
+use Rattle.kit.specs.Names.{refl, Bool, true, false, cond, false≢true, ℕ, zero, suc, arith, eqb, ltb-true, ne_eqb}
 use Rattle.definitions.specs.ContractFile.{DataType, boolean, uint, address, plain_field, mapping, Owner, everyone, owned_by, data_type_code, is_final, is_everyone, is_division, data_type_of, shape_of, operator_of, is_of_type}
 
 pub type_code : (code : ℕ) → code ≤ 2 → data_type_code (data_type_of code) ≡ code

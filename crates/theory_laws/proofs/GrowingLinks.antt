@@ -1,5 +1,6 @@
 -- Links grow along a statement, and more links before it give more behind it.
-use Rattle.kit.specs.Names.{◌≡◌, refl, Bool, true, false, ◌&&◌, ◌||◌, cond, false≢true, Option, none, some}
+use Rattle.std.specs.Prelude.{◌≡◌, ◌&&◌, ◌||◌}
+use Rattle.kit.specs.Names.{refl, Bool, true, false, cond, false≢true, Option, none, some}
 use Rattle.definitions.specs.ContractFile.{Name, equal, conjunction, Expression, constant, me, field, entry, parameter, operator, negation}
 use Rattle.definitions.specs.ContractFile.{reveal, Statement, skip, sequence, assign_field, assign_entry, require, conditional, Scope, is_operator}
 use Rattle.definitions.specs.Owners.{Links, with_link, with_link_of, linked_in_both, name_of, links_of_condition, links_after}

@@ -1,6 +1,7 @@
 -- The lists' functions on lists one behind another, and a list's entries by number.
-use Rattle.kit.specs.Names.{◌≡◌, refl, ap, sym, ◌∙◌, Bool, false, true, cond, ◌||◌, List, [], ◌∷◌, ◌++◌, map, append_assoc, ℕ, zero, suc}
-use Rattle.kit.specs.Names.{◌+◌, ◌<◌, ◌≤◌, arith, length, replicate, get_or, drop, length-append, drop-cons}
+use Rattle.std.specs.Prelude.{◌≡◌, ◌||◌, ◌∷◌, ◌++◌, ◌+◌, ◌<◌, ◌≤◌}
+use Rattle.kit.specs.Names.{refl, ap, sym, ◌∙◌, Bool, false, true, cond, List, [], map, append_assoc, ℕ, zero, suc}
+use Rattle.kit.specs.Names.{arith, length, replicate, get_or, drop, length-append, drop-cons}
 use Rattle.definitions.specs.Basics.{any, any_numbered, count_if, flat_map}
 use Rattle.definitions.specs.Original.{numbers_from}
 use Rattle.theory_laws.proofs.TruthValues.{or_left, or_right}

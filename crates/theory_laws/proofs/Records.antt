@@ -1,5 +1,6 @@
 -- The records of a file's sections: as many as counted, and a field's by its number.
-use Rattle.kit.specs.Names.{◌≡◌, refl, ap, sym, ◌∙◌, List, ℕ, zero, suc, ◌+◌, ◌*◌, ◌<◌, arith, length, get_or}
+use Rattle.std.specs.Prelude.{◌≡◌, ◌+◌, ◌*◌, ◌<◌}
+use Rattle.kit.specs.Names.{refl, ap, sym, ◌∙◌, List, ℕ, zero, suc, arith, length, get_or}
 use Rattle.definitions.specs.Basics.{force}
 use Rattle.definitions.specs.ContractFile.{FieldRecord, NodeRecord, byte_at, function_end, field_records, parameter_records, function_records, node_records}
 use Rattle.definitions.specs.Reading.{fields_read, parameters_read, functions_read, nodes_read}

@@ -1,5 +1,6 @@
 -- A length that is handed out where no sentence holds, the last being that the room is too short, stays inside the room.
-use Rattle.kit.specs.Names.{◌≡◌, refl, Bool, true, false, cond, [], ◌∷◌, ℕ, zero, suc, ◌≤◌, arith, eqb, ltb, ltb-false, ne_eqb}
+use Rattle.std.specs.Prelude.{◌≡◌, ◌∷◌, ◌≤◌}
+use Rattle.kit.specs.Names.{refl, Bool, true, false, cond, [], ℕ, zero, suc, arith, eqb, ltb, ltb-false, ne_eqb}
 use Rattle.definitions.specs.Basics.{first_that_holds}
 use Rattle.definitions.specs.Numbers.{or_else}
 

@@ -1,5 +1,6 @@
 -- What "and", "or" and "not" tell of their parts, and the first of two numbers that refuses.
-use Rattle.kit.specs.Names.{◌≡◌, refl, sym, Bool, true, false, ◌&&◌, ◌||◌, not, true≢false, false≢true, ℕ, zero, suc}
+use Rattle.std.specs.Prelude.{◌≡◌, ◌&&◌, ◌||◌}
+use Rattle.kit.specs.Names.{refl, sym, Bool, true, false, not, true≢false, false≢true, ℕ, zero, suc}
 use Rattle.definitions.specs.Numbers.{or_else}
 
 pub and_left : (a b : Bool) → (a && b) ≡ true → a ≡ true

@@ -1,5 +1,6 @@
 -- How much rewriting makes: variables and claims of openings, nodes of trees, bytes of nodes.
-use Rattle.kit.specs.Names.{◌≡◌, refl, ap, List, [], ◌∷◌, ◌++◌, ℕ, suc, ◌+◌, ◌*◌, arith, length, length-append}
+use Rattle.std.specs.Prelude.{◌≡◌, ◌∷◌, ◌++◌, ◌+◌, ◌*◌}
+use Rattle.kit.specs.Names.{refl, ap, List, [], ℕ, suc, arith, length, length-append}
 use Rattle.definitions.specs.Basics.{flat_map}
 use Rattle.definitions.specs.ContractFile.{NodeRecord}
 use Rattle.definitions.specs.Rewriting.{always, held_under, openings, Tree, leaf, one_child, two_children, three_children, setting, size, sizes, numbered, numbered_all, node_bytes}

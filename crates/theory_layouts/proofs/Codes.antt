@@ -1,5 +1,6 @@
 -- An owner code of document 01's tables is written in two bytes, and reads as itself again.
-use Rattle.kit.specs.Names.{◌≡◌, refl, Bool, true, false, ◌||◌, ◌&&◌, ℕ, ◌+◌, ◌-◌, ◌<◌, ◌≤◌, arith, eqb, leb, leb-true, ltb-true, eqb-true}
+use Rattle.std.specs.Prelude.{◌≡◌, ◌||◌, ◌&&◌, ◌+◌, ◌<◌, ◌≤◌}
+use Rattle.kit.specs.Names.{refl, Bool, true, false, ℕ, arith, eqb, leb, leb-true, ltb-true, eqb-true}
 use Rattle.kit.specs.Names.{le-leb, lt-leb, lt-ltb, le-ltb}
 use Rattle.definitions.specs.Basics.{is_zero}
 use Rattle.definitions.specs.ContractFile.{FieldRecord, ParameterRecord, is_final_code, is_parameter_code}

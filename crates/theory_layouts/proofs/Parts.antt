@@ -1,5 +1,6 @@
 -- Fields, parameters, functions and nodes that are laid out wide read as themselves again.
-use Rattle.kit.specs.Names.{◌≡◌, refl, ap, ◌∙◌, sym, Bool, true, false, cond, not, List, [], ◌∷◌, ◌++◌, ℕ, suc, ◌+◌, ◌*◌, ◌-◌, ◌≤◌, arith}
+use Rattle.std.specs.Prelude.{◌≡◌, ◌∷◌, ◌++◌, ◌+◌, ◌*◌, ◌-◌, ◌≤◌}
+use Rattle.kit.specs.Names.{refl, ap, ◌∙◌, sym, Bool, true, false, cond, not, List, [], ℕ, suc, arith}
 use Rattle.kit.specs.Names.{eqb, length, eqb-true, not-false}
 use Rattle.definitions.specs.Basics.{any, two_bytes}
 use Rattle.definitions.specs.Reading.{two_bytes_at, FieldRecord, ParameterRecord, FunctionRecord, NodeRecord, function_passed, functions_passed, fields_read, parameters_read, functions_read, nodes_read}

@@ -1,5 +1,6 @@
 -- 02, Note 9: a file that number 3 lets pass and its widened copy have the same sections, so all that stands behind reading says the same of both.
-use Rattle.kit.specs.Names.{◌≡◌, refl, ap, ◌∙◌, false, ◌||◌, not, List, [], ◌∷◌, ◌++◌, ℕ, zero, suc, ◌+◌, ◌*◌, ◌<◌, ◌≤◌, arith, length}
+use Rattle.std.specs.Prelude.{◌≡◌, ◌||◌, ◌∷◌, ◌++◌, ◌+◌, ◌*◌, ◌<◌, ◌≤◌}
+use Rattle.kit.specs.Names.{refl, ap, ◌∙◌, false, not, List, [], ℕ, zero, suc, arith, length}
 use Rattle.definitions.specs.Basics.{any, two_bytes}
 use Rattle.definitions.specs.Reading.{byte_at, two_bytes_at, Sections, narrow, fields_counted, functions_begin, functions_counted, function_passed, functions_passed, nodes_begin, nodes_counted, fields_read, functions_read, nodes_read, sections_read}
 use Rattle.definitions.specs.Numbers.{field_in_tables, parameter_in_tables, outside_tables}

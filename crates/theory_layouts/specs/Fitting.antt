@@ -1,5 +1,6 @@
 -- Numbers of two bytes are below 65,536.
-use Rattle.kit.specs.Names.{List, [], ◌∷◌, ◌≤◌}
+use Rattle.std.specs.Prelude.{◌∷◌, ◌≤◌}
+use Rattle.kit.specs.Names.{List, []}
 use Rattle.definitions.specs.Reading.{FunctionRecord, NodeRecord}
 
 unfoldable pub RootsFit : List FunctionRecord → Type 0

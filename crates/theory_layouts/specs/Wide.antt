@@ -1,5 +1,6 @@
 -- A layout beside document 01's own, to try reading with, and a file's sections laid out in it.
-use Rattle.kit.specs.Names.{true, cond, ◌&&◌, List, [], ◌∷◌, ◌++◌, ℕ, ◌+◌, ◌-◌, eqb, leb, ltb, length}
+use Rattle.std.specs.Prelude.{◌&&◌, ◌∷◌, ◌++◌, ◌+◌, ◌-◌}
+use Rattle.kit.specs.Names.{true, cond, List, [], ℕ, eqb, leb, ltb, length}
 use Rattle.definitions.specs.Basics.{two_bytes}
 use Rattle.definitions.specs.Reading.{Layout, FieldRecord, ParameterRecord, FunctionRecord, NodeRecord, Sections}
 use Rattle.definitions.specs.ContractFile.{is_final_code, is_parameter_code, sections_of}

@@ -1,5 +1,6 @@
 -- Contracts by which the base's rule is told from the amended one, and their numbers by both.
-use Rattle.kit.specs.Names.{◌≡◌, refl, List, [], ◌∷◌, ℕ}
+use Rattle.std.specs.Prelude.{◌≡◌, ◌∷◌}
+use Rattle.kit.specs.Names.{refl, List, [], ℕ}
 use Rattle.definitions.specs.Basics.{any, any_numbered, count_if, largest, flat_map, first_that_holds}
 use Rattle.definitions.specs.ContractFile.{field_of, parameter_of, type_of, kind_of, node_of_kind, expression_parts}
 use Rattle.definitions.specs.ContractFile.{statement_parts, fields_named, chain_length, expression_of, expression_at, statement_of}

@@ -1,6 +1,7 @@
 -- The theorem cited at a contract that the base accepted, with an if between its links and their use; and two that it refused: the Note
 -- gains them, so that the theorem has no converse.
-use Rattle.kit.specs.Names.{◌≡◌, sym, ◌∙◌, List, ℕ, arith}
+use Rattle.std.specs.Prelude.{◌≡◌}
+use Rattle.kit.specs.Names.{sym, ◌∙◌, List, ℕ, arith}
 use Rattle.definitions.specs.Numbers.{check_number}
 use Rattle.definitions.specs.Rewriting.{output_after_writing}
 use Rattle.theory_nothing_lost.specs.Base.{base_check_number, base_output_after_writing}

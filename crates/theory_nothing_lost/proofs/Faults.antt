@@ -1,5 +1,6 @@
 -- Links only ever help: with more of them a tree has no fault that it had not.
-use Rattle.kit.specs.Names.{◌≡◌, refl, true, ◌&&◌, ◌||◌, not, List, ◌++◌, none, ℕ, leb, length}
+use Rattle.std.specs.Prelude.{◌≡◌, ◌&&◌, ◌||◌, ◌++◌}
+use Rattle.kit.specs.Names.{refl, true, not, List, none, ℕ, leb, length}
 use Rattle.definitions.specs.Basics.{is_zero}
 use Rattle.definitions.specs.ContractFile.{boolean, me_name, Owner, everyone, owned_by, Expression, constant, me, field, entry, parameter}
 use Rattle.definitions.specs.ContractFile.{operator, negation, reveal, Statement, skip, sequence, assign_field, assign_entry, require}

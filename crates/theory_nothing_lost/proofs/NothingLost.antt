@@ -1,5 +1,6 @@
 -- 02, Note 1: "files accepted before stay accepted and are written as before".
-use Rattle.kit.specs.Names.{◌≡◌, Bool, true, List, [], ◌∷◌, ℕ}
+use Rattle.std.specs.Prelude.{◌≡◌, ◌∷◌}
+use Rattle.kit.specs.Names.{Bool, true, List, [], ℕ}
 use Rattle.definitions.specs.Basics.{flat_map}
 use Rattle.definitions.specs.ContractFile.{Function, Contract, sections_of, contract_of}
 use Rattle.definitions.specs.Owners.{no_links}

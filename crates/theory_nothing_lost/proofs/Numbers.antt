@@ -1,5 +1,6 @@
 -- Lists of numbers among others, and the first sentence that holds.
-use Rattle.kit.specs.Names.{◌≡◌, refl, sym, ◌∙◌, Bool, true, false, not, cond, false≢true, List, [], ◌∷◌, ◌++◌, map, ℕ, suc, arith, eqb}
+use Rattle.std.specs.Prelude.{◌≡◌, ◌∷◌, ◌++◌}
+use Rattle.kit.specs.Names.{refl, sym, ◌∙◌, Bool, true, false, not, cond, false≢true, List, [], map, ℕ, suc, arith, eqb}
 use Rattle.definitions.specs.Basics.{any, flat_map, first_that_holds}
 use Rattle.definitions.specs.Numbers.{fault}
 use Rattle.theory_laws.proofs.Lists.{any_append}

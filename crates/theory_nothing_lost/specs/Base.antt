@@ -1,6 +1,7 @@
 -- Document 01's rule on links as it stood before 02's Note 1, and what checking and writing then answered: kept for one theorem, that the
 -- Note loses nothing.
-use Rattle.kit.specs.Names.{Bool, cond, List, [], ◌∷◌, ◌++◌, map, ℕ, eqb, ltb, length, drop}
+use Rattle.std.specs.Prelude.{◌∷◌, ◌++◌}
+use Rattle.kit.specs.Names.{Bool, cond, List, [], map, ℕ, eqb, ltb, length, drop}
 use Rattle.definitions.specs.Basics.{any, flat_map, first_that_holds}
 use Rattle.definitions.specs.ContractFile.{Statement, skip, sequence, assign_field, assign_entry, require, conditional, Field, Function}
 use Rattle.definitions.specs.ContractFile.{Contract, Scope, sections_of, contract_of}

@@ -1,5 +1,6 @@
 -- 02, Note 1: "files accepted before stay accepted and are written as before"
-use Rattle.kit.specs.Names.{◌≡◌, true, List, ℕ, eqb}
+use Rattle.std.specs.Prelude.{◌≡◌}
+use Rattle.kit.specs.Names.{true, List, ℕ, eqb}
 use Rattle.definitions.specs.Basics.{any}
 use Rattle.definitions.specs.Numbers.{check_number}
 use Rattle.definitions.specs.Rewriting.{write_number, output_after_writing}

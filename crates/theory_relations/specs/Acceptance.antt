@@ -1,5 +1,6 @@
 -- What acceptance gives of a contract's trees: numbers 3 and 8 to 15, as the theorems use them.
-use Rattle.kit.specs.Names.{◌≡◌, Bool, true, ◌&&◌, List, [], ℕ}
+use Rattle.std.specs.Prelude.{◌≡◌, ◌&&◌}
+use Rattle.kit.specs.Names.{Bool, true, List, [], ℕ}
 use Rattle.definitions.specs.ContractFile.{DataType, to_everyone, to_final, Expression, constant, me, field, entry, parameter}
 use Rattle.definitions.specs.ContractFile.{operator, negation, reveal, Statement, skip, sequence, assign_field, assign_entry, require}
 use Rattle.definitions.specs.ContractFile.{conditional, Field, Scope, field_at, is_final, is_mapping, is_of_type}

@@ -1,5 +1,6 @@
 -- What holds of a call's names, arguments and plain numbers while the original is worked out.
-use Rattle.kit.specs.Names.{◌≡◌, true, List, ℕ, length, get_or}
+use Rattle.std.specs.Prelude.{◌≡◌}
+use Rattle.kit.specs.Names.{true, List, ℕ, length, get_or}
 use Rattle.definitions.specs.ContractFile.{DataType, boolean, address, Name, me_name, final_name, parameter_name, Field, Scope, field_at}
 use Rattle.definitions.specs.ContractFile.{parameter_at, is_final, is_of_type}
 use Rattle.definitions.specs.Owners.{is_public_address}

@@ -1,5 +1,6 @@
 -- What a party may tell apart: contents with the values hidden that it may not read, and numbers that agree where it may read.
-use Rattle.kit.specs.Names.{◌≡◌, true, cond, List, map, ℕ, eqb, get_or}
+use Rattle.std.specs.Prelude.{◌≡◌}
+use Rattle.kit.specs.Names.{true, cond, List, map, ℕ, eqb, get_or}
 use Rattle.definitions.specs.ContractFile.{Name, Field, Scope, parameter_at}
 use Rattle.definitions.specs.Owners.{parameter_owner}
 use Rattle.definitions.specs.Original.{anyone, may_read, reader_of}

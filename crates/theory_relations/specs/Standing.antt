@@ -1,5 +1,6 @@
 -- When the contents of a ledger stand for the original's numbers.
-use Rattle.kit.specs.Names.{◌≡◌, List, ℕ, ◌<◌, length, get_or}
+use Rattle.std.specs.Prelude.{◌≡◌, ◌<◌}
+use Rattle.kit.specs.Names.{List, ℕ, length, get_or}
 use Rattle.definitions.specs.ContractFile.{Name, final_name, Field, Scope, parameter_at}
 use Rattle.definitions.specs.Owners.{parameter_owner}
 use Rattle.definitions.specs.Original.{per_place, Reader, anyone, reader_of, place_reader}

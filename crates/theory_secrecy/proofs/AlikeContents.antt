@@ -1,5 +1,6 @@
 -- Lists of contents that a party cannot tell apart, and contents made for a reader.
-use Rattle.kit.specs.Names.{◌≡◌, refl, ap, ap₂, sym, ◌∙◌, Bool, true, false, cond, List, ◌∷◌, ◌++◌, map-append, ℕ, eqb}
+use Rattle.std.specs.Prelude.{◌≡◌, ◌∷◌, ◌++◌}
+use Rattle.kit.specs.Names.{refl, ap, ap₂, sym, ◌∙◌, Bool, true, false, cond, List, map-append, ℕ, eqb}
 use Rattle.definitions.specs.Original.{Reader, anyone, only, may_read}
 use Rattle.definitions.specs.Ledger.{Content, plain, cell, opened_number, content_for}
 use Rattle.theory_relations.specs.Secrecy.{hidden, all_hidden}

@@ -1,5 +1,6 @@
 -- What two runs have in common of an expression, for a party: its value if the party may read it, and all that is supplied for it.
-use Rattle.kit.specs.Names.{◌≡◌, refl, List, [], ℕ, suc, ◌+◌}
+use Rattle.std.specs.Prelude.{◌≡◌, ◌+◌}
+use Rattle.kit.specs.Names.{refl, List, [], ℕ, suc}
 use Rattle.definitions.specs.ContractFile.{Name, Owner, everyone, owned_by, Expression, Scope}
 use Rattle.definitions.specs.Owners.{owner_of, is_public}
 use Rattle.definitions.specs.Original.{reader_of, value}

@@ -1,5 +1,6 @@
 -- The walk of a written body opens no cell: to hide a state and walk is to walk and hide.
-use Rattle.kit.specs.Names.{◌≡◌, refl, ap, Bool, true, false, cond, List, [], ◌∷◌, map, ℕ, zero, suc, set, get_or_map}
+use Rattle.std.specs.Prelude.{◌≡◌, ◌∷◌}
+use Rattle.kit.specs.Names.{refl, ap, Bool, true, false, cond, List, [], map, ℕ, zero, suc, set, get_or_map}
 use Rattle.definitions.specs.ContractFile.{Name, Field}
 use Rattle.definitions.specs.Original.{position}
 use Rattle.definitions.specs.Rewriting.{BodyExpression, Command}

@@ -1,5 +1,6 @@
 -- The honest parameters of two calls whose arguments agree where the party may read.
-use Rattle.kit.specs.Names.{◌≡◌, refl, ap₂, Bool, true, false, ◌||◌, cond, not, List, [], ◌∷◌, ℕ, suc, arith, eqb, length, get_or}
+use Rattle.std.specs.Prelude.{◌≡◌, ◌||◌, ◌∷◌}
+use Rattle.kit.specs.Names.{refl, ap₂, Bool, true, false, cond, not, List, [], ℕ, suc, arith, eqb, length, get_or}
 use Rattle.definitions.specs.ContractFile.{Name, me_name, Parameter, Scope, parameter_at}
 use Rattle.definitions.specs.Owners.{parameter_owner}
 use Rattle.definitions.specs.Original.{anyone, only, may_read, reader_of}

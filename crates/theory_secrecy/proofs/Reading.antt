@@ -1,5 +1,6 @@
 -- What a party may read of a value, by the value's owner and the owners of its parts.
-use Rattle.kit.specs.Names.{◌≡◌, refl, true, false≢true, ℕ}
+use Rattle.std.specs.Prelude.{◌≡◌}
+use Rattle.kit.specs.Names.{refl, true, false≢true, ℕ}
 use Rattle.definitions.specs.ContractFile.{Name, me_name, Owner, everyone, owned_by, is_everyone}
 use Rattle.definitions.specs.Owners.{Links, is_reader, owner_of_parts}
 use Rattle.definitions.specs.Numbers.{may_be_put}

@@ -1,5 +1,6 @@
 -- Two runs side by side. A run has a Boolean, whether it completes, and the list of what it discloses.
-use Rattle.kit.specs.Names.{◌≡◌, refl, Bool, true, false, ◌&&◌, cond, false≢true, true≢false, List, [], ◌∷◌, ◌++◌, append_assoc, append-nil}
+use Rattle.std.specs.Prelude.{◌≡◌, ◌&&◌, ◌∷◌, ◌++◌}
+use Rattle.kit.specs.Names.{refl, Bool, true, false, cond, false≢true, true≢false, List, [], append_assoc, append-nil}
 use Rattle.kit.specs.Names.{ℕ}
 
 -- Where the disclosed lists agree, with whatever follows them, both runs complete or neither does; if they do, what follows

@@ -1,5 +1,6 @@
 -- What holds of every supplied variable of a piece of the rewriting, by its owner and its expression.
-use Rattle.kit.specs.Names.{Bool, true, false, cond, List, [], ◌∷◌, ◌++◌, ℕ, suc}
+use Rattle.std.specs.Prelude.{◌∷◌, ◌++◌}
+use Rattle.kit.specs.Names.{Bool, true, false, cond, List, [], ℕ, suc}
 use Rattle.definitions.specs.ContractFile.{Owner, Expression}
 use Rattle.definitions.specs.Rewriting.{BodyExpression, Circuit, Variable, supplied, read_from, Generator, kept, one_part, two_parts, supplying, reading}
 

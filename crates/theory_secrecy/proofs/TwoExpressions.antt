@@ -1,5 +1,6 @@
 -- Two runs of the original work out an expression: if they disclose the same to a party, they look the same to it.
-use Rattle.kit.specs.Names.{◌≡◌, refl, ap, ap₂, ◌∙◌, Bool, true, false, ◌&&◌, ◌||◌, not, List, [], ℕ, get_or}
+use Rattle.std.specs.Prelude.{◌≡◌, ◌&&◌, ◌||◌}
+use Rattle.kit.specs.Names.{refl, ap, ap₂, ◌∙◌, Bool, true, false, not, List, [], ℕ, get_or}
 use Rattle.definitions.specs.Basics.{is_zero}
 use Rattle.definitions.specs.ContractFile.{Name, me_name, everyone, owned_by, Operator, Expression, constant, me, field, entry, parameter, operator, negation, reveal, Scope, is_division}
 use Rattle.definitions.specs.Owners.{Links, is_reader, owner_of, is_public}

@@ -1,5 +1,6 @@
 -- Two runs of one body that agree on what a party may read, and disclose the same to it: they look the same to it to the end.
-use Rattle.kit.specs.Names.{◌≡◌, ap, true, List, [], ◌∷◌, ◌++◌, ℕ, suc, length}
+use Rattle.std.specs.Prelude.{◌≡◌, ◌∷◌, ◌++◌}
+use Rattle.kit.specs.Names.{ap, true, List, [], ℕ, suc, length}
 use Rattle.definitions.specs.ContractFile.{Name, Owner, Expression, Statement, Scope}
 use Rattle.definitions.specs.Owners.{no_links}
 use Rattle.definitions.specs.Original.{completes, disclosed_by}

@@ -1,6 +1,7 @@
 -- Two runs of the original complete a statement: if they disclose the same to a party, they look the same to it afterwards.
-use Rattle.kit.specs.Names.{◌≡◌, refl, ap, sym, ◌∙◌, Bool, true, false, ◌&&◌, cond, false≢true, true≢false, List, [], ◌∷◌, none, ℕ, zero}
-use Rattle.kit.specs.Names.{suc, ◌+◌, arith, length, get_or, set, replicate}
+use Rattle.std.specs.Prelude.{◌≡◌, ◌&&◌, ◌∷◌, ◌+◌}
+use Rattle.kit.specs.Names.{refl, ap, sym, ◌∙◌, Bool, true, false, cond, false≢true, true≢false, List, [], none, ℕ, zero}
+use Rattle.kit.specs.Names.{suc, arith, length, get_or, set, replicate}
 use Rattle.definitions.specs.Basics.{is_true}
 use Rattle.definitions.specs.ContractFile.{Name, Owner, Expression, Statement, skip, sequence, assign_field, assign_entry, require, conditional, Field, Scope, field_at}
 use Rattle.definitions.specs.Owners.{Links, place_owner, name_of, owner_of, links_of_condition, links_after}

@@ -1,5 +1,6 @@
 -- What a party's view shows is what hiding leaves; and back from hidden places to the numbers that the party may read.
-use Rattle.kit.specs.Names.{◌≡◌, refl, ap, ap₂, sym, ◌∙◌, Bool, true, false, cond, List, [], ◌∷◌, map, ℕ, eqb, get_or}
+use Rattle.std.specs.Prelude.{◌≡◌, ◌∷◌}
+use Rattle.kit.specs.Names.{refl, ap, ap₂, sym, ◌∙◌, Bool, true, false, cond, List, [], map, ℕ, eqb, get_or}
 use Rattle.definitions.specs.Basics.{flat_map}
 use Rattle.definitions.specs.ContractFile.{Name, Field}
 use Rattle.definitions.specs.Original.{anyone}

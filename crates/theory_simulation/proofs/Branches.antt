@@ -1,5 +1,6 @@
 -- One of two branches is walked, by a public condition; the other's variables stay plain 0.
-use Rattle.kit.specs.Names.{◌≡◌, ap, sym, ◌∙◌, Bool, true, false, ◌&&◌, cond, and_assoc, List, ◌++◌, append_assoc, ℕ, ◌+◌, length}
+use Rattle.std.specs.Prelude.{◌≡◌, ◌&&◌, ◌++◌, ◌+◌}
+use Rattle.kit.specs.Names.{ap, sym, ◌∙◌, Bool, true, false, cond, and_assoc, List, append_assoc, ℕ, length}
 use Rattle.kit.specs.Names.{replicate, length-append, length-replicate}
 use Rattle.definitions.specs.Basics.{is_true}
 use Rattle.definitions.specs.ContractFile.{everyone}

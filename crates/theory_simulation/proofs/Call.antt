@@ -1,5 +1,6 @@
 -- The honest rewritten call stands for the original's call.
-use Rattle.kit.specs.Names.{◌≡◌, refl, ap, ◌∙◌, Bool, true, false, List, [], ◌∷◌, ◌++◌, append-nil, ℕ, length}
+use Rattle.std.specs.Prelude.{◌≡◌, ◌∷◌, ◌++◌}
+use Rattle.kit.specs.Names.{refl, ap, ◌∙◌, Bool, true, false, List, [], append-nil, ℕ, length}
 use Rattle.definitions.specs.Basics.{all}
 use Rattle.definitions.specs.ContractFile.{Name, Statement, Scope}
 use Rattle.definitions.specs.Owners.{no_links}

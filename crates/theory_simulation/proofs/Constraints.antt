@@ -1,5 +1,6 @@
 -- Constraints under a guard, and those of a branch that is not taken: its guard is plain 0, and they hold.
-use Rattle.kit.specs.Names.{◌≡◌, refl, Bool, true, false, ◌&&◌, not, List, [], ◌∷◌, ◌++◌, ℕ, suc, ◌+◌, ◌-◌, ◌≤◌, ◌<◌, arith, length}
+use Rattle.std.specs.Prelude.{◌≡◌, ◌&&◌, ◌∷◌, ◌++◌, ◌+◌, ◌-◌, ◌≤◌, ◌<◌}
+use Rattle.kit.specs.Names.{refl, Bool, true, false, not, List, [], ℕ, suc, arith, length}
 use Rattle.kit.specs.Names.{replicate, length-append, length-replicate, get_or_append, get_or-replicate, get_or-append-add}
 use Rattle.definitions.specs.Basics.{all}
 use Rattle.definitions.specs.ContractFile.{Scope, Statement, skip, sequence, assign_field, assign_entry, require, conditional}

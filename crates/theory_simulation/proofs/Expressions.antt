@@ -1,5 +1,6 @@
 -- The rewritten expressions of an accepted one: its body form gives a content that stands for its value, its circuit form the value.
-use Rattle.kit.specs.Names.{◌≡◌, refl, ap, sym, Bool, true, false, ◌&&◌, ◌||◌, cond, not, and-true, List, [], ℕ, suc, ◌+◌, length, get_or}
+use Rattle.std.specs.Prelude.{◌≡◌, ◌&&◌, ◌||◌, ◌+◌}
+use Rattle.kit.specs.Names.{refl, ap, sym, Bool, true, false, cond, not, and-true, List, [], ℕ, suc, length, get_or}
 use Rattle.definitions.specs.ContractFile.{Name, me_name, Owner, everyone, owned_by, Operator, Expression, constant, me, field, entry, parameter, operator, negation, reveal, Field, Scope, is_everyone, is_division, is_of_type, type_of}
 use Rattle.definitions.specs.Owners.{Links, owner_of_parts, owner_of}
 use Rattle.definitions.specs.Numbers.{expression_faults}

@@ -1,5 +1,6 @@
 -- The variables of a call in the end: each is plain 0, or holds a content that stands for a number of its type.
-use Rattle.kit.specs.Names.{◌≡◌, refl, ap, true, ◌||◌, List, [], ◌∷◌, ◌++◌, map, ℕ, suc, length, replicate}
+use Rattle.std.specs.Prelude.{◌≡◌, ◌||◌, ◌∷◌, ◌++◌}
+use Rattle.kit.specs.Names.{refl, ap, true, List, [], map, ℕ, suc, length, replicate}
 use Rattle.definitions.specs.ContractFile.{Name, Scope, is_of_type}
 use Rattle.definitions.specs.Rewriting.{Variable, variable_owner}
 use Rattle.definitions.specs.Original.{reader_of}

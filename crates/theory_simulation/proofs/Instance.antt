@@ -1,5 +1,6 @@
 -- The theorem's conditions can be met: a call that moves a private argument into a private field of its caller.
-use Rattle.kit.specs.Names.{◌≡◌, refl, true, false≢true, List, [], ◌∷◌, zip_with, ℕ, zero, suc, get_or}
+use Rattle.std.specs.Prelude.{◌≡◌, ◌∷◌}
+use Rattle.kit.specs.Names.{refl, true, false≢true, List, [], zip_with, ℕ, zero, suc, get_or}
 use Rattle.definitions.specs.ContractFile.{DataType, boolean, uint, plain_field, final_field, Name, me_name, final_name, parameter_name, to_everyone, to_final, equal, me, field, parameter, operator, Statement, sequence, assign_field, require, Field, Scope, field_at, parameter_at, is_final, is_mapping, same_name, is_of_type, type_of}
 use Rattle.definitions.specs.Owners.{is_public_address, name_of, owner_of, links_after, links_of_condition, with_link}
 use Rattle.definitions.specs.Numbers.{is_tagged, expression_faults, statement_faults}

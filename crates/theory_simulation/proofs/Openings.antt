@@ -1,5 +1,6 @@
 -- The private parameters of a call are read first, and open for the caller.
-use Rattle.kit.specs.Names.{◌≡◌, refl, ap, sym, ◌∙◌, subst, Bool, true, false, cond, List, [], ◌∷◌, ◌++◌, ℕ, suc, ◌+◌, ◌<◌, arith, add-zero}
+use Rattle.std.specs.Prelude.{◌≡◌, ◌∷◌, ◌++◌, ◌+◌, ◌<◌}
+use Rattle.kit.specs.Names.{refl, ap, sym, ◌∙◌, subst, Bool, true, false, cond, List, [], ℕ, suc, arith, add-zero}
 use Rattle.kit.specs.Names.{zero-add, length, get_or, set, get_or_at, set_at, append_snoc}
 use Rattle.definitions.specs.Basics.{all}
 use Rattle.definitions.specs.ContractFile.{me_name, Parameter, parameter_at, type_of}

@@ -1,5 +1,6 @@
 -- The honest parameters of a call stand for its arguments.
-use Rattle.kit.specs.Names.{◌≡◌, refl, Bool, true, false, cond, List, [], ◌∷◌, ℕ, zero, suc, ◌<◌, arith, length, get_or}
+use Rattle.std.specs.Prelude.{◌≡◌, ◌∷◌, ◌<◌}
+use Rattle.kit.specs.Names.{refl, Bool, true, false, cond, List, [], ℕ, zero, suc, arith, length, get_or}
 use Rattle.definitions.specs.ContractFile.{Name, me_name, everyone, owned_by, Parameter, Scope, parameter_at}
 use Rattle.definitions.specs.Owners.{parameter_owner}
 use Rattle.definitions.specs.Original.{anyone, only, reader_of}

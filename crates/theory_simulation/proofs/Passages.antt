@@ -1,6 +1,7 @@
 -- The walk of what rewriting makes of statements, by its combinators: single, in sequence, in a branch, and steps before the rest.
-use Rattle.kit.specs.Names.{◌≡◌, refl, ap, ap₂, sym, ◌∙◌, Bool, true, false, ◌&&◌, cond, false≢true, and_assoc, List, [], ◌∷◌, ◌++◌}
-use Rattle.kit.specs.Names.{append_assoc, ℕ, suc, ◌+◌, length, set, length-append, set_at, append_snoc}
+use Rattle.std.specs.Prelude.{◌≡◌, ◌&&◌, ◌∷◌, ◌++◌, ◌+◌}
+use Rattle.kit.specs.Names.{refl, ap, ap₂, sym, ◌∙◌, Bool, true, false, cond, false≢true, and_assoc, List, []}
+use Rattle.kit.specs.Names.{append_assoc, ℕ, suc, length, set, length-append, set_at, append_snoc}
 use Rattle.definitions.specs.Basics.{is_true}
 use Rattle.definitions.specs.ContractFile.{boolean}
 use Rattle.definitions.specs.Rewriting.{BodyExpression, Command, Guard, under, Step, Generator, steps_before, Passage, StatementGenerator, single, in_sequence, in_branch}

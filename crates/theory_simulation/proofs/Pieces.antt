@@ -1,5 +1,6 @@
 -- The pieces that rewriting makes, in a call: what stands in their variables after their steps, whatever stands before and after them.
-use Rattle.kit.specs.Names.{◌≡◌, refl, ap, ap₂, sym, ◌∙◌, Bool, true, ◌&&◌, and_assoc, List, [], ◌∷◌, ◌++◌, append_assoc, ℕ, suc, ◌+◌}
+use Rattle.std.specs.Prelude.{◌≡◌, ◌&&◌, ◌∷◌, ◌++◌, ◌+◌}
+use Rattle.kit.specs.Names.{refl, ap, ap₂, sym, ◌∙◌, Bool, true, and_assoc, List, [], append_assoc, ℕ, suc}
 use Rattle.kit.specs.Names.{add-zero, add-suc, suc-add, length, set}
 use Rattle.definitions.specs.Basics.{all}
 use Rattle.definitions.specs.ContractFile.{Name, Scope}

@@ -1,5 +1,6 @@
 -- Contents that stand for numbers: what they open to, who reads them, and places after one of them is written.
-use Rattle.kit.specs.Names.{◌≡◌, refl, ap, sym, ◌∙◌, true, false, false≢true, true≢false, List, [], ◌∷◌, zip_with, ℕ, zero, suc, arith}
+use Rattle.std.specs.Prelude.{◌≡◌, ◌∷◌}
+use Rattle.kit.specs.Names.{refl, ap, sym, ◌∙◌, true, false, false≢true, true≢false, List, [], zip_with, ℕ, zero, suc, arith}
 use Rattle.kit.specs.Names.{length, get_or, set, length-set, eq-eqb}
 use Rattle.definitions.specs.ContractFile.{Name, me_name, Owner, everyone, owned_by, is_everyone}
 use Rattle.definitions.specs.Owners.{owner_of_parts}

@@ -1,6 +1,7 @@
 -- The rewritten statements of accepted ones: the walk ends where the original completes, on places that stand for its places then.
-use Rattle.kit.specs.Names.{◌≡◌, refl, ap, sym, Bool, true, false, ◌&&◌, cond, and-true, true≢false, false≢true, List, [], none, ℕ, suc}
-use Rattle.kit.specs.Names.{◌+◌, length, set}
+use Rattle.std.specs.Prelude.{◌≡◌, ◌&&◌, ◌+◌}
+use Rattle.kit.specs.Names.{refl, ap, sym, Bool, true, false, cond, and-true, true≢false, false≢true, List, [], none, ℕ, suc}
+use Rattle.kit.specs.Names.{length, set}
 use Rattle.definitions.specs.Basics.{is_true}
 use Rattle.definitions.specs.ContractFile.{Name, Owner, everyone, owned_by, Expression, Statement, skip, sequence, assign_field, assign_entry, require, conditional, field_at, is_everyone}
 use Rattle.definitions.specs.Owners.{Links, place_owner, name_of, owner_of, is_public, links_of_condition, links_after}

@@ -1,5 +1,6 @@
 -- Laws of truth values, and of lists that are cut where two of their parts meet.
-use Rattle.kit.specs.Names.{◌≡◌, refl, sym, Bool, true, false, ◌&&◌, ◌||◌, and_assoc, List, [], ◌∷◌, ◌++◌, append_assoc, ℕ, suc, ◌+◌}
+use Rattle.std.specs.Prelude.{◌≡◌, ◌&&◌, ◌||◌, ◌∷◌, ◌++◌, ◌+◌}
+use Rattle.kit.specs.Names.{refl, sym, Bool, true, false, and_assoc, List, [], append_assoc, ℕ, suc}
 use Rattle.kit.specs.Names.{add-one, length, length-append}
 use Rattle.definitions.specs.Basics.{all}
 

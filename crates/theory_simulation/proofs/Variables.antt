@@ -1,5 +1,6 @@
 -- Supplied and read variables: a supplied one holds the value of its expression, and a read one gives a circuit what it was set to.
-use Rattle.kit.specs.Names.{◌≡◌, refl, sym, ◌∙◌, Bool, true, ◌&&◌, and-true, List, [], ◌∷◌, ◌++◌, append_assoc, ℕ, suc, ◌+◌, length}
+use Rattle.std.specs.Prelude.{◌≡◌, ◌&&◌, ◌∷◌, ◌++◌, ◌+◌}
+use Rattle.kit.specs.Names.{refl, sym, ◌∙◌, Bool, true, and-true, List, [], append_assoc, ℕ, suc, length}
 use Rattle.kit.specs.Names.{get_or_at, set_at, append_snoc}
 use Rattle.definitions.specs.Basics.{all}
 use Rattle.definitions.specs.ContractFile.{Name, Owner, everyone, owned_by, Expression, is_of_type, type_of}

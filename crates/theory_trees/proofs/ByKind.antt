@@ -1,5 +1,6 @@
 -- The tree of a node by its kind; the numbers of its parts are below its own.
-use Rattle.kit.specs.Names.{◌≡◌, refl, ap, ◌∙◌, Bool, true, false, cond, List, [], ◌∷◌, ℕ, ◌+◌, ◌*◌, ◌<◌, eqb, ltb, ne_eqb, ltb-true}
+use Rattle.std.specs.Prelude.{◌≡◌, ◌∷◌, ◌+◌, ◌*◌, ◌<◌}
+use Rattle.kit.specs.Names.{refl, ap, ◌∙◌, Bool, true, false, cond, List, [], ℕ, eqb, ltb, ne_eqb, ltb-true}
 use Rattle.definitions.specs.Basics.{all}
 use Rattle.definitions.specs.ContractFile.{Expression, Statement, NodeRecord, data_type_of, operator_of, owner_of_code, constant_kind, me_kind, field_kind, entry_kind, parameter_kind, operator_kind, negation_kind, reveal_kind, skip_kind, sequence_kind, assign_field_kind, assign_entry_kind, require_kind, conditional_kind, no_kind, kind_of, Node, node_of, node_of_kind, children, expression_parts, statement_parts, expression_of, statement_of}
 use Rattle.theory_laws.proofs.TruthValues.{and_left, and_right}

@@ -1,5 +1,6 @@
 -- A file whose numbers name something, number 4, has nodes that fall from parent to child.
-use Rattle.kit.specs.Names.{◌≡◌, refl, Bool, true, false, ◌||◌, List, [], ◌∷◌, map, ℕ, zero, suc, ◌+◌, arith, leb, ltb, length, leb-false}
+use Rattle.std.specs.Prelude.{◌≡◌, ◌||◌, ◌∷◌, ◌+◌}
+use Rattle.kit.specs.Names.{refl, Bool, true, false, List, [], map, ℕ, zero, suc, arith, leb, ltb, length, leb-false}
 use Rattle.kit.specs.Names.{lt-ltb}
 use Rattle.definitions.specs.Basics.{all, any, any_numbered}
 use Rattle.definitions.specs.ContractFile.{NodeRecord, Sections, field_of, node_of, node_at, children, fields_named, expression_parts, statement_parts}

@@ -1,5 +1,6 @@
 -- The tree of a node unfolds into its children's trees: more levels than a node's number change nothing.
-use Rattle.kit.specs.Names.{◌≡◌, refl, ap, ap₂, true, List, [], ◌∷◌, map, ℕ, zero, suc, ◌<◌, arith, ltb, ltb→lt}
+use Rattle.std.specs.Prelude.{◌≡◌, ◌∷◌, ◌<◌}
+use Rattle.kit.specs.Names.{refl, ap, ap₂, true, List, [], map, ℕ, zero, suc, arith, ltb, ltb→lt}
 use Rattle.definitions.specs.Basics.{all}
 use Rattle.definitions.specs.ContractFile.{Expression, Statement, NodeRecord, node, owner_of_code, operator_of, Kind, constant_kind, me_kind, field_kind, entry_kind, parameter_kind, operator_kind, negation_kind, reveal_kind, skip_kind, sequence_kind, assign_field_kind, assign_entry_kind, require_kind, conditional_kind, no_kind, kind_of, Node, node_of_kind, node_of, node_at, expression_parts, statement_parts, children, expression_of, expression_at, statement_of, statement_at}
 use Rattle.theory_laws.proofs.TruthValues.{and_left, and_right}

@@ -1,5 +1,6 @@
 -- How many nodes a tree has.
-use Rattle.kit.specs.Names.{ℕ, ◌+◌}
+use Rattle.std.specs.Prelude.{◌+◌}
+use Rattle.kit.specs.Names.{ℕ}
 use Rattle.definitions.specs.ContractFile.{Expression, Statement}
 
 unfoldable pub expression_size : Expression → ℕ

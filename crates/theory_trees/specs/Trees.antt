@@ -1,5 +1,6 @@
 -- The tree of a node, with just the levels that it needs, and when the nodes' numbers fall from parent to child.
-use Rattle.kit.specs.Names.{◌≡◌, true, List, ℕ, suc, ltb}
+use Rattle.std.specs.Prelude.{◌≡◌}
+use Rattle.kit.specs.Names.{true, List, ℕ, suc, ltb}
 use Rattle.definitions.specs.Basics.{all}
 use Rattle.definitions.specs.ContractFile.{Expression, Statement, NodeRecord, Node, node_of, node_at, children, expression_of, expression_at}
 use Rattle.definitions.specs.ContractFile.{statement_of, statement_at}

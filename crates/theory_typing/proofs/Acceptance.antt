@@ -1,5 +1,6 @@
 -- An accepted file: each body of its contract is accepted in its scope.
-use Rattle.kit.specs.Names.{◌≡◌, refl, subst, Bool, true, false, ◌||◌, not, List, [], ◌∷◌, map, ℕ, zero, suc, get_or}
+use Rattle.std.specs.Prelude.{◌≡◌, ◌||◌, ◌∷◌}
+use Rattle.kit.specs.Names.{refl, subst, Bool, true, false, not, List, [], map, ℕ, zero, suc, get_or}
 use Rattle.definitions.specs.Basics.{any, flat_map}
 use Rattle.definitions.specs.ContractFile.{to_final, skip, Field, Contract, field_at, function_at, scope_of, is_final, FunctionRecord, sections_of, field_of, Node, node_of, function_of, contract_of, contract_in}
 use Rattle.definitions.specs.Numbers.{fault, field_in_tables, parameter_in_tables, node_in_tables, outside_tables, statement_faults, field_of_declared_owner, field_faults, function_faults, contract_faults, check_number}

@@ -1,5 +1,6 @@
 -- Laws of truth values, lists and numbers that the theorems on typing share.
-use Rattle.kit.specs.Names.{◌≡◌, refl, sym, ◌∙◌, Bool, true, false, ◌&&◌, not, true≢false, false≢true, List, [], ◌∷◌, ◌++◌, ℕ, ◌<◌, arith}
+use Rattle.std.specs.Prelude.{◌≡◌, ◌&&◌, ◌∷◌, ◌++◌, ◌<◌}
+use Rattle.kit.specs.Names.{refl, sym, ◌∙◌, Bool, true, false, not, true≢false, false≢true, List, [], ℕ, arith}
 use Rattle.kit.specs.Names.{ltb-true}
 use Rattle.definitions.specs.ContractFile.{address, is_of_type}
 use Rattle.definitions.specs.Numbers.{fault}

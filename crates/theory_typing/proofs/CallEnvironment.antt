@@ -1,6 +1,7 @@
 -- A call that is not refused: its environment, its parameters, and the address of each name as the walk and as the original have it.
-use Rattle.kit.specs.Names.{◌≡◌, refl, ap, sym, ◌∙◌, subst, fun_ext, Bool, true, false, ◌||◌, cond, not, true≢false, List, [], ◌∷◌, map}
-use Rattle.kit.specs.Names.{zip_with, ℕ, zero, suc, ◌+◌, ◌<◌, ◌≤◌, arith, eqb, leb, ltb, length, get_or, ltb-false, leb-false, lt-ltb}
+use Rattle.std.specs.Prelude.{◌≡◌, ◌||◌, ◌∷◌, ◌+◌, ◌<◌, ◌≤◌}
+use Rattle.kit.specs.Names.{refl, ap, sym, ◌∙◌, subst, fun_ext, Bool, true, false, cond, not, true≢false, List, [], map}
+use Rattle.kit.specs.Names.{zip_with, ℕ, zero, suc, arith, eqb, leb, ltb, length, get_or, ltb-false, leb-false, lt-ltb}
 use Rattle.kit.specs.Names.{eqb-true}
 use Rattle.definitions.specs.Basics.{any}
 use Rattle.definitions.specs.ContractFile.{address, Name, me_name, final_name, parameter_name, everyone, owned_by, Parameter, field_at, parameter_at, scope_of, same_type, is_final, is_of_type, contract_in}

@@ -1,5 +1,6 @@
 -- Contents that stand for numbers: finals are plain, so the readers told from plain numbers are those told from the numbers.
-use Rattle.kit.specs.Names.{◌≡◌, refl, ap, ap₂, sym, ◌∙◌, fun_ext, subst, true, cond, List, [], ◌∷◌, ◌++◌, map, zip_with, ℕ, suc, length}
+use Rattle.std.specs.Prelude.{◌≡◌, ◌∷◌, ◌++◌}
+use Rattle.kit.specs.Names.{refl, ap, ap₂, sym, ◌∙◌, fun_ext, subst, true, cond, List, [], map, zip_with, ℕ, suc, length}
 use Rattle.kit.specs.Names.{get_or, length-map, ext_get_or}
 use Rattle.definitions.specs.ContractFile.{boolean, FieldOwner, to_everyone, to_key, to_final, final_name, Field, Scope, field_at, is_final, is_of_type}
 use Rattle.definitions.specs.Original.{numbers_from, place_count, per_place, position, final_address, address_in, Reader, anyone, only, place_reader, place_readers}

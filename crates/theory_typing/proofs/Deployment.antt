@@ -1,6 +1,7 @@
 -- A deployed ledger is well formed, and its contents stand for the deployed numbers, which are typed.
-use Rattle.kit.specs.Names.{◌≡◌, refl, ap, ap₂, sym, ◌∙◌, subst, Bool, true, false, ◌&&◌, cond, not, false≢true, List, [], ◌∷◌, ◌++◌, map}
-use Rattle.kit.specs.Names.{zip_with, ℕ, zero, suc, ◌+◌, ◌<◌, ◌≤◌, arith, eqb, ltb, length, get_or, drop, replicate, length-append}
+use Rattle.std.specs.Prelude.{◌≡◌, ◌&&◌, ◌∷◌, ◌++◌, ◌+◌, ◌<◌, ◌≤◌}
+use Rattle.kit.specs.Names.{refl, ap, ap₂, sym, ◌∙◌, subst, Bool, true, false, cond, not, false≢true, List, [], map}
+use Rattle.kit.specs.Names.{zip_with, ℕ, zero, suc, arith, eqb, ltb, length, get_or, drop, replicate, length-append}
 use Rattle.kit.specs.Names.{length-replicate, get_or-drop, ltb-false, lt-ltb, eq-eqb}
 use Rattle.definitions.specs.Basics.{any, count_if, first_that_holds}
 use Rattle.definitions.specs.ContractFile.{DataType, boolean, uint, address, Shape, plain_field, final_field, mapping, Field, field_at, is_final, is_mapping, is_of_type, contract_in}

@@ -1,5 +1,6 @@
 -- What is written keeps the environment: the places stay typed, and finals are never written.
-use Rattle.kit.specs.Names.{◌≡◌, refl, ◌∙◌, Bool, true, false, ◌&&◌, cond, List, [], ℕ, ◌<◌, eqb, ltb, length, get_or, set, length-set}
+use Rattle.std.specs.Prelude.{◌≡◌, ◌&&◌, ◌<◌}
+use Rattle.kit.specs.Names.{refl, ◌∙◌, Bool, true, false, cond, List, [], ℕ, eqb, ltb, length, get_or, set, length-set}
 use Rattle.kit.specs.Names.{get_or-set_same, get_or-set_other, set_out, ltb-true, ltb-false, eqb-true, eqb-false}
 use Rattle.definitions.specs.Basics.{is_true}
 use Rattle.definitions.specs.ContractFile.{boolean, Name, Statement, skip, sequence, assign_field, assign_entry, require, conditional, Scope, field_at, is_final, is_of_type}

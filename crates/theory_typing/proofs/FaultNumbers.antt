@@ -1,5 +1,6 @@
 -- Every fault of a contract is one of the numbers 8 to 15, so where none of those sentences holds there are no faults.
-use Rattle.kit.specs.Names.{◌≡◌, refl, sym, Bool, true, false, ◌&&◌, ◌||◌, not, false≢true, List, [], ◌∷◌, ◌++◌, map, none, ℕ, suc, eqb}
+use Rattle.std.specs.Prelude.{◌≡◌, ◌&&◌, ◌||◌, ◌∷◌, ◌++◌}
+use Rattle.kit.specs.Names.{refl, sym, Bool, true, false, not, false≢true, List, [], map, none, ℕ, suc, eqb}
 use Rattle.kit.specs.Names.{leb, length, get_or, eqb-true, eq-eqb}
 use Rattle.definitions.specs.Basics.{any, flat_map, is_zero}
 use Rattle.definitions.specs.ContractFile.{DataType, boolean, address, Owner, Expression, constant, me, field, entry, parameter, operator, negation, reveal, Statement, skip, sequence, assign_field, assign_entry, require, conditional, Field, Contract, Scope, field_at, same_type, shape_code, is_final, is_mapping, is_division, operands_fit, type_of}

@@ -1,5 +1,6 @@
 -- What an expression or a statement without faults fulfils, kind by kind: numbers 8 to 15.
-use Rattle.kit.specs.Names.{◌≡◌, refl, Bool, true, false, ◌&&◌, ◌||◌, not, false≢true, List, [], ◌++◌, none, ℕ, ◌<◌, leb, length, leb-false}
+use Rattle.std.specs.Prelude.{◌≡◌, ◌&&◌, ◌||◌, ◌++◌, ◌<◌}
+use Rattle.kit.specs.Names.{refl, Bool, true, false, not, false≢true, List, [], none, ℕ, leb, length, leb-false}
 use Rattle.definitions.specs.ContractFile.{DataType, boolean, uint, address, Owner, Operator, Expression, field, entry, parameter, operator, negation, reveal, Statement, sequence, assign_field, assign_entry, require, conditional, Scope, field_at, same_type, shape_code, is_mapping, is_division, operands_fit, type_of}
 use Rattle.definitions.specs.Owners.{Links, is_reader, place_owner, name_of, owner_of, is_public, links_of_condition, links_after}
 use Rattle.definitions.specs.Numbers.{fault, may_be_put, is_tagged, is_none, owner_fits, entry_faults, read_fault, expression_faults, condition_faults, value_faults, statement_faults}

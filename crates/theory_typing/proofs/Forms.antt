@@ -1,5 +1,6 @@
 -- A content that fits its form stands for its opened number, which has the form's type; and the reverse.
-use Rattle.kit.specs.Names.{◌≡◌, refl, ap, Bool, true, false≢true, List, [], ◌∷◌, map, zip_with, ℕ, zero, suc, arith, eqb, length, get_or}
+use Rattle.std.specs.Prelude.{◌≡◌, ◌∷◌}
+use Rattle.kit.specs.Names.{refl, ap, Bool, true, false≢true, List, [], map, zip_with, ℕ, zero, suc, arith, eqb, length, get_or}
 use Rattle.kit.specs.Names.{get_or_map, eqb-true, eq-eqb}
 use Rattle.definitions.specs.ContractFile.{DataType, boolean, is_of_type}
 use Rattle.definitions.specs.Original.{Reader, anyone, only}

@@ -1,5 +1,6 @@
 -- Linked names have one address in a call whose requires have held.
-use Rattle.kit.specs.Names.{◌≡◌, refl, ap, sym, ◌∙◌, Bool, true, false, ◌&&◌, ◌||◌, false≢true, List, Option, none, some, ℕ, eqb, eqb-true}
+use Rattle.std.specs.Prelude.{◌≡◌, ◌&&◌, ◌||◌}
+use Rattle.kit.specs.Names.{refl, ap, sym, ◌∙◌, Bool, true, false, false≢true, List, Option, none, some, ℕ, eqb, eqb-true}
 use Rattle.definitions.specs.Basics.{bit, is_true}
 use Rattle.definitions.specs.ContractFile.{Name, me_name, final_name, parameter_name, same_name, plus, minus, times, divide, remainder, less, less_or_equal, equal, unequal, conjunction, disjunction, Expression, constant, me, field, entry, parameter, operator, negation, reveal, Scope}
 use Rattle.definitions.specs.Owners.{Links, no_links, with_link, with_link_of, linked_in_both, name_of, links_of_condition}

@@ -1,6 +1,7 @@
 -- Laws of the places of a contract: what is asked of each place stands at the place's position.
-use Rattle.kit.specs.Names.{◌≡◌, refl, ap, sym, ◌∙◌, Bool, true, false, cond, true≢false, false≢true, List, [], ◌∷◌, ◌++◌, map, ℕ, zero}
-use Rattle.kit.specs.Names.{suc, ◌+◌, ◌<◌, arith, length, get_or, length-append, length-map, get_or_append, get_or-append-add}
+use Rattle.std.specs.Prelude.{◌≡◌, ◌∷◌, ◌++◌, ◌+◌, ◌<◌}
+use Rattle.kit.specs.Names.{refl, ap, sym, ◌∙◌, Bool, true, false, cond, true≢false, false≢true, List, [], map, ℕ, zero}
+use Rattle.kit.specs.Names.{suc, arith, length, get_or, length-append, length-map, get_or_append, get_or-append-add}
 use Rattle.definitions.specs.ContractFile.{boolean, Shape, plain_field, final_field, mapping, to_everyone, Field, field_at, shape_code, is_final, is_mapping}
 use Rattle.definitions.specs.Original.{numbers_from, place_count, per_place, position}
 use Rattle.definitions.specs.Basics.{is_zero}

@@ -1,5 +1,6 @@
 -- The reader of a place that is read or written is the reader of its owner: the key of a tagged mapping is its name's address.
-use Rattle.kit.specs.Names.{◌≡◌, refl, ap, ◌∙◌, true, false, true≢false, List, [], Option, none, some, none_ne_some, ℕ, ◌<◌, get_or}
+use Rattle.std.specs.Prelude.{◌≡◌, ◌<◌}
+use Rattle.kit.specs.Names.{refl, ap, ◌∙◌, true, false, true≢false, List, [], Option, none, some, none_ne_some, ℕ, get_or}
 use Rattle.definitions.specs.ContractFile.{Name, final_name, FieldOwner, to_everyone, to_key, to_final, Expression, field, entry, assign_field, assign_entry, Field, Scope, field_at, is_mapping}
 use Rattle.definitions.specs.Owners.{Links, place_owner, name_of, owner_of}
 use Rattle.definitions.specs.Numbers.{expression_faults, statement_faults, is_tagged, is_none}

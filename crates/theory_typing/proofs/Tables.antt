@@ -1,5 +1,6 @@
 -- What number 3 gives: the constants of the trees that nodes make fit, and so do the fields.
-use Rattle.kit.specs.Names.{◌≡◌, refl, Bool, true, false, ◌&&◌, ◌||◌, cond, not, false≢true, List, [], ◌∷◌, map, ℕ, zero, suc, ◌-◌, eqb}
+use Rattle.std.specs.Prelude.{◌≡◌, ◌&&◌, ◌||◌, ◌∷◌, ◌-◌}
+use Rattle.kit.specs.Names.{refl, Bool, true, false, cond, not, false≢true, List, [], map, ℕ, zero, suc, eqb}
 use Rattle.kit.specs.Names.{leb, eqb-true}
 use Rattle.definitions.specs.Basics.{any, is_zero}
 use Rattle.definitions.specs.ContractFile.{DataType, plain_field, final_field, mapping, to_everyone, to_key, to_final, Expression, Statement, Field, field_at, is_final, is_mapping, FieldRecord, NodeRecord, data_type_of, shape_of, field_owner_of_code, is_final_code, field_of, Kind, constant_kind, me_kind, field_kind, entry_kind, parameter_kind, operator_kind, negation_kind, reveal_kind, skip_kind, sequence_kind, assign_field_kind, assign_entry_kind, require_kind, conditional_kind, no_kind, kind_of, constant_value, node_of_kind, node_of, node_at, expression_of, statement_of, statement_at, is_of_type}

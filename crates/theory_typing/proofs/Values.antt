@@ -1,6 +1,7 @@
 -- Type soundness of the original: values have their types, keys are in range, and the places stay typed.
-use Rattle.kit.specs.Names.{◌≡◌, refl, ap, ◌∙◌, Bool, true, false, ◌&&◌, ◌||◌, cond, not, List, [], none, some, none_ne_some}
-use Rattle.kit.specs.Names.{some_injective, ℕ, ◌+◌, ◌*◌, ◌-◌, ◌/◌, ◌%◌, ◌<◌, ◌≤◌, arith, mod-lt, mod-le, div-le_self, ltb, leb, eqb}
+use Rattle.std.specs.Prelude.{◌≡◌, ◌&&◌, ◌||◌, ◌+◌, ◌*◌, ◌-◌, ◌/◌, ◌%◌, ◌<◌, ◌≤◌}
+use Rattle.kit.specs.Names.{refl, ap, ◌∙◌, Bool, true, false, cond, not, List, [], none, some, none_ne_some}
+use Rattle.kit.specs.Names.{some_injective, ℕ, arith, mod-lt, mod-le, div-le_self, ltb, leb, eqb}
 use Rattle.kit.specs.Names.{get_or, ltb-true, lt-ltb}
 use Rattle.definitions.specs.Basics.{bit}
 use Rattle.definitions.specs.ContractFile.{DataType, boolean, uint, Name, me_name, final_name, parameter_name, Operator, plus, minus, times, divide, remainder, less, less_or_equal, equal, unequal, conjunction, disjunction, Expression, constant, me, field, entry, parameter, operator, negation, reveal, assign_entry, Scope, field_at, parameter_at, same_type, is_final, is_of_type, operands_fit, result_type, type_of}

@@ -1,5 +1,6 @@
 -- What a well-formed ledger and an accepted call give: contents that stand for their opened numbers, and the call's environment.
-use Rattle.kit.specs.Names.{◌≡◌, ◌∙◌, subst, true, ◌&&◌, ◌||◌, List, map, ℕ, length, get_or, length-map, eqb-true}
+use Rattle.std.specs.Prelude.{◌≡◌, ◌&&◌, ◌||◌}
+use Rattle.kit.specs.Names.{◌∙◌, subst, true, List, map, ℕ, length, get_or, length-map, eqb-true}
 use Rattle.definitions.specs.Basics.{is_zero}
 use Rattle.definitions.specs.ContractFile.{boolean, Field, field_at, function_at, scope_of, is_final, is_of_type, contract_in}
 use Rattle.definitions.specs.Numbers.{check_number}

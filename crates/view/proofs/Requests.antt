@@ -1,5 +1,6 @@
 -- The cases of a request for a view.
-use Rattle.kit.specs.Names.{◌≡◌, sym, ◌∙◌, Bool, true, false, not, ◌||◌, or-true, List, ◌++◌, ℕ, ◌<◌, ◌≤◌, zero-add, arith, ltb, length, drop}
+use Rattle.std.specs.Prelude.{◌≡◌, ◌||◌, ◌++◌, ◌<◌, ◌≤◌}
+use Rattle.kit.specs.Names.{sym, ◌∙◌, Bool, true, false, not, or-true, List, ℕ, zero-add, arith, ltb, length, drop}
 use Rattle.kit.specs.Names.{lt-ltb, le-ltb}
 use Rattle.memory_buffer.specs.Buffer.{stored}
 use Rattle.definitions.specs.Basics.{first_that_holds}

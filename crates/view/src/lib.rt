@@ -1,7 +1,8 @@
 // 01, Runs and views: a party's view of a ledger, whatever ledger it is.
 #![tactic(auto)]
 
-ghost use Rattle.kit.specs.Names.{◌≤◌, length};
+ghost use Rattle.std.specs.Prelude.{◌≤◌};
+ghost use Rattle.kit.specs.Names.{length};
 ghost use Rattle.ledger_contents.specs.Contents.{contents_of};
 ghost use Rattle.ledger_struct.specs.Ledgers.{ledger_of, ledger_from};
 ghost use Rattle.view_bytes.specs.Views.{Viewed};

@@ -1,5 +1,6 @@
 -- The head of a view and its length, and what a request for a view gives.
-use Rattle.kit.specs.Names.{◌≡◌, List, [], ◌∷◌, ◌++◌, ℕ, ◌+◌, ◌*◌, ◌/◌, length}
+use Rattle.std.specs.Prelude.{◌≡◌, ◌∷◌, ◌++◌, ◌+◌, ◌*◌, ◌/◌}
+use Rattle.kit.specs.Names.{List, [], ℕ, length}
 use Rattle.definitions.specs.Basics.{two_bytes}
 use Rattle.definitions.specs.Ledger as ledger
 use Rattle.definitions.specs.View.{view_number, view_length, output_after_view}

@@ -1,7 +1,8 @@
 // A party's view of a ledger, as bytes over a lent output.
 #![tactic(auto)]
 
-ghost use Rattle.kit.specs.Names.{◌≡◌, List, ℕ, ◌≤◌, length};
+ghost use Rattle.std.specs.Prelude.{◌≡◌, ◌≤◌};
+ghost use Rattle.kit.specs.Names.{List, ℕ, length};
 ghost use Rattle.memory_buffer.specs.Buffer.{stored};
 ghost use Rattle.definitions.specs.View.{view_bytes};
 ghost use Rattle.ledger_contents.specs.Contents.{contents_of};

@@ -1,7 +1,8 @@
 // A content as an item of a party's view: plain, opaque or opened.
 #![tactic(auto)]
 
-ghost use Rattle.kit.specs.Names.{◌≡◌, ◌+◌, ◌≤◌, length};
+ghost use Rattle.std.specs.Prelude.{◌≡◌, ◌+◌, ◌≤◌};
+ghost use Rattle.kit.specs.Names.{length};
 ghost use Rattle.memory_buffer.specs.Buffer.{stored};
 ghost use Rattle.definitions.specs.View.{item_bytes, item_for};
 ghost use Rattle.ledger_contents.specs.Contents.{content_of_code};

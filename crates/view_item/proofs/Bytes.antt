@@ -1,5 +1,6 @@
 -- The bytes of one item: ten written one after another, and what a party is shown.
-use Rattle.kit.specs.Names.{◌≡◌, refl, List, [], ◌∷◌, ℕ, suc, ◌+◌, ◌≤◌, arith, set, length, sets-eq, eq-eqb, ne_eqb}
+use Rattle.std.specs.Prelude.{◌≡◌, ◌∷◌, ◌+◌, ◌≤◌}
+use Rattle.kit.specs.Names.{refl, List, [], ℕ, suc, arith, set, length, sets-eq, eq-eqb, ne_eqb}
 use Rattle.memory_buffer.specs.Buffer.{stored}
 use Rattle.definitions.specs.Ledger as ledger
 use Rattle.definitions.specs.View.{Item, item_for, item_bytes}

@@ -1,7 +1,8 @@
 // One item of a view, ten bytes, written over a lent output.
 #![tactic(auto)]
 
-ghost use Rattle.kit.specs.Names.{◌≡◌, ◌+◌, ◌≤◌, length};
+ghost use Rattle.std.specs.Prelude.{◌≡◌, ◌+◌, ◌≤◌};
+ghost use Rattle.kit.specs.Names.{length};
 ghost use Rattle.memory_buffer.specs.Buffer.{stored};
 ghost use Rattle.definitions.specs.View.{item_bytes};
 ghost use Rattle.view_item.specs.Items.{item_of};

@@ -1,7 +1,8 @@
 // The items of a view, ten bytes each, written over a lent output.
 #![tactic(auto)]
 
-ghost use Rattle.kit.specs.Names.{◌≡◌, ◌+◌, ◌*◌, ◌/◌, ◌≤◌, length};
+ghost use Rattle.std.specs.Prelude.{◌≡◌, ◌+◌, ◌*◌, ◌/◌, ◌≤◌};
+ghost use Rattle.kit.specs.Names.{length};
 ghost use Rattle.memory_buffer.specs.Buffer.{stored};
 ghost use Rattle.ledger_contents.specs.Contents.{contents_of};
 ghost use Rattle.view_item.specs.Items.{shown};

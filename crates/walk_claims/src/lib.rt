@@ -1,7 +1,7 @@
 // 01, Runs and views: what a constraint says of its variable.
 #![tactic(auto)]
 
-ghost use Rattle.kit.specs.Names.{◌≡◌};
+ghost use Rattle.std.specs.Prelude.{◌≡◌};
 ghost use Rattle.definitions.specs.ContractFile.{owner_of_code};
 ghost use Rattle.definitions.specs.Original.{only, reader_of};
 ghost use Rattle.definitions.specs.Ledger.{content_at, is_content_of, claim_holds};

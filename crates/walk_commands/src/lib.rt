@@ -2,7 +2,8 @@
 // A sequence's second part and an if's taken branch go on in the loop: only a sequence's first part deepens the stack.
 #![tactic(auto)]
 
-ghost use Rattle.kit.specs.Names.{◌≡◌, true, false, cond, ◌*◌, ◌<◌, ◌≤◌};
+ghost use Rattle.std.specs.Prelude.{◌≡◌, ◌*◌, ◌<◌, ◌≤◌};
+ghost use Rattle.kit.specs.Names.{true, false, cond};
 ghost use Rattle.definitions.specs.Basics.{is_true};
 ghost use Rattle.definitions.specs.ContractFile.{field_count};
 ghost use Rattle.definitions.specs.Ledger.{plain_number};

@@ -1,5 +1,6 @@
 -- A function's constraints, written to flat numbers beside their circuits' nodes, read back.
-use Rattle.kit.specs.Names.{◌≡◌, refl, ap, ap₂, sym, ◌∙◌, List, [], ◌∷◌, ◌++◌, append_assoc, append-nil, ℕ, suc, ◌+◌, ◌-◌, ◌/◌, ◌<◌, ◌≤◌}
+use Rattle.std.specs.Prelude.{◌≡◌, ◌∷◌, ◌++◌, ◌+◌, ◌-◌, ◌/◌, ◌<◌, ◌≤◌}
+use Rattle.kit.specs.Names.{refl, ap, ap₂, sym, ◌∙◌, List, [], append_assoc, append-nil, ℕ, suc}
 use Rattle.kit.specs.Names.{arith, add-zero, length, get_or, length-append, get_or-append-add, ne_eqb, lt-ltb, le-ltb, le-leb}
 use Rattle.definitions.specs.Basics.{flat_map}
 use Rattle.definitions.specs.ContractFile.{Owner, everyone, owned_by, me_name, final_name, parameter_name, NodeRecord, owner_of_code, owner_code}

@@ -1,5 +1,6 @@
 -- A function's constraints as flat numbers: guard, variable, owner code and root of each.
-use Rattle.kit.specs.Names.{List, [], ◌∷◌, ◌<◌}
+use Rattle.std.specs.Prelude.{◌∷◌, ◌<◌}
+use Rattle.kit.specs.Names.{List, []}
 use Rattle.definitions.specs.ContractFile.{Owner, everyone, owned_by, me_name, final_name, parameter_name}
 use Rattle.definitions.specs.Rewriting.{Claim, equals, opens_for_caller, Constraint}
 

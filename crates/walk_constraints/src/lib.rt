@@ -2,7 +2,8 @@
 // address if a cell.": one constraint, under its guard.
 #![tactic(auto)]
 
-ghost use Rattle.kit.specs.Names.{◌≡◌, ◌+◌, ◌≤◌, length};
+ghost use Rattle.std.specs.Prelude.{◌≡◌, ◌+◌, ◌≤◌};
+ghost use Rattle.kit.specs.Names.{length};
 ghost use Rattle.definitions.specs.Ledger.{is_set};
 ghost use Rattle.ledger_contents.specs.Contents.{contents_of};
 ghost use Rattle.write_trees.specs.Table.{table_of, Readable};

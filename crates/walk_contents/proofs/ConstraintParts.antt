@@ -1,5 +1,6 @@
 -- Steps of the definitions as code takes them: an owner code's address, a constraint's parts, and constraints one after another.
-use Rattle.kit.specs.Names.{◌≡◌, refl, sym, ◌∙◌, Bool, true, false, ◌&&◌, ◌||◌, not, List, ℕ, zero, suc, ◌+◌, ◌-◌, ◌/◌, ◌<◌, ◌≤◌, arith}
+use Rattle.std.specs.Prelude.{◌≡◌, ◌&&◌, ◌||◌, ◌+◌, ◌-◌, ◌/◌, ◌<◌, ◌≤◌}
+use Rattle.kit.specs.Names.{refl, sym, ◌∙◌, Bool, true, false, not, List, ℕ, zero, suc, arith}
 use Rattle.kit.specs.Names.{eqb, length, get_or, eq-eqb, ne_eqb, lt-ltb, le-ltb, le-leb, lt-leb}
 use Rattle.definitions.specs.Basics.{all}
 use Rattle.definitions.specs.ContractFile.{owned_by, parameter_name, NodeRecord, owner_of_code, is_final_code}

@@ -1,7 +1,8 @@
 // 01, Runs and views: a content against a value, an address, the caller.
 #![tactic(auto)]
 
-ghost use Rattle.kit.specs.Names.{◌≡◌, ◌&&◌, eqb};
+ghost use Rattle.std.specs.Prelude.{◌≡◌, ◌&&◌};
+ghost use Rattle.kit.specs.Names.{eqb};
 ghost use Rattle.definitions.specs.Original.{anyone, only};
 ghost use Rattle.definitions.specs.Ledger.{is_content_of, opens_for};
 ghost use Rattle.ledger_contents.specs.Contents.{content_of_code};

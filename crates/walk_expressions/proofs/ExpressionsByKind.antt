@@ -1,5 +1,6 @@
 -- What an expression gives, by its kind, as code learns it from what its parts give.
-use Rattle.kit.specs.Names.{◌≡◌, refl, ap, ◌∙◌, Bool, true, false, ◌&&◌, not, List, ℕ, get_or, ne_eqb}
+use Rattle.std.specs.Prelude.{◌≡◌, ◌&&◌}
+use Rattle.kit.specs.Names.{refl, ap, ◌∙◌, Bool, true, false, not, List, ℕ, get_or, ne_eqb}
 use Rattle.definitions.specs.ContractFile.{DataType, is_division, operator_of}
 use Rattle.definitions.specs.Original.{position, operate, operates, negate}
 use Rattle.definitions.specs.Rewriting.{BodyExpression}

@@ -1,5 +1,6 @@
 -- What an expression of a written body gives on flat contents: whether it is walked to its end, and its content.
-use Rattle.kit.specs.Names.{◌≡◌, Bool, List, ℕ}
+use Rattle.std.specs.Prelude.{◌≡◌}
+use Rattle.kit.specs.Names.{Bool, List, ℕ}
 use Rattle.definitions.specs.Rewriting.{BodyExpression}
 use Rattle.definitions.specs.Ledger as ledger
 use Rattle.file_accepted.specs.Context.{fields_in}

@@ -1,7 +1,8 @@
 // 01, Runs and views: "A call walks the function's written body on the ledger's plain values and cells": the body's expressions.
 #![tactic(auto)]
 
-ghost use Rattle.kit.specs.Names.{◌≡◌, true, ◌&&◌, ◌*◌, ◌<◌, ◌≤◌};
+ghost use Rattle.std.specs.Prelude.{◌≡◌, ◌&&◌, ◌*◌, ◌<◌, ◌≤◌};
+ghost use Rattle.kit.specs.Names.{true};
 ghost use Rattle.definitions.specs.ContractFile.{field_count, operator_of};
 ghost use Rattle.definitions.specs.Original.{position, operate, operates, negate};
 ghost use Rattle.definitions.specs.Ledger.{plain, content_at, plain_number};

@@ -1,5 +1,6 @@
 -- The steps of walking a function: its log, its nodes and constraints, and the walk of what is written there.
-use Rattle.kit.specs.Names.{◌≡◌, ap, ◌∙◌, Bool, List, ℕ, ◌*◌, ◌-◌, ◌/◌, arith, length, take}
+use Rattle.std.specs.Prelude.{◌≡◌, ◌*◌, ◌-◌, ◌/◌}
+use Rattle.kit.specs.Names.{ap, ◌∙◌, Bool, List, ℕ, arith, length, take}
 use Rattle.definitions.specs.Rewriting.{WrittenFunction, sizes, numbered_all, command_tree, function_trees}
 use Rattle.definitions.specs.Ledger as ledger
 use Rattle.memory_buffer.proofs.Storing.{front_stored}

@@ -1,5 +1,6 @@
 -- What walking one function of a file needs.
-use Rattle.kit.specs.Names.{List, ℕ, ◌+◌, ◌*◌, ◌<◌, ◌≤◌, length, take}
+use Rattle.std.specs.Prelude.{◌+◌, ◌*◌, ◌<◌, ◌≤◌}
+use Rattle.kit.specs.Names.{List, ℕ, length, take}
 use Rattle.definitions.specs.ContractFile.{field_count, node_count}
 use Rattle.write_trees.specs.Table.{Readable}
 use Rattle.write_room.specs.Rooms.{most_bytes}

@@ -2,7 +2,8 @@
 // memory, and walked from there.
 #![tactic(auto)]
 
-ghost use Rattle.kit.specs.Names.{◌*◌, ◌-◌, take};
+ghost use Rattle.std.specs.Prelude.{◌*◌, ◌-◌};
+ghost use Rattle.kit.specs.Names.{take};
 ghost use Rattle.definitions.specs.Ledger.{walk_completes, state_after};
 ghost use Rattle.file_accepted.specs.Context.{fields_in};
 ghost use Rattle.ledger_contents.specs.Contents.{contents_of};

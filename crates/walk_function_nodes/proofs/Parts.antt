@@ -1,5 +1,6 @@
 -- A function's constraints and circuits as code puts them: those of its private parameters, then those of its body's events.
-use Rattle.kit.specs.Names.{◌≡◌, refl, ap, sym, ◌∙◌, Bool, true, false, cond, List, [], ◌∷◌, ◌++◌, ℕ, suc, ◌+◌, ◌*◌, ◌≤◌, arith, length}
+use Rattle.std.specs.Prelude.{◌≡◌, ◌∷◌, ◌++◌, ◌+◌, ◌*◌, ◌≤◌}
+use Rattle.kit.specs.Names.{refl, ap, sym, ◌∙◌, Bool, true, false, cond, List, [], ℕ, suc, arith, length}
 use Rattle.definitions.specs.Basics.{flat_map}
 use Rattle.definitions.specs.ContractFile.{Parameter, node_count}
 use Rattle.definitions.specs.Rewriting.{always, Constraint, WrittenFunction, private_parameters, openings, held_under, Tree, size, sizes, numbered_all, node_bytes, command_tree, claim_trees, function_trees}

@@ -1,5 +1,6 @@
 -- The circuits' nodes and then the body's are the function's.
-use Rattle.kit.specs.Names.{◌≡◌, ap, sym, ◌∙◌, Bool, List, [], ◌∷◌, ◌++◌, ℕ, ◌+◌, ◌*◌, ◌≤◌, arith, zero-add, ltb, length}
+use Rattle.std.specs.Prelude.{◌≡◌, ◌∷◌, ◌++◌, ◌+◌, ◌*◌, ◌≤◌}
+use Rattle.kit.specs.Names.{ap, sym, ◌∙◌, Bool, List, [], ℕ, arith, zero-add, ltb, length}
 use Rattle.definitions.specs.Basics.{flat_map}
 use Rattle.definitions.specs.Rewriting.{WrittenFunction, sizes, numbered_all, node_bytes, command_tree, function_trees}
 use Rattle.write_nodes.proofs.TreeNodes.{one_tree}

@@ -1,5 +1,6 @@
 -- What writing one function's nodes and constraints needs and owes.
-use Rattle.kit.specs.Names.{◌≡◌, List, [], ◌++◌, ℕ, zero, suc, ◌+◌, ◌*◌, ◌≤◌, length}
+use Rattle.std.specs.Prelude.{◌≡◌, ◌++◌, ◌+◌, ◌*◌, ◌≤◌}
+use Rattle.kit.specs.Names.{List, [], ℕ, zero, suc, length}
 use Rattle.definitions.specs.Basics.{flat_map}
 use Rattle.definitions.specs.ContractFile.{node_count}
 use Rattle.definitions.specs.Rewriting.{WrittenFunction, Tree, sizes, numbered_all, node_bytes, claim_trees, function_trees}

@@ -1,7 +1,8 @@
 // 01, Runs and views: the nodes of one written function, numbered from 0, and its constraints as flat numbers, for a call to walk.
 #![tactic(auto)]
 
-ghost use Rattle.kit.specs.Names.{◌≡◌, ◌*◌, ◌≤◌, length};
+ghost use Rattle.std.specs.Prelude.{◌≡◌, ◌*◌, ◌≤◌};
+ghost use Rattle.kit.specs.Names.{length};
 ghost use Rattle.memory_buffer.specs.Buffer.{stored};
 ghost use Rattle.write_function_room.specs.Functions.{written_in};
 ghost use Rattle.walk_function_nodes.specs.Functions.{opening_numbers, ConstraintsReady, ConstraintsPut, FunctionReady, FunctionPut};

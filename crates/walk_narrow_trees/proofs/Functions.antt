@@ -1,5 +1,6 @@
 -- A function of a file as it is written: its trees are narrow, its owners have codes, and what is written of it reads back.
-use Rattle.kit.specs.Names.{◌≡◌, ap, ◌∙◌, Bool, true, false, cond, List, [], ◌∷◌, ◌++◌, append-nil, ℕ, suc, ◌+◌, ◌-◌, ◌<◌, ◌≤◌, arith}
+use Rattle.std.specs.Prelude.{◌≡◌, ◌∷◌, ◌++◌, ◌+◌, ◌-◌, ◌<◌, ◌≤◌}
+use Rattle.kit.specs.Names.{ap, ◌∙◌, Bool, true, false, cond, List, [], append-nil, ℕ, suc, arith}
 use Rattle.kit.specs.Names.{length, length-append}
 use Rattle.definitions.specs.Basics.{flat_map}
 use Rattle.definitions.specs.ContractFile.{Field, Parameter, Function, Scope}

@@ -1,5 +1,6 @@
 -- The trees of a file's nodes are narrow: their numbers are bytes, their constants are of their types, and owners have codes by the tables.
-use Rattle.kit.specs.Names.{◌≡◌, true, ◌&&◌, List, Option, none, ℕ, ◌+◌, ◌*◌, ◌<◌, leb}
+use Rattle.std.specs.Prelude.{◌≡◌, ◌&&◌, ◌+◌, ◌*◌, ◌<◌}
+use Rattle.kit.specs.Names.{true, List, Option, none, ℕ, leb}
 use Rattle.definitions.specs.Basics.{is_zero}
 use Rattle.definitions.specs.ContractFile.{Owner, everyone, owned_by, Name, me_name, final_name, parameter_name, Scope, field_at, NodeRecord, nodes_at, node_record, data_type_of, owner_of_code, is_of_type, Kind, constant_kind, me_kind, field_kind, entry_kind, parameter_kind, operator_kind, negation_kind, reveal_kind, skip_kind, sequence_kind, assign_field_kind, assign_entry_kind, require_kind, conditional_kind, no_kind, kind_of, constant_value, node_of_kind, expression_of, statement_of, statement_at}
 use Rattle.definitions.specs.Owners.{name_of, place_owner}

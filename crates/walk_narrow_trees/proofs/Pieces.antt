@@ -1,6 +1,7 @@
 -- A rewritten piece is narrow: its form, the steps that set its reads, and what is claimed of its variables. Each combinator of rewriting
 -- keeps that, where the variables' numbers fit two bytes.
-use Rattle.kit.specs.Names.{Bool, true, false, cond, List, [], ◌∷◌, ◌++◌, ℕ, suc, ◌+◌, ◌/◌, ◌%◌, ◌<◌, ◌≤◌, arith, length, length-append}
+use Rattle.std.specs.Prelude.{◌∷◌, ◌++◌, ◌+◌, ◌/◌, ◌%◌, ◌<◌, ◌≤◌}
+use Rattle.kit.specs.Names.{Bool, true, false, cond, List, [], ℕ, suc, arith, length, length-append}
 use Rattle.definitions.specs.ContractFile.{DataType, boolean, uint, address, data_type_code, Operator, plus, minus, times, divide, remainder, less, less_or_equal, equal, unequal, conjunction, disjunction, operator_code, Owner, everyone, owned_by, Expression}
 use Rattle.definitions.specs.Rewriting.{BodyExpression, Circuit, Command, Variable, Claim, equals, opens_for_caller, Step, Piece, Generator, kept, one_part, two_parts, supplying, reading, read_form, body_tree, circuit_tree, command_tree, leaf}
 use Rattle.write_trees.proofs.Narrowness.{NarrowTree, narrow_leaf}

@@ -1,5 +1,6 @@
 -- What rewriting makes of narrow expressions and statements is narrow.
-use Rattle.kit.specs.Names.{◌&&◌, List, [], ◌∷◌, ◌++◌, none, ℕ, suc, ◌+◌, ◌<◌, ◌≤◌, arith, length, length-append}
+use Rattle.std.specs.Prelude.{◌&&◌, ◌∷◌, ◌++◌, ◌+◌, ◌<◌, ◌≤◌}
+use Rattle.kit.specs.Names.{List, [], none, ℕ, suc, arith, length, length-append}
 use Rattle.definitions.specs.ContractFile.{DataType, boolean, me_name, Owner, everyone, owned_by, Operator, operator_code, Expression, Statement, Scope, field_at, is_division}
 use Rattle.definitions.specs.Owners.{name_of, place_owner, is_public, owner_of}
 use Rattle.definitions.specs.Rewriting.{BodyExpression, Circuit, Command, Claim, Guard, under, Constraint, Step, Generator, kept, one_part, two_parts, operator_in_circuit, in_body, in_circuit, in_place, steps_before, held_under, Passage, StatementGenerator, single, in_sequence, in_branch, in_branches, rewrite_statement, body_tree, circuit_tree, command_tree}

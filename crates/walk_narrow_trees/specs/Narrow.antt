@@ -1,5 +1,6 @@
 -- Trees whose numbers fit the bytes that they are written to: fields and parameters of one byte, values of four, finals with an owner code.
-use Rattle.kit.specs.Names.{◌≡◌, List, none, ℕ, ◌-◌, ◌<◌}
+use Rattle.std.specs.Prelude.{◌≡◌, ◌-◌, ◌<◌}
+use Rattle.kit.specs.Names.{List, none, ℕ}
 use Rattle.definitions.specs.ContractFile.{Expression, Statement, Scope, field_at, byte_at}
 use Rattle.definitions.specs.Basics.{flat_map}
 use Rattle.definitions.specs.Rewriting.{WrittenFunction, sizes, numbered_all, node_bytes, function_trees}

@@ -1,7 +1,7 @@
 // What an expression of a written body gives, and the number that a walk may use of it: no cell is opened.
 #![tactic(auto)]
 
-ghost use Rattle.kit.specs.Names.{◌≡◌};
+ghost use Rattle.std.specs.Prelude.{◌≡◌};
 ghost use Rattle.definitions.specs.Ledger.{plain_number};
 ghost use Rattle.ledger_contents.specs.Contents.{content_of_code};
 

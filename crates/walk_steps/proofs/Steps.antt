@@ -1,5 +1,6 @@
 -- Steps of a walk as code takes them: what one command makes of the flat contents, and how a sequence and an if hand the walk on.
-use Rattle.kit.specs.Names.{◌≡◌, refl, ap, sym, ◌∙◌, Bool, true, false, ◌&&◌, cond, false≢true, List, ℕ, ◌<◌, ◌≤◌, arith, set, eqb-true}
+use Rattle.std.specs.Prelude.{◌≡◌, ◌&&◌, ◌<◌, ◌≤◌}
+use Rattle.kit.specs.Names.{refl, ap, sym, ◌∙◌, Bool, true, false, cond, false≢true, List, ℕ, arith, set, eqb-true}
 use Rattle.kit.specs.Names.{ne_eqb}
 use Rattle.definitions.specs.Basics.{is_true}
 use Rattle.definitions.specs.ContractFile.{NodeRecord}

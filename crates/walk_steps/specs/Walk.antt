@@ -1,5 +1,6 @@
 -- What the walk of a command makes of flat contents: whether it completes, and the state after it.
-use Rattle.kit.specs.Names.{◌≡◌, Bool, true, ◌||◌, List, ℕ, eqb}
+use Rattle.std.specs.Prelude.{◌≡◌, ◌||◌}
+use Rattle.kit.specs.Names.{Bool, true, List, ℕ, eqb}
 use Rattle.definitions.specs.Rewriting.{Command, Constraint}
 use Rattle.definitions.specs.Ledger as ledger
 use Rattle.file_accepted.specs.Context.{fields_in}

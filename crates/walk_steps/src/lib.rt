@@ -1,7 +1,8 @@
 // 01, Runs and views: one command of a written body that is neither a sequence nor an if, on flat contents that are lent.
 #![tactic(auto)]
 
-ghost use Rattle.kit.specs.Names.{◌≡◌, true, false, ◌&&◌, ◌*◌, ◌<◌, ◌≤◌, set};
+ghost use Rattle.std.specs.Prelude.{◌≡◌, ◌&&◌, ◌*◌, ◌<◌, ◌≤◌};
+ghost use Rattle.kit.specs.Names.{true, false, set};
 ghost use Rattle.definitions.specs.Basics.{is_true};
 ghost use Rattle.definitions.specs.ContractFile.{field_count};
 ghost use Rattle.definitions.specs.Original.{position};

@@ -1,7 +1,7 @@
 // 01, Runs and views: the constraints that a verify tests, all of them.
 #![tactic(auto)]
 
-ghost use Rattle.kit.specs.Names.{◌≡◌, ◌+◌};
+ghost use Rattle.std.specs.Prelude.{◌≡◌, ◌+◌};
 ghost use Rattle.write_trees.specs.Table.{table_of, Readable};
 ghost use Rattle.ledger_circuits.specs.Circuits.{constraints_from, all_hold};
 

@@ -1,5 +1,6 @@
 -- A branch behind its guard, and the two branches of a conditional.
-use Rattle.kit.specs.Names.{◌≡◌, refl, ap, sym, subst, ◌∙◌, List, [], ◌∷◌, ◌++◌, ℕ, suc, ◌+◌, ◌*◌, ◌-◌, ◌<◌, ◌≤◌, arith, add-one, length}
+use Rattle.std.specs.Prelude.{◌≡◌, ◌∷◌, ◌++◌, ◌+◌, ◌*◌, ◌-◌, ◌<◌, ◌≤◌}
+use Rattle.kit.specs.Names.{refl, ap, sym, subst, ◌∙◌, List, [], ℕ, suc, arith, add-one, length}
 use Rattle.definitions.specs.ContractFile.{boolean, NodeRecord, node}
 use Rattle.definitions.specs.Rewriting.{BodyExpression, Command, always, under, Tree, two_children, size, node_bytes, body_tree, command_tree}
 use Rattle.theory_trees.specs.Trees.{statement_in}

@@ -1,5 +1,6 @@
 -- The command of a sequence and of a conditional from those of its parts.
-use Rattle.kit.specs.Names.{◌≡◌, refl, ap, ap₂, sym, ◌∙◌, ℕ, suc, ◌+◌, add-one, length}
+use Rattle.std.specs.Prelude.{◌≡◌, ◌+◌}
+use Rattle.kit.specs.Names.{refl, ap, ap₂, sym, ◌∙◌, ℕ, suc, add-one, length}
 use Rattle.definitions.specs.ContractFile.{boolean, Expression, Statement, Scope}
 use Rattle.definitions.specs.Owners.{owner_of}
 use Rattle.definitions.specs.Rewriting.{BodyExpression, Command, Guard, always, under, steps_before, in_body, single, in_sequence, in_branch, in_branches, rewrite_statement}

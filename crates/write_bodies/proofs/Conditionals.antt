@@ -1,5 +1,6 @@
 -- A conditional behind the steps of its condition, from its condition and its branches.
-use Rattle.kit.specs.Names.{◌≡◌, refl, ap, sym, subst, ◌∙◌, List, ◌++◌, ℕ, ◌+◌, ◌*◌, ◌-◌, ◌≤◌, arith, length, take}
+use Rattle.std.specs.Prelude.{◌≡◌, ◌++◌, ◌+◌, ◌*◌, ◌-◌, ◌≤◌}
+use Rattle.kit.specs.Names.{refl, ap, sym, subst, ◌∙◌, List, ℕ, arith, length, take}
 use Rattle.definitions.specs.Basics.{flat_map}
 use Rattle.definitions.specs.ContractFile.{Statement, NodeRecord}
 use Rattle.definitions.specs.Owners.{owner_of}

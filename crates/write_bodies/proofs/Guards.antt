@@ -1,5 +1,6 @@
 -- How many events there are, and how many variables they make, depends neither on the guard nor on the number of the first variable.
-use Rattle.kit.specs.Names.{◌≡◌, refl, ap, ap₂, sym, ◌∙◌, Bool, true, false, ◌&&◌, cond, none, ℕ, suc, ◌+◌, length, length-append}
+use Rattle.std.specs.Prelude.{◌≡◌, ◌&&◌, ◌+◌}
+use Rattle.kit.specs.Names.{refl, ap, ap₂, sym, ◌∙◌, Bool, true, false, cond, none, ℕ, suc, length, length-append}
 use Rattle.definitions.specs.ContractFile.{me_name, Owner, everyone, owned_by, Expression, Statement, Scope, field_at, is_division}
 use Rattle.definitions.specs.Owners.{is_public, name_of, place_owner}
 use Rattle.definitions.specs.Rewriting.{Guard, under}

@@ -1,5 +1,6 @@
 -- A statement that holds no other, and a condition, from the log of its events.
-use Rattle.kit.specs.Names.{◌≡◌, refl, ap, sym, subst, ◌∙◌, true, false≢true, List, ℕ, ◌+◌, ◌*◌, ◌-◌, ◌/◌, ◌<◌, ◌≤◌, arith, length}
+use Rattle.std.specs.Prelude.{◌≡◌, ◌+◌, ◌*◌, ◌-◌, ◌/◌, ◌<◌, ◌≤◌}
+use Rattle.kit.specs.Names.{refl, ap, sym, subst, ◌∙◌, true, false≢true, List, ℕ, arith, length}
 use Rattle.definitions.specs.ContractFile.{Statement, Scope, node_count}
 use Rattle.definitions.specs.Rewriting.{Guard, always, single, rewrite_statement, command_tree}
 use Rattle.theory_trees.specs.Trees.{expression_in, statement_in}

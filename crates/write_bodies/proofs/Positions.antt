@@ -1,5 +1,6 @@
 -- Events in turn stand in a log one behind another.
-use Rattle.kit.specs.Names.{◌≡◌, ap, sym, subst, ◌∙◌, List, ◌++◌, ℕ, ◌+◌, ◌*◌, arith, length, length-append}
+use Rattle.std.specs.Prelude.{◌≡◌, ◌++◌, ◌+◌, ◌*◌}
+use Rattle.kit.specs.Names.{ap, sym, subst, ◌∙◌, List, ℕ, arith, length, length-append}
 use Rattle.definitions.specs.ContractFile.{Scope, Node}
 use Rattle.rewrite_events.specs.Events.{Event, variable_count, steps_of, Events, in_turn}
 use Rattle.rewrite_events.proofs.Appended.{variable_count_append, steps_append}

@@ -1,5 +1,6 @@
 -- A sequence from its two statements.
-use Rattle.kit.specs.Names.{◌≡◌, ap, sym, subst, ◌∙◌, List, ◌++◌, ℕ, ◌+◌, ◌*◌, ◌-◌, ◌<◌, ◌≤◌, arith, length}
+use Rattle.std.specs.Prelude.{◌≡◌, ◌++◌, ◌+◌, ◌*◌, ◌-◌, ◌<◌, ◌≤◌}
+use Rattle.kit.specs.Names.{ap, sym, subst, ◌∙◌, List, ℕ, arith, length}
 use Rattle.definitions.specs.ContractFile.{Statement, NodeRecord, node}
 use Rattle.definitions.specs.Rewriting.{always, two_children, node_bytes, command_tree}
 use Rattle.theory_laws.proofs.Records.{kind_as}

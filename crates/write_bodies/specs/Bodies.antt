@@ -1,6 +1,7 @@
 -- What the functions that write a body's statements need and owe. They read a log of events that holds those of the statement from a
 -- position on, and hand back the position behind them.
-use Rattle.kit.specs.Names.{◌≡◌, Bool, List, ◌++◌, ℕ, ◌+◌, ◌*◌, ◌<◌, ◌≤◌, ltb, length}
+use Rattle.std.specs.Prelude.{◌≡◌, ◌++◌, ◌+◌, ◌*◌, ◌<◌, ◌≤◌}
+use Rattle.kit.specs.Names.{Bool, List, ℕ, ltb, length}
 use Rattle.definitions.specs.ContractFile.{NodeRecord, node_count}
 use Rattle.definitions.specs.Owners.{owner_of}
 use Rattle.definitions.specs.Rewriting.{Command, Guard, in_body, steps_before, Tree, three_children, command_tree}

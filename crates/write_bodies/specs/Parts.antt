@@ -1,6 +1,7 @@
 -- The trees of a file's statements and branches as they are written, and their events. No tree depends on a guard, nor does the
 -- number of events or of their variables.
-use Rattle.kit.specs.Names.{Bool, cond, List, map, ℕ, ◌+◌}
+use Rattle.std.specs.Prelude.{◌+◌}
+use Rattle.kit.specs.Names.{Bool, cond, List, map, ℕ}
 use Rattle.definitions.specs.ContractFile.{boolean, Expression, Statement, Scope, parameter_records, parameter_of}
 use Rattle.definitions.specs.Owners.{owner_of}
 use Rattle.definitions.specs.Rewriting.{BodyExpression, Command, always, Step, in_body, private_parameters, openings, rewrite_statement, Tree}

@@ -1,7 +1,8 @@
 // 01, Rewriting: the nodes of a function's written body, statement by statement.
 #![tactic(auto)]
 
-ghost use Rattle.kit.specs.Names.{◌≡◌, true, ◌+◌, ◌*◌};
+ghost use Rattle.std.specs.Prelude.{◌≡◌, ◌+◌, ◌*◌};
+ghost use Rattle.kit.specs.Names.{true};
 ghost use Rattle.theory_trees.specs.Trees.{statement_in};
 ghost use Rattle.file_accepted.specs.Context.{nodes_in};
 ghost use Rattle.rewrite_events.specs.Ends.{is_simple};

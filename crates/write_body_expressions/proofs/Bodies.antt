@@ -1,5 +1,6 @@
 -- The tree of a body's form, by the expression's kind, as code learns it.
-use Rattle.kit.specs.Names.{◌≡◌, ap, true, false, ℕ, ◌+◌, ◌%◌, ◌/◌}
+use Rattle.std.specs.Prelude.{◌≡◌, ◌+◌, ◌%◌, ◌/◌}
+use Rattle.kit.specs.Names.{ap, true, false, ℕ}
 use Rattle.definitions.specs.ContractFile.{DataType, Owner, Operator, Expression, Scope, operator_code, data_type_code}
 use Rattle.definitions.specs.Owners.{is_public}
 use Rattle.definitions.specs.Rewriting.{kept, one_part, two_parts, supplying, in_body, leaf, one_child, two_children, body_tree}

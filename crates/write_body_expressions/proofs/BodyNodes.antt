@@ -1,5 +1,6 @@
 -- The tree of a node's form in a body, by the kind of its record and what code has found out about it.
-use Rattle.kit.specs.Names.{◌≡◌, ap, sym, ◌∙◌, Bool, true, false, List, ℕ, ◌+◌, ◌<◌, ◌≤◌}
+use Rattle.std.specs.Prelude.{◌≡◌, ◌+◌, ◌<◌, ◌≤◌}
+use Rattle.kit.specs.Names.{ap, sym, ◌∙◌, Bool, true, false, List, ℕ}
 use Rattle.definitions.specs.ContractFile.{NodeRecord, node_count}
 use Rattle.definitions.specs.Owners.{is_public}
 use Rattle.definitions.specs.Rewriting.{Tree, leaf, one_child, two_children}

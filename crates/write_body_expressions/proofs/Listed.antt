@@ -1,5 +1,6 @@
 -- Codes of the tables are those of what they stand for, so the nodes of a form keep them.
-use Rattle.kit.specs.Names.{◌≡◌, refl, ◌&&◌, List, ℕ, zero, suc, ◌+◌, ◌*◌, ◌/◌, ◌%◌, ◌<◌, ◌≤◌, arith, leb, leb-true}
+use Rattle.std.specs.Prelude.{◌≡◌, ◌&&◌, ◌+◌, ◌*◌, ◌/◌, ◌%◌, ◌<◌, ◌≤◌}
+use Rattle.kit.specs.Names.{refl, List, ℕ, zero, suc, arith, leb, leb-true}
 use Rattle.definitions.specs.Basics.{is_zero}
 use Rattle.definitions.specs.ContractFile.{data_type_code, operator_code, NodeRecord, node_count, data_type_of, operator_of, constant_kind, operator_kind, kind_of, constant_value, is_of_type}
 use Rattle.definitions.specs.Numbers.{kind_in_tables}

@@ -1,7 +1,7 @@
 // 01, Rewriting: the nodes of an expression's form in the body, written behind others.
 #![tactic(auto)]
 
-ghost use Rattle.kit.specs.Names.{◌≡◌, ◌+◌, ◌<◌, ◌≤◌};
+ghost use Rattle.std.specs.Prelude.{◌≡◌, ◌+◌, ◌<◌, ◌≤◌};
 ghost use Rattle.definitions.specs.ContractFile.{node_count, node};
 ghost use Rattle.theory_trees.specs.Trees.{expression_in};
 ghost use Rattle.file_accepted.specs.Context.{Context, nodes_in, scope_in};

@@ -1,5 +1,6 @@
 -- The tree of a circuit's form, by the expression's kind, as code learns it.
-use Rattle.kit.specs.Names.{◌≡◌, refl, ap, true, false, ◌&&◌, ◌++◌, ℕ, ◌+◌, ◌%◌, ◌/◌, arith, add-zero, length, length-append}
+use Rattle.std.specs.Prelude.{◌≡◌, ◌&&◌, ◌++◌, ◌+◌, ◌%◌, ◌/◌}
+use Rattle.kit.specs.Names.{refl, ap, true, false, ℕ, arith, add-zero, length, length-append}
 use Rattle.definitions.specs.ContractFile.{DataType, Owner, everyone, owned_by, Operator, Expression, Scope, operator_code, is_division, is_everyone, data_type_code}
 use Rattle.definitions.specs.Owners.{owner_of, is_public}
 use Rattle.definitions.specs.Rewriting.{kept, one_part, two_parts, read_form, reading, in_body, in_circuit, leaf, one_child, two_children, circuit_tree}

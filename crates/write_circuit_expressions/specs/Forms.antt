@@ -1,5 +1,6 @@
 -- 01, Rewriting: what code makes of an expression's form in a circuit.
-use Rattle.kit.specs.Names.{◌≡◌, List, ℕ, ◌+◌}
+use Rattle.std.specs.Prelude.{◌≡◌, ◌+◌}
+use Rattle.kit.specs.Names.{List, ℕ}
 use Rattle.theory_trees.specs.Trees.{expression_in}
 use Rattle.file_accepted.specs.Context.{nodes_in, scope_in}
 use Rattle.write_nodes.specs.Numbering.{Numbered}

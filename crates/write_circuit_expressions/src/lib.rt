@@ -1,7 +1,8 @@
 // 01, Rewriting: the nodes of an expression's form in a circuit, written behind others.
 #![tactic(auto)]
 
-ghost use Rattle.kit.specs.Names.{◌≡◌, ℕ, ◌+◌, ◌<◌, ◌≤◌, length};
+ghost use Rattle.std.specs.Prelude.{◌≡◌, ◌+◌, ◌<◌, ◌≤◌};
+ghost use Rattle.kit.specs.Names.{ℕ, length};
 ghost use Rattle.definitions.specs.ContractFile.{node_count};
 ghost use Rattle.definitions.specs.Rewriting.{leaf};
 ghost use Rattle.theory_trees.specs.Trees.{expression_in};

@@ -1,5 +1,6 @@
 -- A log of events whose claims have few variables can be read for its circuits.
-use Rattle.kit.specs.Names.{◌≡◌, ap, sym, ◌∙◌, List, ◌++◌, ℕ, zero, suc, ◌+◌, ◌*◌, ◌<◌, ◌≤◌, arith, length, get_or, length-append}
+use Rattle.std.specs.Prelude.{◌≡◌, ◌++◌, ◌+◌, ◌*◌, ◌<◌, ◌≤◌}
+use Rattle.kit.specs.Names.{ap, sym, ◌∙◌, List, ℕ, zero, suc, arith, length, get_or, length-append}
 use Rattle.definitions.specs.ContractFile.{node_count}
 use Rattle.theory_trees.specs.Trees.{expression_in}
 use Rattle.file_accepted.specs.Context.{nodes_in, scope_in}

@@ -1,5 +1,6 @@
 -- The bytes made of the numbers of constraints are the constraints' bytes.
-use Rattle.kit.specs.Names.{◌≡◌, refl, ap, ◌∙◌, List, [], ◌∷◌, ◌++◌, ℕ, suc, ◌+◌, ◌-◌, length}
+use Rattle.std.specs.Prelude.{◌≡◌, ◌∷◌, ◌++◌, ◌+◌, ◌-◌}
+use Rattle.kit.specs.Names.{refl, ap, ◌∙◌, List, [], ℕ, suc, length}
 use Rattle.definitions.specs.Basics.{two_bytes}
 use Rattle.definitions.specs.ContractFile.{owner_code}
 use Rattle.definitions.specs.Rewriting.{Claim, equals, opens_for_caller, Constraint, size, sizes, circuit_tree, claim_trees, guard_number, claim_bytes, constraint_bytes}

@@ -1,5 +1,6 @@
 -- The claims of a log's entries, one entry after another.
-use Rattle.kit.specs.Names.{◌≡◌, refl, List, [], ◌∷◌, ℕ, zero, suc, ◌+◌, ◌*◌, ◌-◌, arith, get_or, eq-eqb, ne_eqb}
+use Rattle.std.specs.Prelude.{◌≡◌, ◌∷◌, ◌+◌, ◌*◌, ◌-◌}
+use Rattle.kit.specs.Names.{refl, List, [], ℕ, zero, suc, arith, get_or, eq-eqb, ne_eqb}
 use Rattle.definitions.specs.ContractFile.{Scope, Node}
 use Rattle.write_circuits.specs.Circuits.{claim_at, claims_at, Claimable, EntryClaimable}
 

@@ -1,5 +1,6 @@
 -- A claim's four numbers, one behind another.
-use Rattle.kit.specs.Names.{◌≡◌, refl, List, [], ◌∷◌, ℕ, ◌+◌, ◌≤◌, arith, length}
+use Rattle.std.specs.Prelude.{◌≡◌, ◌∷◌, ◌+◌, ◌≤◌}
+use Rattle.kit.specs.Names.{refl, List, [], ℕ, arith, length}
 use Rattle.memory_buffer.specs.Buffer.{stored}
 use Rattle.write_nodes.proofs.TreeNodes.{run_then}
 use Rattle.write_circuits.specs.Circuits.{four}

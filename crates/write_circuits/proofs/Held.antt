@@ -1,5 +1,6 @@
 -- Reading the owner code of an entry that a log holds, and the four numbers of a claim.
-use Rattle.kit.specs.Names.{◌≡◌, ap, sym, ◌∙◌, List, ◌∷◌, ◌++◌, append_assoc, ℕ, ◌+◌, arith, add-zero, get_or, length-append, get_or-append-add}
+use Rattle.std.specs.Prelude.{◌≡◌, ◌∷◌, ◌++◌, ◌+◌}
+use Rattle.kit.specs.Names.{ap, sym, ◌∙◌, List, append_assoc, ℕ, arith, add-zero, get_or, length-append, get_or-append-add}
 use Rattle.write_logged_steps.specs.Held.{Holds}
 use Rattle.write_circuits.specs.Circuits.{four}
 

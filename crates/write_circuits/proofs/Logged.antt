@@ -1,5 +1,6 @@
 -- The claims and circuits that a log of events holds are those of the events.
-use Rattle.kit.specs.Names.{◌≡◌, refl, ap, sym, ◌∙◌, false, List, [], ◌∷◌, ℕ, suc, ◌+◌, ◌-◌, add-one, add-zero, eqb, length, get_or}
+use Rattle.std.specs.Prelude.{◌≡◌, ◌∷◌, ◌+◌, ◌-◌}
+use Rattle.kit.specs.Names.{refl, ap, sym, ◌∙◌, false, List, [], ℕ, suc, add-one, add-zero, eqb, length, get_or}
 use Rattle.definitions.specs.Basics.{flat_map}
 use Rattle.definitions.specs.ContractFile.{Scope, Owner, owner_code, Node}
 use Rattle.definitions.specs.Rewriting.{Guard, Tree, size, sizes, claim_trees, guard_number}

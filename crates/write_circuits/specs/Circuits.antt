@@ -1,5 +1,6 @@
 -- 01, Rewriting: the claims of a log with their circuits, as code finds them, and what code makes of them.
-use Rattle.kit.specs.Names.{◌≡◌, Bool, cond, List, [], ◌∷◌, ◌++◌, map, ℕ, zero, suc, ◌+◌, ◌*◌, ◌-◌, ◌<◌, ◌≤◌, eqb, length, get_or}
+use Rattle.std.specs.Prelude.{◌≡◌, ◌∷◌, ◌++◌, ◌+◌, ◌*◌, ◌-◌, ◌<◌, ◌≤◌}
+use Rattle.kit.specs.Names.{Bool, cond, List, [], map, ℕ, zero, suc, eqb, length, get_or}
 use Rattle.definitions.specs.Basics.{flat_map, two_bytes}
 use Rattle.definitions.specs.ContractFile.{Scope, node_count, Node}
 use Rattle.definitions.specs.Rewriting.{Tree, size, sizes, numbered_all, node_bytes}

@@ -1,5 +1,6 @@
 -- Claimed events whose circuits can be written.
-use Rattle.kit.specs.Names.{List, [], ◌∷◌, ℕ, suc, ◌+◌, ◌≤◌}
+use Rattle.std.specs.Prelude.{◌∷◌, ◌+◌, ◌≤◌}
+use Rattle.kit.specs.Names.{List, [], ℕ, suc}
 use Rattle.definitions.specs.ContractFile.{Scope}
 use Rattle.rewrite_events.specs.Events.{Event, supplied_event, claimed_event, read_event, guard_event, end_event}
 use Rattle.write_variable_counts.specs.Counts.{circuit_count}

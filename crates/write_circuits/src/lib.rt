@@ -1,7 +1,8 @@
 // 01, Rewriting: the circuits of a log's claims written behind one another, and the claims' numbers.
 #![tactic(auto)]
 
-ghost use Rattle.kit.specs.Names.{◌≡◌, ◌+◌, ◌*◌, ◌≤◌, length, get_or};
+ghost use Rattle.std.specs.Prelude.{◌≡◌, ◌+◌, ◌*◌, ◌≤◌};
+ghost use Rattle.kit.specs.Names.{length, get_or};
 ghost use Rattle.memory_buffer.specs.Buffer.{stored};
 ghost use Rattle.file_accepted.specs.Context.{Context, nodes_in, scope_in};
 ghost use Rattle.write_nodes.specs.Numbering.{Room, Numbered};

@@ -1,5 +1,6 @@
 -- The bytes of claims, six a claim, one claim after another.
-use Rattle.kit.specs.Names.{◌≡◌, refl, List, [], ◌++◌, ℕ, zero, suc, ◌+◌, ◌*◌, ◌-◌, ◌<◌, ◌≤◌, arith, length, get_or, length-append}
+use Rattle.std.specs.Prelude.{◌≡◌, ◌++◌, ◌+◌, ◌*◌, ◌-◌, ◌<◌, ◌≤◌}
+use Rattle.kit.specs.Names.{refl, List, [], ℕ, zero, suc, arith, length, get_or, length-append}
 use Rattle.memory_append.specs.Append.{Appended, Appending}
 use Rattle.memory_append.proofs.Appending.{appending_room, appending_next, appending_done}
 use Rattle.write_circuits.specs.Circuits.{six_bytes, sixes_from}

@@ -1,7 +1,8 @@
 // The constraints of a function's heading, six bytes each.
 #![tactic(auto)]
 
-ghost use Rattle.kit.specs.Names.{◌+◌, ◌*◌, ◌<◌, ◌≤◌, length};
+ghost use Rattle.std.specs.Prelude.{◌+◌, ◌*◌, ◌<◌, ◌≤◌};
+ghost use Rattle.kit.specs.Names.{length};
 ghost use Rattle.memory_append.specs.Append.{Appended};
 ghost use Rattle.write_circuits.specs.Circuits.{six_bytes, sixes_from};
 

@@ -1,7 +1,8 @@
 // 01, Rewriting: a contract file checked and written into lent memory.
 #![tactic(auto)]
 
-ghost use Rattle.kit.specs.Names.{◌≡◌, ◌≤◌, length};
+ghost use Rattle.std.specs.Prelude.{◌≡◌, ◌≤◌};
+ghost use Rattle.kit.specs.Names.{length};
 ghost use Rattle.definitions.specs.ContractFile.{node_count};
 ghost use Rattle.definitions.specs.Numbers.{check_number};
 ghost use Rattle.definitions.specs.Crossings.{crossings_after_writing};

@@ -1,5 +1,6 @@
 -- A log has no more entries of a tag than numbers; sixteen counts, of which one more is told.
-use Rattle.kit.specs.Names.{◌≡◌, ap, sym, ◌∙◌, Bool, true, false, cond, List, [], ◌∷◌, ◌++◌, append_assoc, ℕ, suc, ◌-◌, ◌<◌, ◌≤◌}
+use Rattle.std.specs.Prelude.{◌≡◌, ◌∷◌, ◌++◌, ◌-◌, ◌<◌, ◌≤◌}
+use Rattle.kit.specs.Names.{ap, sym, ◌∙◌, Bool, true, false, cond, List, [], append_assoc, ℕ, suc}
 use Rattle.kit.specs.Names.{arith, eqb, length, replicate, set, length-append, set_at}
 use Rattle.definitions.specs.Crossings.{sixteen}
 use Rattle.write_variables.specs.PerEntry.{per_entry, of_tag, count_tag}

@@ -1,7 +1,8 @@
 // 02, Note 2: "each function's count of variables with origins 0 to 3", from the log that its variables are written from.
 #![tactic(auto)]
 
-ghost use Rattle.kit.specs.Names.{◌≡◌, [], ◌+◌, ◌<◌, ◌≤◌, length, set};
+ghost use Rattle.std.specs.Prelude.{◌≡◌, ◌+◌, ◌<◌, ◌≤◌};
+ghost use Rattle.kit.specs.Names.{[], length, set};
 ghost use Rattle.definitions.specs.Crossings.{sixteen};
 ghost use Rattle.write_variables.specs.PerEntry.{count_tag};
 

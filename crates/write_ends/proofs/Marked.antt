@@ -1,5 +1,6 @@
 -- Events and their end that a log holds: the end that is found is theirs.
-use Rattle.kit.specs.Names.{◌≡◌, refl, ap, sym, ◌∙◌, List, [], ◌∷◌, ◌++◌, ℕ, ◌+◌, ◌*◌, arith, add-zero, length, drop, length-append}
+use Rattle.std.specs.Prelude.{◌≡◌, ◌∷◌, ◌++◌, ◌+◌, ◌*◌}
+use Rattle.kit.specs.Names.{refl, ap, sym, ◌∙◌, List, [], ℕ, arith, add-zero, length, drop, length-append}
 use Rattle.kit.specs.Names.{drop-append-add}
 use Rattle.definitions.specs.ContractFile.{Node}
 use Rattle.rewrite_events.specs.Events.{Event, supplied_event, claimed_event, read_event, guard_event, end_event, variables_of, variable_count, Events, ended}

@@ -1,5 +1,6 @@
 -- The search for an end, entry by entry.
-use Rattle.kit.specs.Names.{◌≡◌, refl, ap, sym, ◌∙◌, List, [], ◌∷◌, ℕ, ◌+◌, ◌<◌, ◌≤◌, arith, length, drop, get_or, length-drop, eq-eqb}
+use Rattle.std.specs.Prelude.{◌≡◌, ◌∷◌, ◌+◌, ◌<◌, ◌≤◌}
+use Rattle.kit.specs.Names.{refl, ap, sym, ◌∙◌, List, [], ℕ, arith, length, drop, get_or, length-drop, eq-eqb}
 use Rattle.kit.specs.Names.{ne_eqb}
 use Rattle.theory_laws.proofs.Lists.{five_next}
 use Rattle.write_ends.specs.Ends.{numbers_to_end, variable_at_end, EndFound}

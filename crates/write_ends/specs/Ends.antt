@@ -1,5 +1,6 @@
 -- The next end of a log: how many numbers stand up to it and with it, and which variable is next behind it.
-use Rattle.kit.specs.Names.{◌≡◌, cond, List, [], ◌∷◌, ℕ, ◌+◌, eqb, drop}
+use Rattle.std.specs.Prelude.{◌≡◌, ◌∷◌, ◌+◌}
+use Rattle.kit.specs.Names.{cond, List, [], ℕ, eqb, drop}
 use Rattle.rewrite_log.specs.declared.Position.{Position}
 
 -- A log ends where fewer than five numbers are left.

@@ -1,7 +1,8 @@
 // The end of a statement's or a condition's events in a log.
 #![tactic(auto)]
 
-ghost use Rattle.kit.specs.Names.{◌≤◌, length};
+ghost use Rattle.std.specs.Prelude.{◌≤◌};
+ghost use Rattle.kit.specs.Names.{length};
 ghost use Rattle.write_ends.specs.Ends.{EndFound};
 
 use rewrite_log::{END_LOGGED, Position};

@@ -2,7 +2,8 @@
 // take, where the next one goes.
 #![tactic(auto)]
 
-ghost use Rattle.kit.specs.Names.{◌≡◌, ◌+◌, ◌*◌, ◌≤◌, leb, ltb};
+ghost use Rattle.std.specs.Prelude.{◌≡◌, ◌+◌, ◌*◌, ◌≤◌};
+ghost use Rattle.kit.specs.Names.{leb, ltb};
 
 // Where the headings end, and how many nodes there are.
 #[derive(Clone, Copy)]

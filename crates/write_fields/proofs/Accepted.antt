@@ -1,5 +1,6 @@
 -- The fields of an accepted file are few and in the tables.
-use Rattle.kit.specs.Names.{◌≡◌, refl, Bool, true, false, List, ◌∷◌, ℕ, arith}
+use Rattle.std.specs.Prelude.{◌≡◌, ◌∷◌}
+use Rattle.kit.specs.Names.{refl, Bool, true, false, List, ℕ, arith}
 use Rattle.definitions.specs.Basics.{first_that_holds}
 use Rattle.definitions.specs.ContractFile.{field_count, sections_of}
 use Rattle.definitions.specs.Numbers.{ends_wrongly, count_off_limits, outside_tables, check_number}

@@ -1,6 +1,7 @@
 -- A field in the tables is written as it stands, but for its type; fields one after another.
-use Rattle.kit.specs.Names.{◌≡◌, refl, ap, sym, ◌∙◌, subst, Bool, true, false, ◌&&◌, ◌||◌, not, cond, true≢false, List, [], ◌∷◌, ◌++◌, map}
-use Rattle.kit.specs.Names.{ℕ, zero, suc, ◌+◌, ◌*◌, ◌-◌, ◌<◌, ◌≤◌, arith, eqb, leb, length, length-append, leb-true, eqb-true}
+use Rattle.std.specs.Prelude.{◌≡◌, ◌&&◌, ◌||◌, ◌∷◌, ◌++◌, ◌+◌, ◌*◌, ◌-◌, ◌<◌, ◌≤◌}
+use Rattle.kit.specs.Names.{refl, ap, sym, ◌∙◌, subst, Bool, true, false, not, cond, true≢false, List, [], map}
+use Rattle.kit.specs.Names.{ℕ, zero, suc, arith, eqb, leb, length, length-append, leb-true, eqb-true}
 use Rattle.definitions.specs.Basics.{flat_map, is_zero}
 use Rattle.definitions.specs.ContractFile.{shape_code, byte_at, field_count, shape_of, is_final_code, field_owner_of_code, field_owner_code, field_records, field_of}
 use Rattle.definitions.specs.Reading.{fields_read}

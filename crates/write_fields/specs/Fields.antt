@@ -1,5 +1,6 @@
 -- 01, Rewriting: the written fields of a file whose codes are in the tables.
-use Rattle.kit.specs.Names.{◌≡◌, true, cond, List, ◌∷◌, map, ℕ, ◌<◌, ◌≤◌, eqb}
+use Rattle.std.specs.Prelude.{◌≡◌, ◌∷◌, ◌<◌, ◌≤◌}
+use Rattle.kit.specs.Names.{true, cond, List, map, ℕ, eqb}
 use Rattle.definitions.specs.Basics.{flat_map}
 use Rattle.definitions.specs.ContractFile.{FieldRecord, field_count, field_records, field_of}
 use Rattle.definitions.specs.Numbers.{field_in_tables}

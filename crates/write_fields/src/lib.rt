@@ -1,7 +1,8 @@
 // 01, Rewriting: the fields as they are written, "Fields keep their layout; private ones get type 3 (cell)".
 #![tactic(auto)]
 
-ghost use Rattle.kit.specs.Names.{◌≡◌, true, ◌+◌, ◌*◌, ◌≤◌, length};
+ghost use Rattle.std.specs.Prelude.{◌≡◌, ◌+◌, ◌*◌, ◌≤◌};
+ghost use Rattle.kit.specs.Names.{true, length};
 ghost use Rattle.definitions.specs.ContractFile.{field_count};
 ghost use Rattle.definitions.specs.Numbers.{field_in_tables};
 ghost use Rattle.memory_append.specs.Append.{Appended};

@@ -1,5 +1,6 @@
 -- The steps that read private parameters, one parameter after another.
-use Rattle.kit.specs.Names.{◌≡◌, refl, ap, ◌∙◌, Bool, true, false, not, cond, List, [], ◌∷◌, map, ℕ, zero, suc, ◌+◌, ◌*◌, ◌-◌, ◌<◌, ◌≤◌}
+use Rattle.std.specs.Prelude.{◌≡◌, ◌∷◌, ◌+◌, ◌*◌, ◌-◌, ◌<◌, ◌≤◌}
+use Rattle.kit.specs.Names.{refl, ap, ◌∙◌, Bool, true, false, not, cond, List, [], map, ℕ, zero, suc}
 use Rattle.kit.specs.Names.{arith, add-one, eqb, length, eq-eqb, ne_eqb}
 use Rattle.definitions.specs.ContractFile.{byte_at, parameter_records, parameter_of, node}
 use Rattle.definitions.specs.Reading.{parameters_read}

@@ -1,5 +1,6 @@
 -- A function's root statement with its verify, and its whole body behind the reads of its private parameters.
-use Rattle.kit.specs.Names.{◌≡◌, refl, ap, ap₂, sym, subst, ◌∙◌, Bool, true, false, cond, List, [], ◌∷◌, map, ℕ, suc, ◌+◌, ◌*◌, ◌-◌, ◌≤◌}
+use Rattle.std.specs.Prelude.{◌≡◌, ◌∷◌, ◌+◌, ◌*◌, ◌-◌, ◌≤◌}
+use Rattle.kit.specs.Names.{refl, ap, ap₂, sym, subst, ◌∙◌, Bool, true, false, cond, List, [], map, ℕ, suc}
 use Rattle.kit.specs.Names.{arith, ltb, length, take, length-map, lt-ltb}
 use Rattle.definitions.specs.Basics.{flat_map}
 use Rattle.definitions.specs.ContractFile.{Parameter, byte_at, two_bytes_at, function_end, parameter_records, parameter_of, node}

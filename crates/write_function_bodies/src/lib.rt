@@ -1,7 +1,7 @@
 // 01, Rewriting: "First, each private parameter is read", the body of a function, and the verify that ends it.
 #![tactic(auto)]
 
-ghost use Rattle.kit.specs.Names.{◌+◌, ◌*◌, ◌≤◌};
+ghost use Rattle.std.specs.Prelude.{◌+◌, ◌*◌, ◌≤◌};
 ghost use Rattle.definitions.specs.Rewriting.{command_tree};
 ghost use Rattle.write_nodes.specs.Numbering.{Numbered};
 ghost use Rattle.write_steps.specs.Steps.{StepsRoom, StepsPut};

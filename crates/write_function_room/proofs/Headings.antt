@@ -1,5 +1,6 @@
 -- The headings alone: 9 bytes for a function, 11 for each parameter, and 6 for each node of its body.
-use Rattle.kit.specs.Names.{ap, List, [], ◌∷◌, map, ℕ, ◌+◌, ◌*◌, ◌≤◌, arith, length, length-append}
+use Rattle.std.specs.Prelude.{◌∷◌, ◌+◌, ◌*◌, ◌≤◌}
+use Rattle.kit.specs.Names.{ap, List, [], map, ℕ, arith, length, length-append}
 use Rattle.definitions.specs.ContractFile.{Field, Function}
 use Rattle.definitions.specs.Rewriting.{Constraint, Variable, always, held_under, private_parameters, rewrite_function, sizes, function_trees, function_bytes, functions_bytes, functions_written}
 use Rattle.theory_trees.specs.Sizes.{statement_size}

@@ -1,5 +1,6 @@
 -- Listed owners have codes that are bytes.
-use Rattle.kit.specs.Names.{List, [], ◌∷◌, ◌<◌, arith}
+use Rattle.std.specs.Prelude.{◌∷◌, ◌<◌}
+use Rattle.kit.specs.Names.{List, [], arith}
 use Rattle.definitions.specs.ContractFile.{me_name, final_name, parameter_name, Owner, everyone, owned_by, owner_code}
 use Rattle.rewrite_events.specs.Events.{Event, supplied_event, claimed_event, read_event, guard_event, end_event}
 use Rattle.rewrite_event_owners.specs.Listed.{Listed, owners_listed}

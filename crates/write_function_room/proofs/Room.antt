@@ -1,5 +1,6 @@
 -- Each function of an accepted file can be written, behind those before it and alone.
-use Rattle.kit.specs.Names.{◌≡◌, ap, sym, ◌∙◌, List, [], ◌∷◌, ℕ, zero, suc, ◌+◌, ◌*◌, ◌-◌, ◌<◌, ◌≤◌, arith, length, take, take-length}
+use Rattle.std.specs.Prelude.{◌≡◌, ◌∷◌, ◌+◌, ◌*◌, ◌-◌, ◌<◌, ◌≤◌}
+use Rattle.kit.specs.Names.{ap, sym, ◌∙◌, List, [], ℕ, zero, suc, arith, length, take, take-length}
 use Rattle.definitions.specs.ContractFile.{Statement, Function, function_at, byte_at, function_count, node_count, sections_of, contract_of}
 use Rattle.definitions.specs.Numbers.{check_number}
 use Rattle.definitions.specs.Rewriting.{always, WrittenFunction, rewrite, functions_bytes}

@@ -1,5 +1,6 @@
 -- A statement makes at most three variables for each two of its nodes.
-use Rattle.kit.specs.Names.{Bool, true, false, ◌&&◌, cond, [], ◌∷◌, none, ℕ, suc, ◌+◌, ◌*◌, ◌≤◌, arith, length-append}
+use Rattle.std.specs.Prelude.{◌&&◌, ◌∷◌, ◌+◌, ◌*◌, ◌≤◌}
+use Rattle.kit.specs.Names.{Bool, true, false, cond, [], none, ℕ, suc, arith, length-append}
 use Rattle.definitions.specs.ContractFile.{me_name, Owner, everyone, owned_by, Expression, Statement, Scope, field_at, is_division}
 use Rattle.definitions.specs.Owners.{name_of, place_owner, is_public}
 use Rattle.definitions.specs.Rewriting.{Guard, under}

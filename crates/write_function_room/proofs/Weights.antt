@@ -1,5 +1,6 @@
 -- What the variables and claims of a statement take in a heading: three bytes for a variable and six for a claim, at most six for each node.
-use Rattle.kit.specs.Names.{◌≡◌, ap, ◌∙◌, Bool, true, false, ◌&&◌, cond, List, [], ◌∷◌, ◌++◌, none, ℕ, suc, ◌+◌, ◌*◌, ◌≤◌, arith, length}
+use Rattle.std.specs.Prelude.{◌≡◌, ◌&&◌, ◌∷◌, ◌++◌, ◌+◌, ◌*◌, ◌≤◌}
+use Rattle.kit.specs.Names.{ap, ◌∙◌, Bool, true, false, cond, List, [], none, ℕ, suc, arith, length}
 use Rattle.kit.specs.Names.{length-append}
 use Rattle.definitions.specs.ContractFile.{me_name, Owner, everyone, owned_by, Expression, Statement, Scope, field_at, is_division}
 use Rattle.definitions.specs.Owners.{name_of, place_owner, is_public}

@@ -1,5 +1,6 @@
 -- The functions of a file as they are written, one after another: their headings, their nodes, and the whole file by its parts.
-use Rattle.kit.specs.Names.{◌≡◌, refl, ap, sym, ◌∙◌, List, [], ◌∷◌, ◌++◌, map, append-nil, append_assoc, ℕ, zero, suc, ◌+◌, ◌*◌, ◌<◌, arith}
+use Rattle.std.specs.Prelude.{◌≡◌, ◌∷◌, ◌++◌, ◌+◌, ◌*◌, ◌<◌}
+use Rattle.kit.specs.Names.{refl, ap, sym, ◌∙◌, List, [], map, append-nil, append_assoc, ℕ, zero, suc, arith}
 use Rattle.kit.specs.Names.{length, take, get_or, length-append, length-map, get_or_map, take_all, take-suc}
 use Rattle.definitions.specs.Basics.{flat_map, two_bytes}
 use Rattle.definitions.specs.ContractFile.{Field, Function, function_at, NodeRecord, field_count, function_count, functions_at, function_end, functions_end, sections_of, field_of, contract_of}

@@ -1,5 +1,6 @@
 -- A function of a file as it is written, the events of its body, and the room that it needs.
-use Rattle.kit.specs.Names.{List, ℕ, ◌+◌, ◌*◌, ◌<◌, ◌≤◌, length, take}
+use Rattle.std.specs.Prelude.{◌+◌, ◌*◌, ◌<◌, ◌≤◌}
+use Rattle.kit.specs.Names.{List, ℕ, length, take}
 use Rattle.definitions.specs.Basics.{flat_map}
 use Rattle.definitions.specs.ContractFile.{Function, byte_at, field_count, node_count, sections_of, contract_of}
 use Rattle.definitions.specs.Rewriting.{always, WrittenFunction, rewrite_function, rewrite, sizes, function_trees, function_bytes}

@@ -1,5 +1,6 @@
 -- A function's circuits, then its body: the nodes of both together, and room for the body and the heading.
-use Rattle.kit.specs.Names.{◌≡◌, refl, ap, sym, ◌∙◌, Bool, List, [], ◌∷◌, ◌++◌, ℕ, ◌+◌, ◌*◌, ◌≤◌, arith, ltb, length, take, drop}
+use Rattle.std.specs.Prelude.{◌≡◌, ◌∷◌, ◌++◌, ◌+◌, ◌*◌, ◌≤◌}
+use Rattle.kit.specs.Names.{refl, ap, sym, ◌∙◌, Bool, List, [], ℕ, arith, ltb, length, take, drop}
 use Rattle.kit.specs.Names.{take-append-drop}
 use Rattle.definitions.specs.Basics.{flat_map}
 use Rattle.definitions.specs.ContractFile.{byte_at}

@@ -1,5 +1,6 @@
 -- The heading that a log and the claims' numbers tell is the written function's.
-use Rattle.kit.specs.Names.{◌≡◌, refl, ap, sym, ◌∙◌, subst, List, ℕ, zero, suc, ◌+◌, ◌*◌, ◌-◌, ◌/◌, ◌≤◌, arith, length, take}
+use Rattle.std.specs.Prelude.{◌≡◌, ◌+◌, ◌*◌, ◌-◌, ◌/◌, ◌≤◌}
+use Rattle.kit.specs.Names.{refl, ap, sym, ◌∙◌, subst, List, ℕ, zero, suc, arith, length, take}
 use Rattle.kit.specs.Names.{length-take-le, get_or-take}
 use Rattle.definitions.specs.ContractFile.{byte_at}
 use Rattle.definitions.specs.Rewriting.{sizes, command_tree, function_trees, constraint_bytes, function_bytes}

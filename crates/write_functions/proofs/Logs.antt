@@ -1,5 +1,6 @@
 -- The log of a function's events, read for its circuits and for its heading.
-use Rattle.kit.specs.Names.{◌≡◌, ap, sym, ◌∙◌, subst, List, ◌++◌, ℕ, ◌+◌, ◌*◌, ◌-◌, ◌/◌, ◌≤◌, arith, length, take, drop, take-append_seam}
+use Rattle.std.specs.Prelude.{◌≡◌, ◌++◌, ◌+◌, ◌*◌, ◌-◌, ◌/◌, ◌≤◌}
+use Rattle.kit.specs.Names.{ap, sym, ◌∙◌, subst, List, ℕ, arith, length, take, drop, take-append_seam}
 use Rattle.definitions.specs.Basics.{flat_map}
 use Rattle.definitions.specs.Rewriting.{always, Tree, sizes, numbered_all, node_bytes, constraint_bytes}
 use Rattle.file_accepted.proofs.Nodes.{nodes_counted_law}

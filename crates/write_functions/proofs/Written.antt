@@ -1,5 +1,6 @@
 -- A written function's constraints and trees: its private parameters open for the caller, then come its body's claims and their circuits.
-use Rattle.kit.specs.Names.{◌≡◌, refl, ap, ◌∙◌, List, [], ◌∷◌, ◌++◌, ℕ, suc, ◌+◌, arith, length, length-append}
+use Rattle.std.specs.Prelude.{◌≡◌, ◌∷◌, ◌++◌, ◌+◌}
+use Rattle.kit.specs.Names.{refl, ap, ◌∙◌, List, [], ℕ, suc, arith, length, length-append}
 use Rattle.definitions.specs.Basics.{flat_map}
 use Rattle.definitions.specs.Rewriting.{always, Constraint, held_under, private_parameters, openings, Tree, size, sizes, command_tree, claim_trees, function_trees}
 use Rattle.theory_laws.proofs.Written.{claim_count, opening_count, sizes_append}

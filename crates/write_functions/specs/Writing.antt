@@ -1,5 +1,6 @@
 -- 01, Rewriting: one function written, its circuits and body as nodes and its heading as bytes: what the code needs and owes.
-use Rattle.kit.specs.Names.{◌≡◌, List, ℕ, ◌+◌, ◌*◌, ◌≤◌, length, take}
+use Rattle.std.specs.Prelude.{◌≡◌, ◌+◌, ◌*◌, ◌≤◌}
+use Rattle.kit.specs.Names.{List, ℕ, length, take}
 use Rattle.definitions.specs.Basics.{flat_map}
 use Rattle.definitions.specs.ContractFile.{node_count}
 use Rattle.definitions.specs.Rewriting.{Constraint, Tree, claim_trees, function_trees, sizes, numbered_all, node_bytes, constraint_bytes}

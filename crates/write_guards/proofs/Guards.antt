@@ -1,5 +1,6 @@
 -- A variable set to true, as two nodes: the constant, and the setting above it.
-use Rattle.kit.specs.Names.{◌≡◌, refl, List, ℕ, ◌+◌, ◌*◌, ◌-◌, ◌≤◌, arith, length}
+use Rattle.std.specs.Prelude.{◌≡◌, ◌+◌, ◌*◌, ◌-◌, ◌≤◌}
+use Rattle.kit.specs.Names.{refl, List, ℕ, arith, length}
 use Rattle.definitions.specs.ContractFile.{boolean, node}
 use Rattle.definitions.specs.Rewriting.{BodyExpression, Command, leaf, setting, size, node_bytes, body_tree, command_tree}
 use Rattle.memory_buffer.specs.Buffer.{stored}

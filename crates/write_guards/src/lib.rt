@@ -1,7 +1,8 @@
 // 01, Rewriting: "Each branch begins by setting a guard variable of its own to true": the nodes of that setting.
 #![tactic(auto)]
 
-ghost use Rattle.kit.specs.Names.{◌+◌, ◌≤◌, length};
+ghost use Rattle.std.specs.Prelude.{◌+◌, ◌≤◌};
+ghost use Rattle.kit.specs.Names.{length};
 ghost use Rattle.definitions.specs.ContractFile.{boolean};
 ghost use Rattle.definitions.specs.Rewriting.{BodyExpression, Command, command_tree};
 ghost use Rattle.write_nodes.specs.Numbering.{Numbered};

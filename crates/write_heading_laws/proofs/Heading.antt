@@ -1,5 +1,6 @@
 -- A written function's heading and its crossings are what the file's parameters and the log of its body's events tell.
-use Rattle.kit.specs.Names.{◌≡◌, refl, ap, ap₂, sym, ◌∙◌, List, [], ◌∷◌, ◌++◌, map, ℕ, zero, suc, ◌+◌, ◌-◌, arith, leb, length}
+use Rattle.std.specs.Prelude.{◌≡◌, ◌∷◌, ◌++◌, ◌+◌, ◌-◌}
+use Rattle.kit.specs.Names.{refl, ap, ap₂, sym, ◌∙◌, List, [], map, ℕ, zero, suc, arith, leb, length}
 use Rattle.kit.specs.Names.{length-append, length-map}
 use Rattle.definitions.specs.Basics.{count_if, flat_map}
 use Rattle.definitions.specs.ContractFile.{Statement, Field, Parameter, Scope, parameter_records, parameter_of, Node}

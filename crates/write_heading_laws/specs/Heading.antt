@@ -1,5 +1,6 @@
 -- 01, Rewriting: a function's heading, put together from what the code appends.
-use Rattle.kit.specs.Names.{List, [], ◌∷◌, ◌++◌, ℕ, ◌+◌, length}
+use Rattle.std.specs.Prelude.{◌∷◌, ◌++◌, ◌+◌}
+use Rattle.kit.specs.Names.{List, [], ℕ, length}
 use Rattle.definitions.specs.Basics.{two_bytes}
 use Rattle.definitions.specs.Rewriting.{each_once}
 use Rattle.write_variables.specs.PerEntry.{per_entry, count_tag}

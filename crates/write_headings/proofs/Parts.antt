@@ -1,5 +1,6 @@
 -- The parts of a heading are the heading that a log tells, and its count of keys is stored last.
-use Rattle.kit.specs.Names.{◌≡◌, ap, ◌∙◌, subst, List, [], ◌∷◌, ◌++◌, append_assoc, ℕ, ◌+◌, ◌-◌, ◌≤◌, arith, length, length-append}
+use Rattle.std.specs.Prelude.{◌≡◌, ◌∷◌, ◌++◌, ◌+◌, ◌-◌, ◌≤◌}
+use Rattle.kit.specs.Names.{ap, ◌∙◌, subst, List, [], append_assoc, ℕ, arith, length, length-append}
 use Rattle.definitions.specs.Basics.{two_bytes}
 use Rattle.definitions.specs.ContractFile.{byte_at}
 use Rattle.memory_buffer.specs.Buffer.{stored}

@@ -1,5 +1,6 @@
 -- 01, Rewriting: the parts of a function's heading, as code appends them.
-use Rattle.kit.specs.Names.{List, [], ◌∷◌, ◌++◌, ℕ, ◌+◌, ◌/◌, ◌≤◌, length}
+use Rattle.std.specs.Prelude.{◌∷◌, ◌++◌, ◌+◌, ◌/◌, ◌≤◌}
+use Rattle.kit.specs.Names.{List, [], ℕ, length}
 use Rattle.definitions.specs.Basics.{two_bytes}
 use Rattle.definitions.specs.ContractFile.{byte_at}
 use Rattle.definitions.specs.Rewriting.{each_once}

@@ -1,7 +1,8 @@
 // 01, Rewriting: a function's heading, "parameters; .. variables ..; .. keys ..; .. constraints ..; body root".
 #![tactic(auto)]
 
-ghost use Rattle.kit.specs.Names.{◌≡◌, ◌+◌, ◌≤◌, length};
+ghost use Rattle.std.specs.Prelude.{◌≡◌, ◌+◌, ◌≤◌};
+ghost use Rattle.kit.specs.Names.{length};
 ghost use Rattle.write_variables.specs.PerEntry.{count_tag};
 ghost use Rattle.memory_append.specs.Append.{Appended};
 ghost use Rattle.write_headings.specs.Parts.{parameter_part, private_of, variable_part, key_part};

@@ -1,5 +1,6 @@
 -- A log that holds events one after another holds the first, and behind them the others.
-use Rattle.kit.specs.Names.{◌≡◌, refl, ap, sym, ◌∙◌, List, [], ◌∷◌, ◌++◌, append_assoc, ℕ, ◌+◌, ◌*◌, ◌≤◌, arith, length, length-append}
+use Rattle.std.specs.Prelude.{◌≡◌, ◌∷◌, ◌++◌, ◌+◌, ◌*◌, ◌≤◌}
+use Rattle.kit.specs.Names.{refl, ap, sym, ◌∙◌, List, [], append_assoc, ℕ, arith, length, length-append}
 use Rattle.definitions.specs.ContractFile.{Node}
 use Rattle.rewrite_events.specs.Events.{Event}
 use Rattle.rewrite_log.specs.Entries.{Entries, no_entry, entry_then}

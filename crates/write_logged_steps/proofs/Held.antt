@@ -1,5 +1,6 @@
 -- Reading the five numbers of an entry that a log holds, and what it holds behind them.
-use Rattle.kit.specs.Names.{◌≡◌, ap, sym, ◌∙◌, List, [], ◌∷◌, ◌++◌, append_assoc, ℕ, ◌+◌, ◌≤◌, arith, add-zero, length, get_or, take, drop}
+use Rattle.std.specs.Prelude.{◌≡◌, ◌∷◌, ◌++◌, ◌+◌, ◌≤◌}
+use Rattle.kit.specs.Names.{ap, sym, ◌∙◌, List, [], append_assoc, ℕ, arith, add-zero, length, get_or, take, drop}
 use Rattle.kit.specs.Names.{length-append, get_or-append-add, length-take-le}
 use Rattle.memory_buffer.specs.Buffer.{stored}
 use Rattle.write_logged_steps.specs.Held.{Holds}

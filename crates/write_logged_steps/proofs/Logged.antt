@@ -1,5 +1,6 @@
 -- The steps that a log of events holds are those of the events.
-use Rattle.kit.specs.Names.{◌≡◌, refl, ap, ◌∙◌, false, List, ◌∷◌, ℕ, suc, ◌+◌, eqb, length, get_or}
+use Rattle.std.specs.Prelude.{◌≡◌, ◌∷◌, ◌+◌}
+use Rattle.kit.specs.Names.{refl, ap, ◌∙◌, false, List, ℕ, suc, eqb, length, get_or}
 use Rattle.definitions.specs.ContractFile.{Scope, Node}
 use Rattle.definitions.specs.Owners.{owner_of}
 use Rattle.definitions.specs.Rewriting.{Step, in_body}

@@ -1,5 +1,6 @@
 -- The variables of what a statement's events read are among the statement's own.
-use Rattle.kit.specs.Names.{◌≡◌, refl, ap, ap₂, ◌∙◌, Bool, true, false, ◌&&◌, cond, List, [], ◌∷◌, ◌++◌, none, ℕ, suc, ◌+◌, ◌≤◌, arith}
+use Rattle.std.specs.Prelude.{◌≡◌, ◌&&◌, ◌∷◌, ◌++◌, ◌+◌, ◌≤◌}
+use Rattle.kit.specs.Names.{refl, ap, ap₂, ◌∙◌, Bool, true, false, cond, List, [], none, ℕ, suc, arith}
 use Rattle.kit.specs.Names.{length}
 use Rattle.definitions.specs.ContractFile.{me_name, Owner, everyone, owned_by, Operator, Expression, Statement, Scope, field_at, is_division}
 use Rattle.definitions.specs.Owners.{name_of, place_owner, is_public}

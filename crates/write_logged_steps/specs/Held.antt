@@ -1,5 +1,6 @@
 -- A log that holds numbers from a place on, and read events whose values can be written.
-use Rattle.kit.specs.Names.{◌≡◌, List, [], ◌∷◌, ◌++◌, ℕ, ◌+◌, ◌≤◌, length}
+use Rattle.std.specs.Prelude.{◌≡◌, ◌∷◌, ◌++◌, ◌+◌, ◌≤◌}
+use Rattle.kit.specs.Names.{List, [], ℕ, length}
 use Rattle.definitions.specs.ContractFile.{Scope, Node}
 use Rattle.rewrite_events.specs.Events.{Event, supplied_event, claimed_event, read_event, guard_event, end_event}
 use Rattle.rewrite_log.specs.Entries.{Entries}

@@ -1,5 +1,6 @@
 -- The node that sets a variable above its value, and a node above three children.
-use Rattle.kit.specs.Names.{◌≡◌, ap, sym, ◌∙◌, List, ◌++◌, ℕ, ◌+◌, ◌*◌, ◌-◌, ◌≤◌, arith, length, length-append}
+use Rattle.std.specs.Prelude.{◌≡◌, ◌++◌, ◌+◌, ◌*◌, ◌-◌, ◌≤◌}
+use Rattle.kit.specs.Names.{ap, sym, ◌∙◌, List, ℕ, arith, length, length-append}
 use Rattle.definitions.specs.ContractFile.{node}
 use Rattle.definitions.specs.Rewriting.{Tree, three_children, setting, size, node_bytes}
 use Rattle.memory_buffer.specs.Buffer.{stored}

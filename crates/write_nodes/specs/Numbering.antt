@@ -1,5 +1,6 @@
 -- The nodes of a tree in a lent buffer, numbered from a first number on.
-use Rattle.kit.specs.Names.{◌≡◌, List, ℕ, ◌+◌, ◌*◌, ◌≤◌, length}
+use Rattle.std.specs.Prelude.{◌≡◌, ◌+◌, ◌*◌, ◌≤◌}
+use Rattle.kit.specs.Names.{List, ℕ, length}
 use Rattle.definitions.specs.Basics.{flat_map}
 use Rattle.definitions.specs.Rewriting.{Tree, size, numbered, node_bytes}
 use Rattle.memory_buffer.specs.Buffer.{stored}

@@ -1,7 +1,8 @@
 // 01, The contract file: nodes of eight bytes appended to a lent buffer.
 #![tactic(auto)]
 
-ghost use Rattle.kit.specs.Names.{◌≡◌, ◌+◌, ◌*◌, ◌-◌, ◌≤◌, length};
+ghost use Rattle.std.specs.Prelude.{◌≡◌, ◌+◌, ◌*◌, ◌-◌, ◌≤◌};
+ghost use Rattle.kit.specs.Names.{length};
 ghost use Rattle.definitions.specs.ContractFile.{node};
 ghost use Rattle.definitions.specs.Rewriting.{node_bytes};
 ghost use Rattle.memory_buffer.specs.Buffer.{stored};

@@ -1,5 +1,6 @@
 -- The answers of writing: 1 to 15 of a refused file, 16 where the output is too short, and the written file.
-use Rattle.kit.specs.Names.{◌≡◌, refl, ap, sym, ◌∙◌, Bool, true, false, cond, List, [], ◌++◌, ℕ, zero, suc, ◌+◌, ◌<◌, ◌≤◌, arith, eqb, ltb}
+use Rattle.std.specs.Prelude.{◌≡◌, ◌++◌, ◌+◌, ◌<◌, ◌≤◌}
+use Rattle.kit.specs.Names.{refl, ap, sym, ◌∙◌, Bool, true, false, cond, List, [], ℕ, zero, suc, arith, eqb, ltb}
 use Rattle.kit.specs.Names.{length, drop, length-append, lt-ltb, le-ltb, ne_eqb}
 use Rattle.definitions.specs.Basics.{two_bytes, first_that_holds}
 use Rattle.definitions.specs.Numbers.{check_number}

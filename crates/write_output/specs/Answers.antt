@@ -1,5 +1,6 @@
 -- 01, Numbers: what an accepted file's answer is, and what the lent output holds then.
-use Rattle.kit.specs.Names.{◌≡◌, cond, List, [], ◌∷◌, ◌++◌, ℕ, ltb, length, drop}
+use Rattle.std.specs.Prelude.{◌≡◌, ◌∷◌, ◌++◌}
+use Rattle.kit.specs.Names.{cond, List, [], ℕ, ltb, length, drop}
 use Rattle.definitions.specs.Basics.{first_that_holds}
 use Rattle.definitions.specs.Crossings.{sixteen, crossings_after_writing}
 use Rattle.definitions.specs.Rewriting.{write_number, written_length, output_after_writing}

@@ -1,7 +1,8 @@
 // "16. The lent output is too short": the written file handed out where it fits.
 #![tactic(auto)]
 
-ghost use Rattle.kit.specs.Names.{◌≡◌, ◌++◌, ◌≤◌, length};
+ghost use Rattle.std.specs.Prelude.{◌≡◌, ◌++◌, ◌≤◌};
+ghost use Rattle.kit.specs.Names.{length};
 ghost use Rattle.definitions.specs.Basics.{two_bytes};
 ghost use Rattle.write_output.specs.Answers.{HandedOut, CountsOut};
 

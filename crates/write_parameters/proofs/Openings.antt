@@ -1,5 +1,6 @@
 -- What opening the private parameters makes, variable by variable, and that the definitions make the same.
-use Rattle.kit.specs.Names.{◌≡◌, refl, ap, sym, ◌∙◌, List, [], ◌∷◌, ◌++◌, ℕ, suc, ◌+◌, ◌-◌, ◌<◌, ◌≤◌, arith, add-one, length}
+use Rattle.std.specs.Prelude.{◌≡◌, ◌∷◌, ◌++◌, ◌+◌, ◌-◌, ◌<◌, ◌≤◌}
+use Rattle.kit.specs.Names.{refl, ap, sym, ◌∙◌, List, [], ℕ, suc, arith, add-one, length}
 use Rattle.definitions.specs.Basics.{flat_map, two_bytes}
 use Rattle.definitions.specs.Rewriting.{always, Constraint, openings, held_under, sizes, variable_bytes, key_of, constraint_bytes}
 use Rattle.memory_append.specs.Append.{Appended, Appending}

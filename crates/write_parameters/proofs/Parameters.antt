@@ -1,6 +1,7 @@
 -- A file's parameters, one after another, and which of them are private.
-use Rattle.kit.specs.Names.{◌≡◌, refl, ap, sym, ◌∙◌, subst, Bool, true, false, not, cond, List, [], ◌∷◌, ◌++◌, map, ℕ, suc, ◌+◌, ◌-◌, ◌<◌}
-use Rattle.kit.specs.Names.{◌≤◌, arith, eqb, length, eq-eqb, ne_eqb}
+use Rattle.std.specs.Prelude.{◌≡◌, ◌∷◌, ◌++◌, ◌+◌, ◌-◌, ◌<◌, ◌≤◌}
+use Rattle.kit.specs.Names.{refl, ap, sym, ◌∙◌, subst, Bool, true, false, not, cond, List, [], map, ℕ, suc}
+use Rattle.kit.specs.Names.{arith, eqb, length, eq-eqb, ne_eqb}
 use Rattle.definitions.specs.Basics.{flat_map}
 use Rattle.definitions.specs.ContractFile.{Parameter, data_type_code, byte_at, data_type_of, ParameterRecord, parameter_records, parameter_of}
 use Rattle.definitions.specs.Reading.{parameters_read}

@@ -1,5 +1,6 @@
 -- 01, Rewriting: the written parameters of a function, and what reading its private ones first makes.
-use Rattle.kit.specs.Names.{not, cond, List, [], ◌∷◌, ◌++◌, map, ℕ, zero, suc, eqb, length}
+use Rattle.std.specs.Prelude.{◌∷◌, ◌++◌}
+use Rattle.kit.specs.Names.{not, cond, List, [], map, ℕ, zero, suc, eqb, length}
 use Rattle.definitions.specs.Basics.{flat_map, two_bytes}
 use Rattle.definitions.specs.ContractFile.{ParameterRecord, parameter_records, parameter_of}
 use Rattle.definitions.specs.Rewriting.{private_parameters, parameter_bytes}

@@ -1,7 +1,8 @@
 // 01, Rewriting: a function's parameters as they are written, and the reads that open its private ones.
 #![tactic(auto)]
 
-ghost use Rattle.kit.specs.Names.{◌≡◌, ◌++◌, ◌+◌, ◌*◌, ◌≤◌, length};
+ghost use Rattle.std.specs.Prelude.{◌≡◌, ◌++◌, ◌+◌, ◌*◌, ◌≤◌};
+ghost use Rattle.kit.specs.Names.{length};
 ghost use Rattle.definitions.specs.Basics.{two_bytes};
 ghost use Rattle.definitions.specs.ContractFile.{data_type_code, data_type_of, parameter_of};
 ghost use Rattle.definitions.specs.Rewriting.{parameter_bytes};

@@ -1,5 +1,6 @@
 -- Function by function, headings and nodes come to stand in their buffers; with the fields before them they are the written file.
-use Rattle.kit.specs.Names.{◌≡◌, ap, sym, ◌∙◌, List, [], ◌∷◌, ◌++◌, map, map-append, append_assoc, ℕ, suc, ◌+◌, ◌*◌, ◌<◌, ◌≤◌, arith}
+use Rattle.std.specs.Prelude.{◌≡◌, ◌∷◌, ◌++◌, ◌+◌, ◌*◌, ◌<◌, ◌≤◌}
+use Rattle.kit.specs.Names.{ap, sym, ◌∙◌, List, [], map, map-append, append_assoc, ℕ, suc, arith}
 use Rattle.kit.specs.Names.{add-one, length, set, take, length-append, length-map, length-take-le, take_all}
 use Rattle.definitions.specs.Basics.{flat_map, two_bytes}
 use Rattle.definitions.specs.ContractFile.{field_count, function_count, functions_at, function_end, contract_in}

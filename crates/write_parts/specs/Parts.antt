@@ -1,5 +1,6 @@
 -- 01, Rewriting: the written file in two buffers: fields and functions' headings, and nodes.
-use Rattle.kit.specs.Names.{◌≡◌, List, ◌∷◌, ◌++◌, map, ℕ, ◌+◌, ◌*◌, ◌≤◌, length, take}
+use Rattle.std.specs.Prelude.{◌≡◌, ◌∷◌, ◌++◌, ◌+◌, ◌*◌, ◌≤◌}
+use Rattle.kit.specs.Names.{List, map, ℕ, length, take}
 use Rattle.definitions.specs.Basics.{flat_map}
 use Rattle.definitions.specs.ContractFile.{field_count, function_count, node_count}
 use Rattle.definitions.specs.Numbers.{check_number}

@@ -1,7 +1,8 @@
 // A variable read in a circuit: as it stands where it is plain, opened where it is a cell.
 #![tactic(auto)]
 
-ghost use Rattle.kit.specs.Names.{◌≡◌, ◌+◌, ◌≤◌, length};
+ghost use Rattle.std.specs.Prelude.{◌≡◌, ◌+◌, ◌≤◌};
+ghost use Rattle.kit.specs.Names.{length};
 ghost use Rattle.definitions.specs.ContractFile.{node};
 ghost use Rattle.definitions.specs.Rewriting.{node_bytes};
 ghost use Rattle.memory_buffer.specs.Buffer.{stored};

@@ -1,5 +1,6 @@
 -- What an accepted file's counts, roots and children are: numbers 2, 4 and 5 hold nowhere.
-use Rattle.kit.specs.Names.{◌≡◌, refl, ap, ◌∙◌, Bool, false, ◌||◌, not, List, [], ◌∷◌, ◌++◌, map, ℕ, zero, suc, ◌+◌, ◌*◌, ◌≤◌, ◌<◌, arith}
+use Rattle.std.specs.Prelude.{◌≡◌, ◌||◌, ◌∷◌, ◌++◌, ◌+◌, ◌*◌, ◌≤◌, ◌<◌}
+use Rattle.kit.specs.Names.{refl, ap, ◌∙◌, Bool, false, not, List, [], map, ℕ, zero, suc, arith}
 use Rattle.kit.specs.Names.{eqb, leb, ltb, length, length-map, ltb-false, leb-false, not-false, eqb-true}
 use Rattle.definitions.specs.Basics.{any, any_numbered, count_if, flat_map, is_zero}
 use Rattle.definitions.specs.ContractFile.{FunctionRecord, NodeRecord, Sections, byte_at, field_count, functions_at, function_count, function_end, functions_end, node_count, nodes_at, file_end, parameter_records, function_records, node_records, sections_of, field_of, parameter_of, Node, node_of, children, fields_named, function_of, contract_of}

@@ -1,5 +1,6 @@
 -- Where every node is used once, the trees of the roots have together no more nodes than there are.
-use Rattle.kit.specs.Names.{◌≡◌, refl, ap, ◌∙◌, Bool, true, false, cond, List, [], ◌∷◌, ◌++◌, append-nil, ℕ, zero, suc, ◌+◌, ◌*◌, ◌≤◌, ◌<◌}
+use Rattle.std.specs.Prelude.{◌≡◌, ◌∷◌, ◌++◌, ◌+◌, ◌*◌, ◌≤◌, ◌<◌}
+use Rattle.kit.specs.Names.{refl, ap, ◌∙◌, Bool, true, false, cond, List, [], append-nil, ℕ, zero, suc}
 use Rattle.kit.specs.Names.{max, arith, zero-mul, one-mul, add-mul, eqb, ltb, length, take, take-suc, take-length, eqb-true, eqb-false}
 use Rattle.kit.specs.Names.{ltb-true}
 use Rattle.definitions.specs.Basics.{all, count_if, flat_map}

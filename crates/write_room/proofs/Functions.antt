@@ -1,5 +1,6 @@
 -- The bytes of written functions and of a written contract, from the sizes of the bodies that were rewritten.
-use Rattle.kit.specs.Names.{◌≡◌, refl, ap, Bool, true, false, cond, List, [], ◌∷◌, ◌++◌, map, ℕ, suc, ◌+◌, ◌*◌, ◌-◌, ◌≤◌, arith, eqb}
+use Rattle.std.specs.Prelude.{◌≡◌, ◌∷◌, ◌++◌, ◌+◌, ◌*◌, ◌-◌, ◌≤◌}
+use Rattle.kit.specs.Names.{refl, ap, Bool, true, false, cond, List, [], map, ℕ, suc, arith, eqb}
 use Rattle.kit.specs.Names.{length, length-append}
 use Rattle.definitions.specs.Basics.{any, flat_map, two_bytes}
 use Rattle.definitions.specs.ContractFile.{everyone, owned_by, Field, Parameter, Function, Contract, Scope, data_type_code}

@@ -1,5 +1,6 @@
 -- What rewriting makes of an expression or a statement takes at most 64 bytes for each of its nodes.
-use Rattle.kit.specs.Names.{◌≡◌, refl, Bool, true, false, ◌&&◌, cond, List, [], ◌∷◌, ◌++◌, none, ℕ, suc, ◌+◌, ◌*◌, ◌≤◌, arith, length}
+use Rattle.std.specs.Prelude.{◌≡◌, ◌&&◌, ◌∷◌, ◌++◌, ◌+◌, ◌*◌, ◌≤◌}
+use Rattle.kit.specs.Names.{refl, Bool, true, false, cond, List, [], none, ℕ, suc, arith, length}
 use Rattle.kit.specs.Names.{length-append}
 use Rattle.definitions.specs.ContractFile.{me_name, Owner, everyone, owned_by, Expression, Statement, Scope, field_at, is_division}
 use Rattle.definitions.specs.Owners.{name_of, place_owner, is_public, owner_of}

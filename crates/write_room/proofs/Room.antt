@@ -1,5 +1,6 @@
 -- 01, Numbers, 16: "49,152 bytes always suffice."
-use Rattle.kit.specs.Names.{◌≡◌, refl, ap, cond, List, [], ◌∷◌, map, ℕ, zero, suc, ◌+◌, ◌*◌, ◌≤◌, arith, ltb, length, length-map, le-ltb}
+use Rattle.std.specs.Prelude.{◌≡◌, ◌∷◌, ◌+◌, ◌*◌, ◌≤◌}
+use Rattle.kit.specs.Names.{refl, ap, cond, List, [], map, ℕ, zero, suc, arith, ltb, length, length-map, le-ltb}
 use Rattle.definitions.specs.Basics.{first_that_holds}
 use Rattle.definitions.specs.ContractFile.{FunctionRecord, node_count, sections_of, field_of, Node, node_of, function_of, contract_of}
 use Rattle.definitions.specs.Numbers.{check_number, or_else}

@@ -1,5 +1,6 @@
 -- Sums over lists of numbers, and lists without one number.
-use Rattle.kit.specs.Names.{cond, List, [], ◌∷◌, ℕ, ◌+◌, ◌<◌, eqb}
+use Rattle.std.specs.Prelude.{◌∷◌, ◌+◌, ◌<◌}
+use Rattle.kit.specs.Names.{cond, List, [], ℕ, eqb}
 
 unfoldable pub sum_of : (ℕ → ℕ) → List ℕ → ℕ
 sum_of f [] = 0

@@ -1,5 +1,6 @@
 -- How many bytes a file's parts are ever written in; a room that is never too short for them.
-use Rattle.kit.specs.Names.{◌≡◌, List, ℕ, ◌+◌, ◌*◌, ◌≤◌, length}
+use Rattle.std.specs.Prelude.{◌≡◌, ◌+◌, ◌*◌, ◌≤◌}
+use Rattle.kit.specs.Names.{List, ℕ, length}
 use Rattle.definitions.specs.ContractFile.{field_count, function_count, node_count, sections_of, contract_of}
 use Rattle.definitions.specs.Numbers.{check_number}
 use Rattle.definitions.specs.Rewriting.{written_file}

@@ -1,5 +1,6 @@
 -- How many nodes the bodies of the original have, and how many bytes the parts of a rewritten function take.
-use Rattle.kit.specs.Names.{List, [], ◌∷◌, ℕ, ◌+◌, ◌*◌, length}
+use Rattle.std.specs.Prelude.{◌∷◌, ◌+◌, ◌*◌}
+use Rattle.kit.specs.Names.{List, [], ℕ, length}
 use Rattle.definitions.specs.ContractFile.{Function}
 use Rattle.definitions.specs.Rewriting.{BodyExpression, Circuit, Command, Claim, equals, opens_for_caller, Constraint, Step, Piece, Passage}
 use Rattle.definitions.specs.Rewriting.{size, body_tree, circuit_tree, command_tree}

@@ -1,5 +1,6 @@
 -- The form and the count of a node's statement, by the kind of its record and what code has found out about it.
-use Rattle.kit.specs.Names.{◌≡◌, ap, sym, ◌∙◌, Bool, List, none, ℕ, ◌+◌, ◌<◌}
+use Rattle.std.specs.Prelude.{◌≡◌, ◌+◌, ◌<◌}
+use Rattle.kit.specs.Names.{ap, sym, ◌∙◌, Bool, List, none, ℕ}
 use Rattle.definitions.specs.ContractFile.{NodeRecord, node_count}
 use Rattle.definitions.specs.Rewriting.{Tree, one_child, two_children}
 use Rattle.theory_trees.specs.Trees.{expression_in, statement_in}

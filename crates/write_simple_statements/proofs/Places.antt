@@ -1,5 +1,6 @@
 -- The form and the count of a value put into a place.
-use Rattle.kit.specs.Names.{◌≡◌, refl, ap, sym, ◌∙◌, Bool, true, false, ◌&&◌, cond, not, List, Option, none, some, ℕ, suc, ◌+◌, arith}
+use Rattle.std.specs.Prelude.{◌≡◌, ◌&&◌, ◌+◌}
+use Rattle.kit.specs.Names.{refl, ap, sym, ◌∙◌, Bool, true, false, cond, not, List, Option, none, some, ℕ, suc, arith}
 use Rattle.kit.specs.Names.{add-one, eqb, length, ne_eqb}
 use Rattle.definitions.specs.ContractFile.{Name, Owner, everyone, owned_by, FieldOwner, to_everyone, to_key, to_final, Expression, Scope, field_at, is_everyone, field_owner_code}
 use Rattle.definitions.specs.Owners.{is_public, place_owner, owner_of}

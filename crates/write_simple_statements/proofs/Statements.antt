@@ -1,5 +1,6 @@
 -- The form and the count of a statement that holds no other, by what it is.
-use Rattle.kit.specs.Names.{◌≡◌, refl, ap, ap₂, ◌∙◌, Bool, not, none, ℕ, ◌+◌, length, length-append}
+use Rattle.std.specs.Prelude.{◌≡◌, ◌+◌}
+use Rattle.kit.specs.Names.{refl, ap, ap₂, ◌∙◌, Bool, not, none, ℕ, length, length-append}
 use Rattle.definitions.specs.ContractFile.{Expression, Statement, Scope, field_at, is_everyone}
 use Rattle.definitions.specs.Owners.{name_of, place_owner, owner_of}
 use Rattle.definitions.specs.Rewriting.{kept, one_part, two_parts, in_body, in_place, leaf, one_child, two_children, body_tree, command_tree}

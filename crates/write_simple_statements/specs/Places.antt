@@ -1,5 +1,6 @@
 -- What a value put into a place becomes: it matters whether the place is private, and not whose it is.
-use Rattle.kit.specs.Names.{◌≡◌, Bool, ◌&&◌, cond, not, List, Option, ℕ, ◌+◌}
+use Rattle.std.specs.Prelude.{◌≡◌, ◌&&◌, ◌+◌}
+use Rattle.kit.specs.Names.{Bool, cond, not, List, Option, ℕ}
 use Rattle.definitions.specs.ContractFile.{Name, Expression, Scope, field_at, is_everyone}
 use Rattle.definitions.specs.Owners.{is_public, place_owner}
 use Rattle.definitions.specs.Rewriting.{Tree, leaf}

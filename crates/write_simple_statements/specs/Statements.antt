@@ -1,5 +1,6 @@
 -- The form of a statement that holds no other statement, without the steps before it.
-use Rattle.kit.specs.Names.{not, none, ℕ, ◌+◌}
+use Rattle.std.specs.Prelude.{◌+◌}
+use Rattle.kit.specs.Names.{not, none, ℕ}
 use Rattle.definitions.specs.ContractFile.{Statement, Scope, field_at, is_everyone}
 use Rattle.definitions.specs.Owners.{name_of, place_owner, owner_of}
 use Rattle.definitions.specs.Rewriting.{Command, Generator, kept, one_part, two_parts, in_body, in_place, Tree, command_tree}

@@ -1,7 +1,7 @@
 // 01, Rewriting: the nodes of a statement that holds no other, without the steps before it.
 #![tactic(auto)]
 
-ghost use Rattle.kit.specs.Names.{◌≡◌, ◌+◌, ◌<◌, ◌≤◌};
+ghost use Rattle.std.specs.Prelude.{◌≡◌, ◌+◌, ◌<◌, ◌≤◌};
 ghost use Rattle.definitions.specs.ContractFile.{node_count};
 ghost use Rattle.theory_trees.specs.Trees.{expression_in, statement_in};
 ghost use Rattle.file_accepted.specs.Context.{Context, nodes_in, scope_in};

@@ -1,5 +1,6 @@
 -- What is written of a statement that holds no other is the tree of its rewritten command.
-use Rattle.kit.specs.Names.{◌≡◌, refl, ap, sym, ◌∙◌, true, false≢true, List, none, ℕ, length}
+use Rattle.std.specs.Prelude.{◌≡◌}
+use Rattle.kit.specs.Names.{refl, ap, sym, ◌∙◌, true, false≢true, List, none, ℕ, length}
 use Rattle.definitions.specs.ContractFile.{Statement, Scope, field_at}
 use Rattle.definitions.specs.Owners.{name_of, place_owner, owner_of}
 use Rattle.definitions.specs.Rewriting.{Command, Guard, Step, single, steps_before, in_body, in_place, rewrite_statement, command_tree}

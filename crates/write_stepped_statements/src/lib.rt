@@ -1,7 +1,8 @@
 // 01, Rewriting: one statement that holds no other, written with the steps before it.
 #![tactic(auto)]
 
-ghost use Rattle.kit.specs.Names.{◌+◌, ◌<◌, ◌≤◌, length};
+ghost use Rattle.std.specs.Prelude.{◌+◌, ◌<◌, ◌≤◌};
+ghost use Rattle.kit.specs.Names.{length};
 ghost use Rattle.definitions.specs.ContractFile.{node_count};
 ghost use Rattle.theory_trees.specs.Trees.{statement_in};
 ghost use Rattle.file_accepted.specs.Context.{Context, nodes_in, scope_in};

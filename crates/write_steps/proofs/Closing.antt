@@ -1,5 +1,6 @@
 -- The sequences of steps, one after another from the last step on.
-use Rattle.kit.specs.Names.{◌≡◌, refl, ap, sym, ◌∙◌, List, ◌∷◌, ℕ, suc, ◌+◌, ◌*◌, ◌-◌, ◌<◌, ◌≤◌, arith, length, get_or, take, take-suc}
+use Rattle.std.specs.Prelude.{◌≡◌, ◌∷◌, ◌+◌, ◌*◌, ◌-◌, ◌<◌, ◌≤◌}
+use Rattle.kit.specs.Names.{refl, ap, sym, ◌∙◌, List, ℕ, suc, arith, length, get_or, take, take-suc}
 use Rattle.definitions.specs.Basics.{flat_map}
 use Rattle.definitions.specs.ContractFile.{NodeRecord, node}
 use Rattle.definitions.specs.Rewriting.{node_bytes}

@@ -1,5 +1,6 @@
 -- The steps of a log's entries, one entry after another.
-use Rattle.kit.specs.Names.{◌≡◌, refl, List, [], ◌∷◌, ℕ, zero, suc, ◌+◌, ◌*◌, ◌-◌, ◌<◌, ◌≤◌, arith, get_or, eq-eqb, ne_eqb}
+use Rattle.std.specs.Prelude.{◌≡◌, ◌∷◌, ◌+◌, ◌*◌, ◌-◌, ◌<◌, ◌≤◌}
+use Rattle.kit.specs.Names.{refl, List, [], ℕ, zero, suc, arith, get_or, eq-eqb, ne_eqb}
 use Rattle.definitions.specs.ContractFile.{Scope, node_count, Node}
 use Rattle.theory_trees.specs.Trees.{expression_in}
 use Rattle.file_accepted.specs.Context.{nodes_in, scope_in}

@@ -1,5 +1,6 @@
 -- Steps before a rest: room for each of the three runs, and the runs together.
-use Rattle.kit.specs.Names.{◌≡◌, refl, ap, ap₂, sym, ◌∙◌, List, ◌++◌, append_assoc, ℕ, ◌+◌, ◌*◌, ◌-◌, ◌≤◌, arith, length, take, drop}
+use Rattle.std.specs.Prelude.{◌≡◌, ◌++◌, ◌+◌, ◌*◌, ◌-◌, ◌≤◌}
+use Rattle.kit.specs.Names.{refl, ap, ap₂, sym, ◌∙◌, List, append_assoc, ℕ, arith, length, take, drop}
 use Rattle.kit.specs.Names.{length-append, take_at}
 use Rattle.definitions.specs.Basics.{flat_map}
 use Rattle.definitions.specs.Rewriting.{Command, Step, steps_before, size, sizes, numbered, numbered_all, node_bytes, command_tree}

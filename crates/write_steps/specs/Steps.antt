@@ -1,6 +1,7 @@
 -- 01, Rewriting: "Steps nest rightwards: (step, rest)".
 -- The nodes of the steps, then those of the rest, then a sequence for each step, the last one's first.
-use Rattle.kit.specs.Names.{◌≡◌, Bool, cond, List, [], ◌∷◌, ◌++◌, map, ℕ, zero, suc, ◌+◌, ◌*◌, ◌-◌, ◌<◌, ◌≤◌, eqb, length, get_or}
+use Rattle.std.specs.Prelude.{◌≡◌, ◌∷◌, ◌++◌, ◌+◌, ◌*◌, ◌-◌, ◌<◌, ◌≤◌}
+use Rattle.kit.specs.Names.{Bool, cond, List, [], map, ℕ, zero, suc, eqb, length, get_or}
 use Rattle.definitions.specs.Basics.{flat_map}
 use Rattle.definitions.specs.ContractFile.{Scope, NodeRecord, node_count, node, Node}
 use Rattle.definitions.specs.Owners.{owner_of}

@@ -1,7 +1,8 @@
 // 01, Rewriting: steps that set read variables, and the sequences that nest them before a rest.
 #![tactic(auto)]
 
-ghost use Rattle.kit.specs.Names.{◌≡◌, ◌+◌, ◌*◌, ◌<◌, ◌≤◌, length, take};
+ghost use Rattle.std.specs.Prelude.{◌≡◌, ◌+◌, ◌*◌, ◌<◌, ◌≤◌};
+ghost use Rattle.kit.specs.Names.{length, take};
 ghost use Rattle.definitions.specs.Basics.{flat_map};
 ghost use Rattle.definitions.specs.ContractFile.{node_count};
 ghost use Rattle.definitions.specs.Rewriting.{setting, node_bytes};

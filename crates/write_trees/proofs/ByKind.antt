@@ -1,5 +1,6 @@
 -- What a node's number stands for as a body, a circuit or a command, by the node's kind, and that its children's numbers are below it.
-use Rattle.kit.specs.Names.{◌≡◌, refl, ap, ◌∙◌, Bool, true, false, ◌||◌, cond, List, ℕ, ◌+◌, ◌*◌, ◌<◌, eqb, ne_eqb}
+use Rattle.std.specs.Prelude.{◌≡◌, ◌||◌, ◌+◌, ◌*◌, ◌<◌}
+use Rattle.kit.specs.Names.{refl, ap, ◌∙◌, Bool, true, false, cond, List, ℕ, eqb, ne_eqb}
 use Rattle.definitions.specs.ContractFile.{NodeRecord, data_type_of, operator_of}
 use Rattle.definitions.specs.Rewriting.{BodyExpression, Circuit, Command, Tree}
 use Rattle.write_trees.specs.Trees.{Form, leaf_form, one_form, two_form, three_form, setting_form, form_of, record_at, tree_of, tree_in, FallsBy, Falling, body_of, circuit_of, command_of, body_in, circuit_in, command_in}

@@ -1,5 +1,6 @@
 -- In the nodes that `numbered` gives each child's number is below its parent's.
-use Rattle.kit.specs.Names.{◌≡◌, refl, List, [], ◌∷◌, ◌++◌, ℕ, zero, suc, ◌+◌, ◌-◌, arith, add-zero, zero-add, length, length-append}
+use Rattle.std.specs.Prelude.{◌≡◌, ◌∷◌, ◌++◌, ◌+◌, ◌-◌}
+use Rattle.kit.specs.Names.{refl, List, [], ℕ, zero, suc, arith, add-zero, zero-add, length, length-append}
 use Rattle.definitions.specs.ContractFile.{NodeRecord, node}
 use Rattle.definitions.specs.Rewriting.{Tree, leaf, one_child, two_children, three_children, setting, size, numbered, numbered_all}
 use Rattle.write_trees.specs.Trees.{Form, leaf_form, one_form, two_form, three_form, setting_form, form_of, record_at, FallsBy, Falls, Falling, FallingFrom}

@@ -1,5 +1,6 @@
 -- A function's body reads back at the root that the written file gives, behind the nodes of the function's circuits.
-use Rattle.kit.specs.Names.{◌≡◌, refl, ap, sym, ◌∙◌, List, [], ◌∷◌, ◌++◌, append_assoc, append-nil, ℕ, suc, ◌+◌, ◌-◌, arith, add-zero}
+use Rattle.std.specs.Prelude.{◌≡◌, ◌∷◌, ◌++◌, ◌+◌, ◌-◌}
+use Rattle.kit.specs.Names.{refl, ap, sym, ◌∙◌, List, [], append_assoc, append-nil, ℕ, suc, arith, add-zero}
 use Rattle.kit.specs.Names.{add_assoc, length, length-append}
 use Rattle.definitions.specs.Basics.{flat_map}
 use Rattle.definitions.specs.ContractFile.{NodeRecord}

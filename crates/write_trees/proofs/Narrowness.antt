@@ -1,5 +1,6 @@
 -- The nodes of a numbered tree fit the bytes that they are written to, where the tree's own numbers and its nodes' numbers do.
-use Rattle.kit.specs.Names.{List, [], ◌∷◌, ◌++◌, ℕ, ◌+◌, ◌-◌, ◌<◌, ◌≤◌, arith}
+use Rattle.std.specs.Prelude.{◌∷◌, ◌++◌, ◌+◌, ◌-◌, ◌<◌, ◌≤◌}
+use Rattle.kit.specs.Names.{List, [], ℕ, arith}
 use Rattle.definitions.specs.ContractFile.{NodeRecord, node}
 use Rattle.definitions.specs.Rewriting.{Tree, leaf, one_child, two_children, three_children, setting, size, numbered, sizes, numbered_all}
 use Rattle.write_trees.proofs.Tables.{AllNarrow, none, more}

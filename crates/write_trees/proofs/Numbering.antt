@@ -1,5 +1,6 @@
 -- The nodes that `numbered` gives, standing anywhere in a table, read back as their tree, and their children's numbers fall.
-use Rattle.kit.specs.Names.{◌≡◌, refl, ap, ap₂, ◌∙◌, List, [], ◌∷◌, ◌++◌, append_assoc, ℕ, zero, suc, ◌+◌, ◌-◌, ◌≤◌, ◌<◌, arith, length}
+use Rattle.std.specs.Prelude.{◌≡◌, ◌∷◌, ◌++◌, ◌+◌, ◌-◌, ◌≤◌, ◌<◌}
+use Rattle.kit.specs.Names.{refl, ap, ap₂, ◌∙◌, List, [], append_assoc, ℕ, zero, suc, arith, length}
 use Rattle.kit.specs.Names.{length-append, get_or_at}
 use Rattle.definitions.specs.ContractFile.{NodeRecord, node}
 use Rattle.definitions.specs.Rewriting.{Tree, leaf, one_child, two_children, three_children, setting, size, numbered}

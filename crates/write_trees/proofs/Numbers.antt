@@ -1,5 +1,6 @@
 -- Four numbers for each constraint.
-use Rattle.kit.specs.Names.{◌≡◌, refl, List, [], ◌∷◌, ℕ, ◌+◌, ◌*◌, arith, length, length-append}
+use Rattle.std.specs.Prelude.{◌≡◌, ◌∷◌, ◌+◌, ◌*◌}
+use Rattle.kit.specs.Names.{refl, List, [], ℕ, arith, length, length-append}
 use Rattle.definitions.specs.Rewriting.{Claim, equals, opens_for_caller, Constraint, sizes, claim_trees, guard_number}
 use Rattle.write_trees.specs.Numbers.{claim_numbers, constraint_numbers}
 

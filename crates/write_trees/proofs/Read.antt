@@ -1,5 +1,6 @@
 -- A node as code has read it is the table's.
-use Rattle.kit.specs.Names.{◌≡◌, sym, ◌∙◌, List, ℕ, ◌*◌, ◌<◌}
+use Rattle.std.specs.Prelude.{◌≡◌, ◌*◌, ◌<◌}
+use Rattle.kit.specs.Names.{sym, ◌∙◌, List, ℕ}
 use Rattle.definitions.specs.ContractFile.{node_record}
 use Rattle.file_bytes.specs.Node.{IsNode, record_of}
 use Rattle.file_bytes.specs.declared.Node.{Node}

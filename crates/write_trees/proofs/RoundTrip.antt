@@ -1,5 +1,6 @@
 -- The written trees of bodies, circuits and commands have the forms of their kinds, and say what they were written for.
-use Rattle.kit.specs.Names.{◌≡◌, refl, ap, ap₂, ◌∙◌, List, [], ◌∷◌, ◌++◌, ℕ, suc, ◌+◌, ◌*◌, ◌-◌, ◌/◌, ◌%◌, ◌≤◌, arith, length}
+use Rattle.std.specs.Prelude.{◌≡◌, ◌∷◌, ◌++◌, ◌+◌, ◌*◌, ◌-◌, ◌/◌, ◌%◌, ◌≤◌}
+use Rattle.kit.specs.Names.{refl, ap, ap₂, ◌∙◌, List, [], ℕ, suc, arith, length}
 use Rattle.definitions.specs.Basics.{flat_map}
 use Rattle.definitions.specs.ContractFile.{DataType, boolean, uint, address, Operator, plus, minus, times, divide, remainder, less, less_or_equal, equal, unequal, conjunction, disjunction, operator_code, data_type_code, NodeRecord, data_type_of, operator_of}
 use Rattle.definitions.specs.Rewriting.{BodyExpression, Circuit, Command, Claim, equals, opens_for_caller, Constraint, WrittenFunction, size, numbered, body_tree, circuit_tree, command_tree, claim_trees, function_trees}

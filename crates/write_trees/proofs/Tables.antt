@@ -1,5 +1,6 @@
 -- The node at a number of the table, and a table read back from the bytes that it was written to.
-use Rattle.kit.specs.Names.{◌≡◌, refl, ap, ap₂, sym, ◌∙◌, List, [], ◌∷◌, ◌++◌, append_assoc, append-nil, ℕ, ◌+◌, ◌*◌, ◌/◌, ◌%◌, ◌<◌, ◌≤◌}
+use Rattle.std.specs.Prelude.{◌≡◌, ◌∷◌, ◌++◌, ◌+◌, ◌*◌, ◌/◌, ◌%◌, ◌<◌, ◌≤◌}
+use Rattle.kit.specs.Names.{refl, ap, ap₂, sym, ◌∙◌, List, [], append_assoc, append-nil, ℕ}
 use Rattle.kit.specs.Names.{arith, zero-add, add-zero, length, get_or_eq_default, length-append, get_or-append-add}
 use Rattle.definitions.specs.Basics.{flat_map}
 use Rattle.definitions.specs.ContractFile.{NodeRecord, byte_at, two_bytes_at, node_record, node_records, node}

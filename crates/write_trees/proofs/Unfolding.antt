@@ -1,5 +1,6 @@
 -- The tree of a node unfolds into its children's trees: more levels than a node's number change nothing.
-use Rattle.kit.specs.Names.{◌≡◌, refl, ap, ap₂, List, ℕ, zero, suc, ◌<◌, arith}
+use Rattle.std.specs.Prelude.{◌≡◌, ◌<◌}
+use Rattle.kit.specs.Names.{refl, ap, ap₂, List, ℕ, zero, suc, arith}
 use Rattle.definitions.specs.ContractFile.{NodeRecord}
 use Rattle.definitions.specs.Rewriting.{Tree, one_child, two_children, three_children, setting}
 use Rattle.write_trees.specs.Trees.{Form, leaf_form, one_form, two_form, three_form, setting_form, form_of, record_at, tree_of, tree_at, tree_in, FallsBy, Falling}

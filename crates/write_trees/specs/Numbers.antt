@@ -1,5 +1,6 @@
 -- A function's constraints as flat numbers: guard, variable, owner code and root of each.
-use Rattle.kit.specs.Names.{List, [], ◌∷◌, ◌++◌, ℕ, ◌+◌, ◌-◌}
+use Rattle.std.specs.Prelude.{◌∷◌, ◌++◌, ◌+◌, ◌-◌}
+use Rattle.kit.specs.Names.{List, [], ℕ}
 use Rattle.definitions.specs.ContractFile.{owner_code}
 use Rattle.definitions.specs.Rewriting.{Claim, equals, opens_for_caller, Constraint, size, sizes, circuit_tree, claim_trees, guard_number}
 

@@ -1,5 +1,6 @@
 -- The bytes of written nodes, eight a node, as a table of nodes.
-use Rattle.kit.specs.Names.{List, ℕ, ◌/◌, ◌≤◌, length}
+use Rattle.std.specs.Prelude.{◌/◌, ◌≤◌}
+use Rattle.kit.specs.Names.{List, ℕ, length}
 use Rattle.definitions.specs.ContractFile.{NodeRecord, node_records}
 use Rattle.write_trees.specs.Trees.{Falling}
 

@@ -1,5 +1,6 @@
 -- A table of written nodes read back: a node's tree by its kind, and what a tree says as a body, a circuit or a command.
-use Rattle.kit.specs.Names.{◌||◌, cond, List, [], ◌∷◌, ℕ, zero, suc, ◌+◌, ◌*◌, ◌<◌, eqb, get_or}
+use Rattle.std.specs.Prelude.{◌||◌, ◌∷◌, ◌+◌, ◌*◌, ◌<◌}
+use Rattle.kit.specs.Names.{cond, List, [], ℕ, zero, suc, eqb, get_or}
 use Rattle.definitions.specs.ContractFile.{NodeRecord, data_type_of, operator_of, node}
 use Rattle.definitions.specs.Rewriting.{BodyExpression, Circuit, Command, Tree, leaf, one_child, two_children, three_children, setting}
 

@@ -1,5 +1,6 @@
 -- The counts are the lengths of the lists of variables that rewriting makes, whatever the number of the first variable is.
-use Rattle.kit.specs.Names.{◌≡◌, refl, ap, ap₂, ◌∙◌, Bool, true, false, ◌&&◌, cond, [], ◌∷◌, ℕ, suc, ◌+◌, length, length-append}
+use Rattle.std.specs.Prelude.{◌≡◌, ◌&&◌, ◌∷◌, ◌+◌}
+use Rattle.kit.specs.Names.{refl, ap, ap₂, ◌∙◌, Bool, true, false, cond, [], ℕ, suc, length, length-append}
 use Rattle.definitions.specs.ContractFile.{Owner, everyone, Operator, Expression, Scope, is_division}
 use Rattle.definitions.specs.Owners.{is_public, owner_of}
 use Rattle.definitions.specs.Rewriting.{BodyExpression, Circuit, read_from, Generator, kept, one_part, two_parts, supplying, reading, operator_in_circuit, in_body, in_circuit}

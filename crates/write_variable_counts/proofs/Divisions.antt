@@ -1,5 +1,6 @@
 -- The codes of / and % are 3 and 4.
-use Rattle.kit.specs.Names.{◌≡◌, refl, Bool, true, false, ◌&&◌, ℕ}
+use Rattle.std.specs.Prelude.{◌≡◌, ◌&&◌}
+use Rattle.kit.specs.Names.{refl, Bool, true, false, ℕ}
 use Rattle.definitions.specs.ContractFile.{Expression, Scope, is_division, operator_of}
 use Rattle.definitions.specs.Owners.{is_public}
 use Rattle.theory_laws.proofs.Codes.{other_operator}

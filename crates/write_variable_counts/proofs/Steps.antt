@@ -1,5 +1,6 @@
 -- The counts by an expression's kind, as code learns it.
-use Rattle.kit.specs.Names.{◌≡◌, true, false, ◌&&◌, ℕ, ◌+◌, add-one}
+use Rattle.std.specs.Prelude.{◌≡◌, ◌&&◌, ◌+◌}
+use Rattle.kit.specs.Names.{true, false, ℕ, add-one}
 use Rattle.definitions.specs.ContractFile.{DataType, Owner, Operator, Expression, Scope, is_division}
 use Rattle.definitions.specs.Owners.{is_public}
 use Rattle.write_variable_counts.specs.Counts.{body_count, circuit_count}

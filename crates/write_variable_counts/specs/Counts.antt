@@ -1,5 +1,6 @@
 -- How many variables rewriting an expression makes, in a body and in a circuit.
-use Rattle.kit.specs.Names.{Bool, ◌&&◌, cond, ℕ, suc, ◌+◌}
+use Rattle.std.specs.Prelude.{◌&&◌, ◌+◌}
+use Rattle.kit.specs.Names.{Bool, cond, ℕ, suc}
 use Rattle.definitions.specs.ContractFile.{Operator, Expression, Scope, is_division}
 use Rattle.definitions.specs.Owners.{is_public}
 

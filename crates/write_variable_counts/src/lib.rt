@@ -1,7 +1,7 @@
 // 01, Rewriting: how many variables the body's and the circuit's form of a node make.
 #![tactic(auto)]
 
-ghost use Rattle.kit.specs.Names.{◌≡◌, ◌&&◌, ◌<◌, ◌≤◌};
+ghost use Rattle.std.specs.Prelude.{◌≡◌, ◌&&◌, ◌<◌, ◌≤◌};
 ghost use Rattle.definitions.specs.ContractFile.{is_division, node_count, operator_of};
 ghost use Rattle.definitions.specs.Owners.{is_public};
 ghost use Rattle.theory_trees.specs.Trees.{expression_in};

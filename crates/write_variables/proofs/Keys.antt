@@ -1,5 +1,6 @@
 -- Codes each once by first use, with a table of those seen.
-use Rattle.kit.specs.Names.{◌≡◌, refl, ap, sym, ◌∙◌, subst, Bool, true, false, ◌||◌, cond, List, [], ◌∷◌, ◌++◌, ℕ, ◌+◌, ◌%◌, ◌<◌, ◌≤◌}
+use Rattle.std.specs.Prelude.{◌≡◌, ◌||◌, ◌∷◌, ◌++◌, ◌+◌, ◌%◌, ◌<◌, ◌≤◌}
+use Rattle.kit.specs.Names.{refl, ap, sym, ◌∙◌, subst, Bool, true, false, cond, List, [], ℕ}
 use Rattle.kit.specs.Names.{arith, eqb, length, get_or, set, drop, replicate, get_or-set_same, get_or-set_other, eqb-true, eqb-false, eq-eqb}
 use Rattle.kit.specs.Names.{ne_eqb}
 use Rattle.definitions.specs.Basics.{any}

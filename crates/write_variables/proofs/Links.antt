@@ -1,5 +1,6 @@
 -- What a log of events tells of a function's variables is what the definitions tell.
-use Rattle.kit.specs.Names.{◌≡◌, refl, ap, ap₂, ◌∙◌, Bool, false, cond, List, [], ◌∷◌, ◌++◌, ℕ, suc, ◌+◌, ◌%◌, ◌<◌, arith, mod-eq_of_lt}
+use Rattle.std.specs.Prelude.{◌≡◌, ◌∷◌, ◌++◌, ◌+◌, ◌%◌, ◌<◌}
+use Rattle.kit.specs.Names.{refl, ap, ap₂, ◌∙◌, Bool, false, cond, List, [], ℕ, suc, arith, mod-eq_of_lt}
 use Rattle.kit.specs.Names.{eqb, leb, length, ne_eqb}
 use Rattle.definitions.specs.Basics.{count_if, flat_map}
 use Rattle.definitions.specs.ContractFile.{Name, me_name, final_name, parameter_name, Owner, everyone, owned_by, Expression, Scope, owner_code, Node}

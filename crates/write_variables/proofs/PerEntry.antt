@@ -1,5 +1,6 @@
 -- A log unfolds entry by entry.
-use Rattle.kit.specs.Names.{◌≡◌, refl, ap, List, [], ◌∷◌, ◌++◌, ℕ, ◌+◌, ◌<◌, ◌≤◌, arith, length, get_or, drop, length-append, length-drop}
+use Rattle.std.specs.Prelude.{◌≡◌, ◌∷◌, ◌++◌, ◌+◌, ◌<◌, ◌≤◌}
+use Rattle.kit.specs.Names.{refl, ap, List, [], ℕ, arith, length, get_or, drop, length-append, length-drop}
 use Rattle.theory_laws.proofs.Lists.{five_next}
 use Rattle.memory_append.specs.Append.{Appended, Appending}
 use Rattle.memory_append.proofs.Appending.{appending_room, appending_next, appending_done}

@@ -1,5 +1,6 @@
 -- The ways out of the tests on one entry.
-use Rattle.kit.specs.Names.{◌≡◌, ap, true, false, List, [], ◌∷◌, ℕ, ◌+◌, ◌%◌, ◌≤◌, arith, length, eq-eqb, ne_eqb}
+use Rattle.std.specs.Prelude.{◌≡◌, ◌∷◌, ◌+◌, ◌%◌, ◌≤◌}
+use Rattle.kit.specs.Names.{ap, true, false, List, [], ℕ, arith, length, eq-eqb, ne_eqb}
 use Rattle.memory_append.specs.Append.{Appended}
 use Rattle.memory_append.proofs.Appending.{appended_nothing, appended_then}
 use Rattle.rewrite_log.specs.Entries.{makes_none}

@@ -1,5 +1,6 @@
 -- What is made of each entry of a log, one entry after another: tag, variable, owner code, node, last.
-use Rattle.kit.specs.Names.{cond, List, [], ◌∷◌, ◌++◌, ℕ, eqb, length}
+use Rattle.std.specs.Prelude.{◌∷◌, ◌++◌}
+use Rattle.kit.specs.Names.{cond, List, [], ℕ, eqb, length}
 
 abbrev pub FromEntry : Type 0
 FromEntry = ℕ → ℕ → ℕ → ℕ → ℕ → List ℕ

@@ -1,5 +1,6 @@
 -- 01, Rewriting: the bytes of a function's variables and the owner codes needing keys, from its log.
-use Rattle.kit.specs.Names.{◌≡◌, Bool, ◌||◌, cond, List, [], ◌∷◌, ◌++◌, ℕ, ◌%◌, ◌<◌, eqb, get_or}
+use Rattle.std.specs.Prelude.{◌≡◌, ◌||◌, ◌∷◌, ◌++◌, ◌%◌, ◌<◌}
+use Rattle.kit.specs.Names.{Bool, cond, List, [], ℕ, eqb, get_or}
 use Rattle.definitions.specs.ContractFile.{owner_code}
 use Rattle.memory_append.specs.Append.{Appended}
 use Rattle.rewrite_events.specs.Events.{Event, supplied_event, claimed_event, read_event, guard_event, end_event}

@@ -1,7 +1,8 @@
 // 01, Rewriting: a function's variables and keys, written from its log.
 #![tactic(auto)]
 
-ghost use Rattle.kit.specs.Names.{◌≡◌, [], ◌∷◌, ◌+◌, ◌≤◌, length};
+ghost use Rattle.std.specs.Prelude.{◌≡◌, ◌∷◌, ◌+◌, ◌≤◌};
+ghost use Rattle.kit.specs.Names.{[], length};
 ghost use Rattle.memory_append.specs.Append.{Appended};
 ghost use Rattle.write_variables.specs.PerEntry.{per_entry, of_tag, count_tag};
 ghost use Rattle.write_variables.specs.Variables.{origin_of, variable_of, key_code, once_unseen, seen_in, KeysTaken};

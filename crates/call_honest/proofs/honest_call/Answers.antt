@@ -1,5 +1,6 @@
 -- The contents supplied, and the call made with them.
-use Rattle.kit.specs.Names.{ap, sym, ◌∙◌, ℕ, ◌*◌, arith, length-take-le, rules}
+use Rattle.std.specs.Prelude.{◌*◌}
+use Rattle.kit.specs.Names.{ap, sym, ◌∙◌, ℕ, arith, length-take-le, rules}
 use Rattle.write_function_room.proofs.Room.{private_counted}
 use Rattle.call_honest.proofs.HonestParts.{room_here, arguments_few, arguments_counted}
 use Rattle.call_honest.proofs.Calling.{call_left, serial_follows, accepted, called_on, standing_on, placed_on, made_on}

@@ -1,5 +1,6 @@
 -- The places opened, the address of each name, the parameters, the log of the body, then the variables.
-use Rattle.kit.specs.Names.{refl, ap, sym, ◌∙◌, ◌*◌, arith, length, length-take-le, take_at}
+use Rattle.std.specs.Prelude.{◌*◌}
+use Rattle.kit.specs.Names.{refl, ap, sym, ◌∙◌, arith, length, length-take-le, take_at}
 use Rattle.ledger_contents.specs.Contents.{contents_of}
 use Rattle.ledger_numbers.proofs.Numbers.{numbers_whole}
 use Rattle.call_honest.proofs.HonestParts.{opened_by, arguments_few, addresses_ready, parameters_ready, given_honest, log_room}

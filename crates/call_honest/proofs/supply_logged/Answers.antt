@@ -1,5 +1,6 @@
 -- The original's numbers make the contents of the variables.
-use Rattle.kit.specs.Names.{ap, sym, ◌∙◌, ℕ, ◌*◌, arith, length-take-le}
+use Rattle.std.specs.Prelude.{◌*◌}
+use Rattle.kit.specs.Names.{ap, sym, ◌∙◌, ℕ, arith, length-take-le}
 use Rattle.ledger_struct.proofs.Flat.{flat_put}
 use Rattle.call_honest.proofs.HonestParts.{slots_room, slots_few, worked_out_law, variables_ready, supplied_honest}
 use Rattle.call_honest.proofs.supply_logged.Goals as goal

@@ -1,5 +1,6 @@
 -- The walk, and what is shown after it.
-use Rattle.kit.specs.Names.{sym, ◌*◌, arith, length-take-le}
+use Rattle.std.specs.Prelude.{◌*◌}
+use Rattle.kit.specs.Names.{sym, arith, length-take-le}
 use Rattle.call_with.proofs.AfterCall.{made_done, made_failed}
 use Rattle.call_with.proofs.call_with.Goals as goal
 

@@ -1,5 +1,6 @@
 -- A short contract has at most 64 nodes.
-use Rattle.kit.specs.Names.{sym, ◌∙◌, ◌/◌, ◌≤◌, arith, length, leb-true}
+use Rattle.std.specs.Prelude.{◌/◌, ◌≤◌}
+use Rattle.kit.specs.Names.{sym, ◌∙◌, arith, length, leb-true}
 use Rattle.call_with.proofs.walk_called.Goals as goal
 
 pub walk_short-requires : goal.walk_short-requires

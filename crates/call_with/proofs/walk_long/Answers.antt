@@ -1,5 +1,6 @@
 -- Number 2 lets 512 nodes pass.
-use Rattle.kit.specs.Names.{◌≤◌, arith}
+use Rattle.std.specs.Prelude.{◌≤◌}
+use Rattle.kit.specs.Names.{arith}
 use Rattle.definitions.specs.ContractFile.{node_count}
 use Rattle.call_with.proofs.walk_long.Goals as goal
 

@@ -1,5 +1,6 @@
 -- At most 64 nodes.
-use Rattle.kit.specs.Names.{◌≤◌, arith}
+use Rattle.std.specs.Prelude.{◌≤◌}
+use Rattle.kit.specs.Names.{arith}
 use Rattle.definitions.specs.ContractFile.{node_count}
 use Rattle.call_with.proofs.walk_short.Goals as goal
 

@@ -1,4 +1,4 @@
-use Rattle.kit.specs.Names.{◌≡◌, ◌||◌, ◌+◌, ◌*◌, ◌≤◌}
+use Rattle.std.specs.Prelude.{◌≡◌, ◌||◌, ◌+◌, ◌*◌, ◌≤◌}
 use Rattle.definitions.specs.Basics.{any}
 use Rattle.definitions.specs.ContractFile.{function_records}
 use Rattle.check_01_02_counts.proofs.ManyParameters.{has_many_parameters}

@@ -1,4 +1,5 @@
-use Rattle.kit.specs.Names.{◌≡◌, ◌||◌, ◌+◌, ◌*◌, ◌/◌, ◌%◌, ◌≤◌, length}
+use Rattle.std.specs.Prelude.{◌≡◌, ◌||◌, ◌+◌, ◌*◌, ◌/◌, ◌%◌, ◌≤◌}
+use Rattle.kit.specs.Names.{length}
 use Rattle.definitions.specs.Basics.{any}
 use Rattle.file_decoded.specs.Slices.{functions_from}
 use Rattle.check_03_declarations.specs.Outside.{function_outside}

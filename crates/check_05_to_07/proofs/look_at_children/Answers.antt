@@ -1,4 +1,5 @@
-use Rattle.kit.specs.Names.{ap, sym, ◌∙◌, Bool, not, ◌||◌, [], ◌∷◌, ℕ, ◌+◌, ◌-◌, max, arith, ltb}
+use Rattle.std.specs.Prelude.{◌||◌, ◌∷◌, ◌+◌, ◌-◌}
+use Rattle.kit.specs.Names.{ap, sym, ◌∙◌, Bool, not, [], ℕ, max, arith, ltb}
 use Rattle.file_decoded.specs.Slices.{node_from}
 use Rattle.file_children.specs.Children.{expression_count}
 use Rattle.file_children.proofs.Loops.{noted_numbered_next, noted_numbered_done}

@@ -1,4 +1,5 @@
-use Rattle.kit.specs.Names.{◌≡◌, ◌||◌, map, ◌+◌, ◌≤◌, max}
+use Rattle.std.specs.Prelude.{◌≡◌, ◌||◌, ◌+◌, ◌≤◌}
+use Rattle.kit.specs.Names.{map, max}
 use Rattle.definitions.specs.Basics.{any_numbered, largest}
 use Rattle.definitions.specs.ContractFile.{node_of}
 use Rattle.file_decoded.specs.Slices.{node_from}

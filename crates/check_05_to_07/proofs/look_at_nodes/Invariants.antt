@@ -1,4 +1,5 @@
-use Rattle.kit.specs.Names.{◌≡◌, ◌||◌, ◌+◌, ◌*◌, ◌/◌, length}
+use Rattle.std.specs.Prelude.{◌≡◌, ◌||◌, ◌+◌, ◌*◌, ◌/◌}
+use Rattle.kit.specs.Names.{length}
 use Rattle.definitions.specs.Basics.{any, flat_map}
 use Rattle.file_decoded.specs.Slices.{nodes_from}
 use Rattle.check_05_uses.specs.Counting.{Room, children_of}

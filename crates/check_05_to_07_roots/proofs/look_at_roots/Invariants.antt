@@ -1,4 +1,5 @@
-use Rattle.kit.specs.Names.{◌≡◌, ◌||◌, List, map, ℕ, ◌+◌, ◌*◌, ◌/◌, ◌≤◌, length}
+use Rattle.std.specs.Prelude.{◌≡◌, ◌||◌, ◌+◌, ◌*◌, ◌/◌, ◌≤◌}
+use Rattle.kit.specs.Names.{List, map, ℕ, length}
 use Rattle.definitions.specs.Basics.{any}
 use Rattle.file_decoded.specs.Slices.{functions_from}
 use Rattle.check_05_uses.specs.Counting.{Room, root_of}

@@ -1,4 +1,4 @@
-use Rattle.kit.specs.Names.{◌≡◌, ◌||◌, ◌+◌, ◌≤◌}
+use Rattle.std.specs.Prelude.{◌≡◌, ◌||◌, ◌+◌, ◌≤◌}
 use Rattle.check_05_uses.specs.Counting.{any_from, other_than_one}
 use Rattle.check_05_uses.proofs.some_other_than_one.Given as goal
 

@@ -1,5 +1,6 @@
 -- Numbers 8 to 15 are asked of sections that 3 to 7 let pass.
-use Rattle.kit.specs.Names.{◌≡◌, sym, ◌∙◌, arith}
+use Rattle.std.specs.Prelude.{◌≡◌}
+use Rattle.kit.specs.Names.{sym, ◌∙◌, arith}
 use Rattle.file_decoded.specs.Slices.{sections_from}
 use Rattle.check_03_to_07.proofs.Shape.{tables_and_numbers}
 use Rattle.check_contract.proofs.Order.{refused_by_shape, left_to_rules}

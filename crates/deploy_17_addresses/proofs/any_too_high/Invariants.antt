@@ -1,5 +1,6 @@
 -- Each turn looks at one address more.
-use Rattle.kit.specs.Names.{◌≡◌, ◌-◌, ◌≤◌, ltb, length, drop}
+use Rattle.std.specs.Prelude.{◌≡◌, ◌-◌, ◌≤◌}
+use Rattle.kit.specs.Names.{ltb, length, drop}
 use Rattle.definitions.specs.Basics.{any}
 use Rattle.deploy_17_addresses.proofs.any_too_high.Given as goal
 

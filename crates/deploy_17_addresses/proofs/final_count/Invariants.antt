@@ -1,5 +1,5 @@
 -- Each turn looks at one field more.
-use Rattle.kit.specs.Names.{◌≡◌, ◌+◌, ◌-◌, ◌≤◌}
+use Rattle.std.specs.Prelude.{◌≡◌, ◌+◌, ◌-◌, ◌≤◌}
 use Rattle.definitions.specs.Basics.{count_if}
 use Rattle.definitions.specs.ContractFile.{is_final}
 use Rattle.file_accepted.specs.Context.{fields_in}

@@ -1,5 +1,6 @@
 -- Each turn copies one byte more.
-use Rattle.kit.specs.Names.{◌≡◌, ◌-◌, ◌≤◌, length, take}
+use Rattle.std.specs.Prelude.{◌≡◌, ◌-◌, ◌≤◌}
+use Rattle.kit.specs.Names.{length, take}
 use Rattle.ledger_struct.specs.Whole.{padded}
 use Rattle.deploy_ledger.proofs.copied.Given as goal
 

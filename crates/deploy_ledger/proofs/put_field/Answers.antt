@@ -1,4 +1,5 @@
-use Rattle.kit.specs.Names.{◌≡◌, ap, ◌∙◌, ◌+◌, arith, length, get_or, length-set, rules}
+use Rattle.std.specs.Prelude.{◌≡◌, ◌+◌}
+use Rattle.kit.specs.Names.{ap, ◌∙◌, arith, length, get_or, length-set, rules}
 use Rattle.definitions.specs.ContractFile.{field_at}
 use Rattle.definitions.specs.Original.{Reader, final_address, position}
 use Rattle.definitions.specs.Ledger.{content_for}

@@ -1,5 +1,6 @@
 -- Each turn gives one place more its content.
-use Rattle.kit.specs.Names.{◌≡◌, ◌++◌, ◌+◌, ◌-◌, ◌≤◌, length, drop}
+use Rattle.std.specs.Prelude.{◌≡◌, ◌++◌, ◌+◌, ◌-◌, ◌≤◌}
+use Rattle.kit.specs.Names.{length, drop}
 use Rattle.file_accepted.specs.Context.{fields_in}
 use Rattle.ledger_struct.specs.Ledgers.{contents_in}
 use Rattle.deploy_ledger.specs.Deployments.{contents_for, readers_of, field_contents, Tidy}

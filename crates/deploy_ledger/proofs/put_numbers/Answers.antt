@@ -1,4 +1,5 @@
-use Rattle.kit.specs.Names.{refl, ◌∙◌, ◌<◌, ◌≤◌, arith, length, length-set}
+use Rattle.std.specs.Prelude.{◌<◌, ◌≤◌}
+use Rattle.kit.specs.Names.{refl, ◌∙◌, arith, length, length-set}
 use Rattle.file_accepted.specs.Context.{fields_in}
 use Rattle.ledger_places.proofs.Positions.{fields_count}
 use Rattle.deploy_ledger.proofs.Numbers.{final_next, final_count, zeros_field, zeros_count, numbers_done, numbers_counted, is_final_law, not_final}

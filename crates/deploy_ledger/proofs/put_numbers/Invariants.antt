@@ -1,5 +1,6 @@
 -- Each turn writes the numbers of one field more.
-use Rattle.kit.specs.Names.{◌≡◌, ◌+◌, ◌*◌, ◌-◌, ◌≤◌, length, drop}
+use Rattle.std.specs.Prelude.{◌≡◌, ◌+◌, ◌*◌, ◌-◌, ◌≤◌}
+use Rattle.kit.specs.Names.{length, drop}
 use Rattle.memory_buffer.specs.Buffer.{stored}
 use Rattle.definitions.specs.Original.{deployed_numbers}
 use Rattle.file_accepted.specs.Context.{fields_in}

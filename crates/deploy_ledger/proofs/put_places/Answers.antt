@@ -1,4 +1,5 @@
-use Rattle.kit.specs.Names.{refl, ◌<◌, arith, length}
+use Rattle.std.specs.Prelude.{◌<◌}
+use Rattle.kit.specs.Names.{refl, arith, length}
 use Rattle.file_accepted.specs.Context.{fields_in}
 use Rattle.ledger_places.proofs.Positions.{fields_count}
 use Rattle.deploy_ledger.proofs.Places.{field_counted, field_given, fields_whole, tidy_none}

@@ -1,5 +1,6 @@
 -- Each turn gives the places of one field more their contents.
-use Rattle.kit.specs.Names.{◌≡◌, ◌++◌, ◌+◌, ◌-◌, ◌≤◌, length, drop}
+use Rattle.std.specs.Prelude.{◌≡◌, ◌++◌, ◌+◌, ◌-◌, ◌≤◌}
+use Rattle.kit.specs.Names.{length, drop}
 use Rattle.definitions.specs.Original.{per_place, place_readers}
 use Rattle.file_accepted.specs.Context.{fields_in}
 use Rattle.ledger_struct.specs.Ledgers.{contents_in}

@@ -1,5 +1,6 @@
 -- Each turn writes one zero more.
-use Rattle.kit.specs.Names.{◌≡◌, ◌+◌, length, replicate}
+use Rattle.std.specs.Prelude.{◌≡◌, ◌+◌}
+use Rattle.kit.specs.Names.{length, replicate}
 use Rattle.memory_buffer.specs.Buffer.{stored}
 use Rattle.deploy_ledger.proofs.put_zeros.Given as goal
 

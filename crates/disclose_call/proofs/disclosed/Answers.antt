@@ -1,5 +1,6 @@
 -- The ledger is taken apart, and its parts are asked.
-use Rattle.kit.specs.Names.{◌≡◌, refl, sym, arith, length, length-take-le, rules}
+use Rattle.std.specs.Prelude.{◌≡◌}
+use Rattle.kit.specs.Names.{refl, sym, arith, length, length-take-le, rules}
 use Rattle.ledger_struct.proofs.Flat.{flat_cut}
 use Rattle.ledger_struct.proofs.Apart.{flat_few, parts_make}
 use Rattle.disclose_call.proofs.disclosed.Goals as goal

@@ -1,5 +1,5 @@
 -- The values that nodes disclose, by their kind, as a cycle: the node number falls, or the same node goes on to its own kind.
-use Rattle.kit.specs.Names.{◌+◌, ◌*◌}
+use Rattle.std.specs.Prelude.{◌+◌, ◌*◌}
 use Rattle.disclose_expressions.proofs.+disclose_expression_disclose_operator_disclose_reveal.Given as goal
 
 abbrev pub decreases-disclose_expression : goal.decreases-disclose_expression

@@ -1,5 +1,6 @@
 -- One value is stored.
-use Rattle.kit.specs.Names.{refl, sym, ◌<◌, arith, length}
+use Rattle.std.specs.Prelude.{◌<◌}
+use Rattle.kit.specs.Names.{refl, sym, arith, length}
 use Rattle.memory_buffer.proofs.Storing.{stored_one}
 use Rattle.disclose_expressions.proofs.append_value.Goals as goal
 

@@ -1,5 +1,6 @@
 -- The loop's invariant: the values passed are copied, and the output keeps its length.
-use Rattle.kit.specs.Names.{◌≡◌, ◌-◌, ◌≤◌, length, take}
+use Rattle.std.specs.Prelude.{◌≡◌, ◌-◌, ◌≤◌}
+use Rattle.kit.specs.Names.{length, take}
 use Rattle.memory_buffer.specs.Buffer.{stored}
 use Rattle.disclose_output.proofs.copy_values.Given as goal
 

@@ -1,5 +1,6 @@
 -- The call's number goes before that of the party.
-use Rattle.kit.specs.Names.{◌≡◌, refl, arith, lt-ltb, le-ltb}
+use Rattle.std.specs.Prelude.{◌≡◌}
+use Rattle.kit.specs.Names.{refl, arith, lt-ltb, le-ltb}
 use Rattle.definitions.specs.Basics.{first_that_holds}
 use Rattle.disclose_output.proofs.Refusals.{number_first}
 use Rattle.disclose_output.proofs.refusal.Goals as goal

@@ -1,5 +1,5 @@
 -- The values that statements disclose, by their kind, as a cycle: the node number falls, or the same node goes on to its own kind.
-use Rattle.kit.specs.Names.{◌+◌, ◌*◌}
+use Rattle.std.specs.Prelude.{◌+◌, ◌*◌}
 use Rattle.disclose_statements.proofs.+disclose_conditional_disclose_sequence_disclose_statement.Given as goal
 
 abbrev pub decreases-disclose_conditional : goal.decreases-disclose_conditional

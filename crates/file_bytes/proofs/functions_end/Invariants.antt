@@ -1,4 +1,4 @@
-use Rattle.kit.specs.Names.{◌≡◌, ◌+◌, ◌*◌, ◌≤◌}
+use Rattle.std.specs.Prelude.{◌≡◌, ◌+◌, ◌*◌, ◌≤◌}
 use Rattle.definitions.specs.ContractFile.{functions_end}
 use Rattle.file_bytes.proofs.functions_end.Given as goal
 

@@ -1,4 +1,5 @@
-use Rattle.kit.specs.Names.{◌+◌, arith}
+use Rattle.std.specs.Prelude.{◌+◌}
+use Rattle.kit.specs.Names.{arith}
 use Rattle.file_bytes.proofs.ReadingSteps.{byte_at_past}
 use Rattle.file_bytes.proofs.two_bytes_at.Goals as goal
 

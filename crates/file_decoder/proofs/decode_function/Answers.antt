@@ -1,5 +1,6 @@
 -- Three numbers, stored in a row, and the parameters behind those of the functions before.
-use Rattle.kit.specs.Names.{◌≡◌, ap, ◌∙◌, List, [], ◌∷◌, ℕ, suc, ◌+◌, ◌*◌, ◌-◌, ◌≤◌, arith, add-one, length, set, length-set, sets-eq}
+use Rattle.std.specs.Prelude.{◌≡◌, ◌∷◌, ◌+◌, ◌*◌, ◌-◌, ◌≤◌}
+use Rattle.kit.specs.Names.{ap, ◌∙◌, List, [], ℕ, suc, arith, add-one, length, set, length-set, sets-eq}
 use Rattle.definitions.specs.ContractFile.{function_end, two_bytes_at}
 use Rattle.memory_buffer.specs.Buffer.{stored}
 use Rattle.file_node_decoder.specs.Numbers.{bytes_at}

@@ -1,4 +1,5 @@
-use Rattle.kit.specs.Names.{refl, ◌∙◌, ℕ, ◌≤◌, arith}
+use Rattle.std.specs.Prelude.{◌≤◌}
+use Rattle.kit.specs.Names.{refl, ◌∙◌, ℕ, arith}
 use Rattle.definitions.specs.ContractFile.{byte_at}
 use Rattle.file_decoder.proofs.Loops.{nodes_more, nodes_done}
 use Rattle.file_decoder.proofs.Sections.{nodes_same, nodes_narrow}

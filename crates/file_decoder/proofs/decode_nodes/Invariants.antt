@@ -1,5 +1,6 @@
 -- The loop's invariant: with the nodes left, those stored are all.
-use Rattle.kit.specs.Names.{◌≡◌, ◌+◌, ◌*◌, ◌/◌, length}
+use Rattle.std.specs.Prelude.{◌≡◌, ◌+◌, ◌*◌, ◌/◌}
+use Rattle.kit.specs.Names.{length}
 use Rattle.memory_buffer.specs.Buffer.{stored}
 use Rattle.file_decoder.specs.Decoding.{nodes_numbers}
 use Rattle.file_decoder.proofs.decode_nodes.Given as goal

@@ -1,4 +1,5 @@
-use Rattle.kit.specs.Names.{◌≡◌, ap, List, ℕ, ◌+◌, ◌*◌, arith}
+use Rattle.std.specs.Prelude.{◌≡◌, ◌+◌, ◌*◌}
+use Rattle.kit.specs.Names.{ap, List, ℕ, arith}
 use Rattle.definitions.specs.ContractFile.{field_count, functions_end}
 use Rattle.file_accepted.specs.Functions.{function_start}
 use Rattle.file_bytes.proofs.ReadingSteps.{functions_end_next, functions_end_done}

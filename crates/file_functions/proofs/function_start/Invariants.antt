@@ -1,4 +1,4 @@
-use Rattle.kit.specs.Names.{◌≡◌, ◌+◌, ◌*◌, ◌≤◌}
+use Rattle.std.specs.Prelude.{◌≡◌, ◌+◌, ◌*◌, ◌≤◌}
 use Rattle.definitions.specs.ContractFile.{functions_end}
 use Rattle.file_accepted.specs.Functions.{function_start}
 use Rattle.file_functions.proofs.function_start.Given as goal

@@ -1,4 +1,5 @@
-use Rattle.kit.specs.Names.{◌≡◌, refl, ap, sym, ◌∙◌, List, [], ◌∷◌, ℕ, ◌+◌, ◌<◌, ◌≤◌, arith, length, take, drop, rules}
+use Rattle.std.specs.Prelude.{◌≡◌, ◌∷◌, ◌+◌, ◌<◌, ◌≤◌}
+use Rattle.kit.specs.Names.{refl, ap, sym, ◌∙◌, List, [], ℕ, arith, length, take, drop, rules}
 use Rattle.kit.specs.Names.{length-drop, length-take-le, get_or-drop, get_or-take, take_all}
 use Rattle.definitions.specs.ContractFile.{byte_at}
 use Rattle.memory_buffer.specs.Buffer.{stored}

@@ -1,5 +1,6 @@
 -- The loop's invariant: the bytes passed are stored, and the slice keeps its length.
-use Rattle.kit.specs.Names.{◌≡◌, ◌-◌, ◌≤◌, length, take}
+use Rattle.std.specs.Prelude.{◌≡◌, ◌-◌, ◌≤◌}
+use Rattle.kit.specs.Names.{length, take}
 use Rattle.memory_buffer.specs.Buffer.{stored}
 use Rattle.file_node_decoder.specs.Numbers.{bytes_at}
 use Rattle.file_node_decoder.proofs.copy_bytes.Given as goal

@@ -1,5 +1,6 @@
 -- Five stores in a row are one.
-use Rattle.kit.specs.Names.{◌≡◌, List, [], ◌∷◌, ℕ, suc, ◌+◌, ◌≤◌, arith, length, add-one, set, length-set, sets-eq}
+use Rattle.std.specs.Prelude.{◌≡◌, ◌∷◌, ◌+◌, ◌≤◌}
+use Rattle.kit.specs.Names.{List, [], ℕ, suc, arith, length, add-one, set, length-set, sets-eq}
 use Rattle.memory_buffer.specs.Buffer.{stored}
 use Rattle.file_node_decoder.proofs.decode_node.Goals as goal
 

@@ -1,5 +1,6 @@
 -- The nodes are all there, and the front of the room is what the decoder made of it.
-use Rattle.kit.specs.Names.{sym, ◌*◌, arith, length-take-le}
+use Rattle.std.specs.Prelude.{◌*◌}
+use Rattle.kit.specs.Names.{sym, arith, length-take-le}
 use Rattle.file_source.proofs.Decoding.{nodes_few, nodes_end, front_long, source_put}
 use Rattle.file_source.proofs.decode_source.Goals as goal
 

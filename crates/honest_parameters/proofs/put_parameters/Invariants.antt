@@ -1,5 +1,6 @@
 -- The loop's invariant: the first contents are the first honest parameters.
-use Rattle.kit.specs.Names.{◌≡◌, ◌-◌, ◌≤◌, length, take}
+use Rattle.std.specs.Prelude.{◌≡◌, ◌-◌, ◌≤◌}
+use Rattle.kit.specs.Names.{length, take}
 use Rattle.definitions.specs.Ledger.{honest_parameters}
 use Rattle.file_accepted.specs.Context.{parameters_in}
 use Rattle.ledger_contents.specs.Contents.{contents_of}

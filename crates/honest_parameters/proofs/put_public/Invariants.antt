@@ -1,5 +1,5 @@
 -- The loop's invariant: the public parameters picked and those left are all.
-use Rattle.kit.specs.Names.{◌≡◌, ◌-◌}
+use Rattle.std.specs.Prelude.{◌≡◌, ◌-◌}
 use Rattle.definitions.specs.ContractFile.{byte_at}
 use Rattle.honest_parameters.proofs.Public.{Picking}
 use Rattle.honest_parameters.proofs.put_public.Given as goal

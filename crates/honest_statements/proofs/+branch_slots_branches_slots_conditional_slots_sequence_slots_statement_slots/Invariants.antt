@@ -1,5 +1,5 @@
 -- Statements by the kind of their node, sequences, conditionals and branches meet their contracts as a cycle: the node number falls, or the same node goes on to a part of the work.
-use Rattle.kit.specs.Names.{◌+◌, ◌*◌}
+use Rattle.std.specs.Prelude.{◌+◌, ◌*◌}
 use Rattle.honest_statements.proofs.+branch_slots_branches_slots_conditional_slots_sequence_slots_statement_slots.Given as goal
 
 abbrev pub decreases-branch_slots : goal.decreases-branch_slots

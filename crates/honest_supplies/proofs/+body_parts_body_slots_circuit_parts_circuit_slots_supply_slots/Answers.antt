@@ -1,4 +1,5 @@
-use Rattle.kit.specs.Names.{◌≤◌, arith}
+use Rattle.std.specs.Prelude.{◌≤◌}
+use Rattle.kit.specs.Names.{arith}
 use Rattle.definitions.specs.ContractFile.{me_name, owned_by}
 use Rattle.definitions.specs.Rewriting.{always}
 use Rattle.file_accepted.specs.Context.{scope_in}

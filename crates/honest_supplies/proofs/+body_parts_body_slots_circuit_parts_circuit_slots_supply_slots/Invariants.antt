@@ -1,5 +1,5 @@
 -- The five meet their contracts, as a cycle: around it the node number falls, or a node asks for its own supply, circuit or parts.
-use Rattle.kit.specs.Names.{◌+◌, ◌*◌}
+use Rattle.std.specs.Prelude.{◌+◌, ◌*◌}
 use Rattle.honest_supplies.proofs.+body_parts_body_slots_circuit_parts_circuit_slots_supply_slots.Given as goal
 
 abbrev pub decreases-body_parts : goal.decreases-body_parts

@@ -1,5 +1,5 @@
 -- The values of nodes by their kind, as a cycle: the node number falls, or the same node goes on to its own kind.
-use Rattle.kit.specs.Names.{◌+◌, ◌*◌}
+use Rattle.std.specs.Prelude.{◌+◌, ◌*◌}
 use Rattle.honest_values.proofs.+entry_value_negation_value_operator_value_value.Given as goal
 
 abbrev pub decreases-entry_value : goal.decreases-entry_value

@@ -1,4 +1,5 @@
-use Rattle.kit.specs.Names.{refl, ap, ◌∙◌, ℕ, ◌+◌, arith, rules}
+use Rattle.std.specs.Prelude.{◌+◌}
+use Rattle.kit.specs.Names.{refl, ap, ◌∙◌, ℕ, arith, rules}
 use Rattle.write_parameters.specs.Parameters.{private_count}
 use Rattle.honest_variables.proofs.Slots.{zeros_none, zeros_more, body_startable, slots_done}
 use Rattle.honest_variables.proofs.honest_slots.Goals as goal

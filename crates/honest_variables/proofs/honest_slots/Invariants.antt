@@ -1,5 +1,6 @@
 -- The loop's invariant: as many zeros are put as parameters are passed.
-use Rattle.kit.specs.Names.{◌≡◌, ◌-◌, ◌≤◌, length, replicate}
+use Rattle.std.specs.Prelude.{◌≡◌, ◌-◌, ◌≤◌}
+use Rattle.kit.specs.Names.{length, replicate}
 use Rattle.memory_buffer.specs.Buffer.{stored}
 use Rattle.write_function_room.specs.Functions.{private_in}
 use Rattle.honest_variables.proofs.honest_slots.Given as goal

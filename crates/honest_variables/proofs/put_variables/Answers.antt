@@ -1,4 +1,5 @@
-use Rattle.kit.specs.Names.{refl, ◌∙◌, ◌+◌, ◌-◌, arith, drop, rules}
+use Rattle.std.specs.Prelude.{◌+◌, ◌-◌}
+use Rattle.kit.specs.Names.{refl, ◌∙◌, arith, drop, rules}
 use Rattle.write_variables.specs.PerEntry.{per_entry}
 use Rattle.honest_variables.specs.Variables.{code_of, codes_of}
 use Rattle.honest_variables.proofs.Contents.{entry_ready, opening_start, opening_next, opening_done, entering_next, entering_done}

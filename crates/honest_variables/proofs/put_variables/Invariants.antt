@@ -1,5 +1,6 @@
 -- The loops' invariant: the contents put and those left are all; first the reads of private parameters, then the log's entries.
-use Rattle.kit.specs.Names.{◌≡◌, ◌-◌, ◌≤◌, length}
+use Rattle.std.specs.Prelude.{◌≡◌, ◌-◌, ◌≤◌}
+use Rattle.kit.specs.Names.{length}
 use Rattle.honest_variables.proofs.Contents.{Opening, Entering}
 use Rattle.honest_variables.proofs.put_variables.Given as goal
 

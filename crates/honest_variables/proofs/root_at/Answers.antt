@@ -1,5 +1,6 @@
 -- The last two bytes of the function's record.
-use Rattle.kit.specs.Names.{ap, ◌∙◌, ℕ, ◌-◌}
+use Rattle.std.specs.Prelude.{◌-◌}
+use Rattle.kit.specs.Names.{ap, ◌∙◌, ℕ}
 use Rattle.definitions.specs.ContractFile.{two_bytes_at}
 use Rattle.honest_variables.proofs.root_at.Goals as goal
 

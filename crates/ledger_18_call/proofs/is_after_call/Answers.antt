@@ -1,5 +1,6 @@
 -- The numbers of the last call, then what it shows.
-use Rattle.kit.specs.Names.{◌≡◌, sym, ◌∙◌, ◌&&◌, ◌||◌, List, ℕ, ◌≤◌, ◌<◌, arith, leb, lt-ltb, le-ltb, le-leb, lt-leb, rules}
+use Rattle.std.specs.Prelude.{◌≡◌, ◌&&◌, ◌||◌, ◌≤◌, ◌<◌}
+use Rattle.kit.specs.Names.{sym, ◌∙◌, List, ℕ, arith, leb, lt-ltb, le-ltb, le-leb, lt-leb, rules}
 use Rattle.definitions.specs.ContractFile.{function_count}
 use Rattle.definitions.specs.Ledger.{Content, is_after_done, is_after_failed, is_after_call}
 use Rattle.file_accepted.proofs.Functions.{functions_count}

@@ -1,4 +1,5 @@
-use Rattle.kit.specs.Names.{ap, sym, List, ◌<◌, arith, length}
+use Rattle.std.specs.Prelude.{◌<◌}
+use Rattle.kit.specs.Names.{ap, sym, List, arith, length}
 use Rattle.definitions.specs.Ledger.{Form, fits, all_fit}
 use Rattle.file_accepted.proofs.Declarations.{parameters_count}
 use Rattle.file_accepted.specs.Context.{parameters_in}

@@ -1,5 +1,6 @@
 -- Each turn tests one parameter more, or passes a hidden one.
-use Rattle.kit.specs.Names.{◌≡◌, ◌-◌, ◌≤◌, drop}
+use Rattle.std.specs.Prelude.{◌≡◌, ◌-◌, ◌≤◌}
+use Rattle.kit.specs.Names.{drop}
 use Rattle.definitions.specs.Ledger.{fits, all_fit}
 use Rattle.file_accepted.specs.Context.{parameters_in}
 use Rattle.ledger_contents.specs.Contents.{contents_of}

@@ -1,5 +1,6 @@
 -- Each turn tests one place more.
-use Rattle.kit.specs.Names.{◌≡◌, ◌+◌, ◌-◌, ◌≤◌, drop}
+use Rattle.std.specs.Prelude.{◌≡◌, ◌+◌, ◌-◌, ◌≤◌}
+use Rattle.kit.specs.Names.{drop}
 use Rattle.definitions.specs.Ledger.{fits}
 use Rattle.file_accepted.specs.Context.{fields_in}
 use Rattle.ledger_contents.specs.Contents.{contents_of}

@@ -1,4 +1,5 @@
-use Rattle.kit.specs.Names.{ap, sym, List, ◌<◌, arith, length}
+use Rattle.std.specs.Prelude.{◌<◌}
+use Rattle.kit.specs.Names.{ap, sym, List, arith, length}
 use Rattle.definitions.specs.Ledger.{Form, fits, all_fit}
 use Rattle.file_accepted.specs.Context.{fields_in}
 use Rattle.ledger_contents.specs.Contents.{contents_of}

@@ -1,5 +1,6 @@
 -- Each turn tests the places of one field more.
-use Rattle.kit.specs.Names.{◌≡◌, ◌*◌, ◌-◌, ◌≤◌, drop}
+use Rattle.std.specs.Prelude.{◌≡◌, ◌*◌, ◌-◌, ◌≤◌}
+use Rattle.kit.specs.Names.{drop}
 use Rattle.definitions.specs.Original.{per_place}
 use Rattle.definitions.specs.Ledger.{fits, all_fit}
 use Rattle.file_accepted.specs.Context.{fields_in}

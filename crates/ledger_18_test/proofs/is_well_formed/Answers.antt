@@ -1,5 +1,6 @@
 -- A ledger whose file is refused is refused; then the places are tested, then the last call.
-use Rattle.kit.specs.Names.{◌≡◌, sym, ◌∙◌, ne_eqb}
+use Rattle.std.specs.Prelude.{◌≡◌}
+use Rattle.kit.specs.Names.{sym, ◌∙◌, ne_eqb}
 use Rattle.check_refusals.proofs.Refusals.{refuses, accepts}
 use Rattle.definitions.specs.Ledger.{is_well_formed}
 use Rattle.definitions.specs.Numbers.{check_number}

@@ -1,4 +1,5 @@
-use Rattle.kit.specs.Names.{refl, sym, ◌∙◌, ◌+◌, arith}
+use Rattle.std.specs.Prelude.{◌+◌}
+use Rattle.kit.specs.Names.{refl, sym, ◌∙◌, arith}
 use Rattle.ledger_contents.specs.Contents.{contents_of}
 use Rattle.ledger_18_variable.proofs.Log.{none_next, entry_next, entry_stops, log_done}
 use Rattle.ledger_18_variables.proofs.log_fits.Goals as goal

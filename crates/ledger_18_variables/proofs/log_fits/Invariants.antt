@@ -1,5 +1,6 @@
 -- Each turn tests the variable of one entry more, or passes an entry that makes none.
-use Rattle.kit.specs.Names.{◌≡◌, ◌+◌, ◌-◌, ◌≤◌, length, drop}
+use Rattle.std.specs.Prelude.{◌≡◌, ◌+◌, ◌-◌, ◌≤◌}
+use Rattle.kit.specs.Names.{length, drop}
 use Rattle.definitions.specs.Ledger.{all_fit}
 use Rattle.ledger_contents.specs.Contents.{contents_of}
 use Rattle.ledger_18_forms.specs.Forms.{fits_or_zero}

@@ -1,4 +1,5 @@
-use Rattle.kit.specs.Names.{refl, ◌<◌, arith, length, get_or}
+use Rattle.std.specs.Prelude.{◌<◌}
+use Rattle.kit.specs.Names.{refl, arith, length, get_or}
 use Rattle.file_accepted.proofs.Declarations.{parameters_count}
 use Rattle.file_accepted.specs.Context.{parameters_in}
 use Rattle.ledger_contents.specs.Contents.{contents_of}

@@ -1,5 +1,6 @@
 -- Each turn tests one private parameter more, or passes a public one.
-use Rattle.kit.specs.Names.{◌≡◌, ◌-◌, ◌≤◌, get_or, drop}
+use Rattle.std.specs.Prelude.{◌≡◌, ◌-◌, ◌≤◌}
+use Rattle.kit.specs.Names.{get_or, drop}
 use Rattle.file_accepted.specs.Context.{parameters_in}
 use Rattle.ledger_contents.specs.Contents.{contents_of}
 use Rattle.ledger_18_forms.specs.Forms.{fits_or_zero, front_fits}

@@ -1,5 +1,5 @@
 -- The loop's invariant: the codes passed have their addresses.
-use Rattle.kit.specs.Names.{◌-◌}
+use Rattle.std.specs.Prelude.{◌-◌}
 use Rattle.ledger_addresses.proofs.AddressesByCode.{Placed}
 use Rattle.ledger_addresses.proofs.put_addresses.Given as goal
 

@@ -1,5 +1,6 @@
 -- The loop's invariant: the arguments left are off as all are.
-use Rattle.kit.specs.Names.{◌≡◌, ◌-◌, ◌≤◌, length, drop}
+use Rattle.std.specs.Prelude.{◌≡◌, ◌-◌, ◌≤◌}
+use Rattle.kit.specs.Names.{length, drop}
 use Rattle.definitions.specs.ContractFile.{byte_at}
 use Rattle.file_accepted.specs.Context.{parameters_in}
 use Rattle.ledger_numbers.specs.Arguments.{any_outside}

@@ -1,5 +1,6 @@
 -- The loop's invariant: the first numbers are those of the first contents.
-use Rattle.kit.specs.Names.{◌≡◌, map, ◌-◌, ◌/◌, ◌≤◌, length, take}
+use Rattle.std.specs.Prelude.{◌≡◌, ◌-◌, ◌/◌, ◌≤◌}
+use Rattle.kit.specs.Names.{map, length, take}
 use Rattle.definitions.specs.Ledger.{plain_number}
 use Rattle.ledger_contents.specs.Contents.{contents_of}
 use Rattle.ledger_numbers.proofs.plain_numbers.Given as goal

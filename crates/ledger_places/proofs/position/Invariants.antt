@@ -1,4 +1,5 @@
-use Rattle.kit.specs.Names.{◌≡◌, ◌+◌, ◌*◌, ◌-◌, ◌≤◌, drop}
+use Rattle.std.specs.Prelude.{◌≡◌, ◌+◌, ◌*◌, ◌-◌, ◌≤◌}
+use Rattle.kit.specs.Names.{drop}
 use Rattle.definitions.specs.ContractFile.{field_count}
 use Rattle.definitions.specs.Original.{position}
 use Rattle.file_accepted.specs.Context.{fields_in}

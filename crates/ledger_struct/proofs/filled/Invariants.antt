@@ -1,5 +1,6 @@
 -- Each turn fills one place more.
-use Rattle.kit.specs.Names.{◌≡◌, map, ◌≤◌, ◌-◌, ◌/◌, length, take}
+use Rattle.std.specs.Prelude.{◌≡◌, ◌≤◌, ◌-◌, ◌/◌}
+use Rattle.kit.specs.Names.{map, length, take}
 use Rattle.ledger_contents.specs.Contents.{contents_of}
 use Rattle.ledger_struct.specs.Whole.{padded, place_of, zero_place}
 use Rattle.ledger_struct.proofs.filled.Given as goal

@@ -1,4 +1,5 @@
-use Rattle.kit.specs.Names.{◌≡◌, refl, ◌∙◌, arith, length, rules}
+use Rattle.std.specs.Prelude.{◌≡◌}
+use Rattle.kit.specs.Names.{refl, ◌∙◌, arith, length, rules}
 use Rattle.ledger_struct.proofs.Flat.{unmapped, flatten_next, flatten_done}
 use Rattle.ledger_struct.proofs.flatten.Goals as goal
 

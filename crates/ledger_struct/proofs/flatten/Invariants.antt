@@ -1,5 +1,6 @@
 -- Each turn flattens one place more.
-use Rattle.kit.specs.Names.{◌≡◌, map, ◌≤◌, ◌-◌, length, take}
+use Rattle.std.specs.Prelude.{◌≡◌, ◌≤◌, ◌-◌}
+use Rattle.kit.specs.Names.{map, length, take}
 use Rattle.ledger_contents.specs.Contents.{content_of_place, contents_of}
 use Rattle.ledger_struct.proofs.flatten.Given as goal
 

@@ -1,5 +1,6 @@
 -- The loop's invariant: the bytes passed are stored, and the buffer keeps its length.
-use Rattle.kit.specs.Names.{◌≡◌, ◌-◌, ◌≤◌, length, take}
+use Rattle.std.specs.Prelude.{◌≡◌, ◌-◌, ◌≤◌}
+use Rattle.kit.specs.Names.{length, take}
 use Rattle.memory_buffer.specs.Buffer.{stored}
 use Rattle.memory_append.proofs.append.Given as goal
 

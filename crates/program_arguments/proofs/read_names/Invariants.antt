@@ -1,5 +1,5 @@
 -- The measure is what is left of the arguments; they are as many as were found not to be too many.
-use Rattle.kit.specs.Names.{◌-◌, ◌≤◌}
+use Rattle.std.specs.Prelude.{◌-◌, ◌≤◌}
 use Rattle.program_arguments.proofs.read_names.Given as goal
 
 abbrev pub invariant-loop-passed : goal.invariant-loop-passed

@@ -1,5 +1,6 @@
 -- Each turn takes at least one byte more.
-use Rattle.kit.specs.Names.{◌-◌, ◌≤◌, length}
+use Rattle.std.specs.Prelude.{◌-◌, ◌≤◌}
+use Rattle.kit.specs.Names.{length}
 use Rattle.program_output.proofs.write_all.Given as goal
 
 abbrev pub invariant-loop-done : goal.invariant-loop-done

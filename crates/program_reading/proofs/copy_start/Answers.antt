@@ -1,5 +1,6 @@
 -- As many bytes are lent as are copied.
-use Rattle.kit.specs.Names.{◌≡◌, ◌∙◌, arith, length, length-take, rules}
+use Rattle.std.specs.Prelude.{◌≡◌}
+use Rattle.kit.specs.Names.{◌∙◌, arith, length, length-take, rules}
 use Rattle.program_reading.proofs.Beginnings.{fitting_still, begins_stored}
 use Rattle.program_reading.proofs.copy_start.Goals as goal
 

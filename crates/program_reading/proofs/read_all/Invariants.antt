@@ -1,5 +1,6 @@
 -- Each turn reads at least one byte more, and the room keeps its length.
-use Rattle.kit.specs.Names.{◌≡◌, ◌-◌, ◌≤◌, length}
+use Rattle.std.specs.Prelude.{◌≡◌, ◌-◌, ◌≤◌}
+use Rattle.kit.specs.Names.{length}
 use Rattle.program_reading.proofs.read_all.Given as goal
 
 abbrev pub invariant-loop-done : goal.invariant-loop-done

@@ -1,5 +1,6 @@
 -- The part that was lent is back behind the front, and the room keeps its length.
-use Rattle.kit.specs.Names.{◌≡◌, refl, sym, ◌+◌, ◌-◌, ◌≤◌, arith, length, length-take-le, rules}
+use Rattle.std.specs.Prelude.{◌≡◌, ◌+◌, ◌-◌, ◌≤◌}
+use Rattle.kit.specs.Names.{refl, sym, arith, length, length-take-le, rules}
 use borrow.Rule.Slice.PartMut.{put_mid, take_put}
 use Rattle.program_reading.proofs.Beginnings.{counts_ready, counts_none}
 use Rattle.program_reading.proofs.read_behind.Goals as goal

@@ -1,5 +1,6 @@
 -- Each turn reads one argument more.
-use Rattle.kit.specs.Names.{◌≡◌, ◌++◌, ◌+◌, ◌*◌, ◌-◌, ◌≤◌, length, take}
+use Rattle.std.specs.Prelude.{◌≡◌, ◌++◌, ◌+◌, ◌*◌, ◌-◌, ◌≤◌}
+use Rattle.kit.specs.Names.{length, take}
 use Rattle.rehearse_scripts.specs.Scripts.{numbers_at, arguments_of}
 use Rattle.rehearse_scripts.proofs.arguments.Given as goal
 

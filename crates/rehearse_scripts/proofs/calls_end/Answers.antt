@@ -1,4 +1,5 @@
-use Rattle.kit.specs.Names.{refl, ap, ℕ, ◌+◌, ◌*◌, arith}
+use Rattle.std.specs.Prelude.{◌+◌, ◌*◌}
+use Rattle.kit.specs.Names.{refl, ap, ℕ, arith}
 use Rattle.rehearse_scripts.proofs.Calls.{calls_next, calls_done}
 use Rattle.rehearse_scripts.proofs.calls_end.Goals as goal
 

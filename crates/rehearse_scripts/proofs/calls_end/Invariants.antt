@@ -1,5 +1,5 @@
 -- Each turn passes one call more.
-use Rattle.kit.specs.Names.{◌≡◌, ◌+◌, ◌*◌, ◌≤◌}
+use Rattle.std.specs.Prelude.{◌≡◌, ◌+◌, ◌*◌, ◌≤◌}
 use Rattle.rehearse_scripts.specs.Scripts.{calls_end}
 use Rattle.rehearse_scripts.proofs.calls_end.Given as goal
 

@@ -1,5 +1,6 @@
 -- Two bytes past the end read as 0.
-use Rattle.kit.specs.Names.{◌+◌, arith}
+use Rattle.std.specs.Prelude.{◌+◌}
+use Rattle.kit.specs.Names.{arith}
 use Rattle.file_bytes.proofs.ReadingSteps.{byte_at_past}
 use Rattle.rehearse_scripts.proofs.two_bytes_behind.Goals as goal
 

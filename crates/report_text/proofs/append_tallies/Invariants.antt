@@ -1,5 +1,6 @@
 -- The loop's invariant: the lines of the functions passed are appended.
-use Rattle.kit.specs.Names.{◌≡◌, ◌-◌, ◌≤◌, length, take}
+use Rattle.std.specs.Prelude.{◌≡◌, ◌-◌, ◌≤◌}
+use Rattle.kit.specs.Names.{length, take}
 use Rattle.definitions.specs.Basics.{flat_map}
 use Rattle.definitions.specs.Report.{tally_line}
 use Rattle.memory_append.specs.Append.{Appended}

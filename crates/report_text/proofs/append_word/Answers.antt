@@ -1,5 +1,6 @@
 -- The word, the number and the line's end.
-use Rattle.kit.specs.Names.{[], ◌∷◌}
+use Rattle.std.specs.Prelude.{◌∷◌}
+use Rattle.kit.specs.Names.{[]}
 use Rattle.definitions.specs.Report.{decimal}
 use Rattle.memory_append.proofs.Appending.{first_room, second_room, third_room, three_appended}
 use Rattle.report_text.proofs.append_word.Goals as goal

@@ -1,4 +1,5 @@
-use Rattle.kit.specs.Names.{ap, sym, ◌∙◌, ℕ, ◌+◌, arith}
+use Rattle.std.specs.Prelude.{◌+◌}
+use Rattle.kit.specs.Names.{ap, sym, ◌∙◌, ℕ, arith}
 use Rattle.report_order.specs.Counts.{ordered_tallies}
 use Rattle.report_total.specs.Totals.{total_of}
 use Rattle.report_total.proofs.Sums.{none_added, line_added}

@@ -1,5 +1,5 @@
 -- The loop's invariant: the counts of the lines passed are added up, at most 65,535 a line.
-use Rattle.kit.specs.Names.{◌≡◌, ◌*◌, ◌-◌, ◌≤◌}
+use Rattle.std.specs.Prelude.{◌≡◌, ◌*◌, ◌-◌, ◌≤◌}
 use Rattle.report_order.specs.Counts.{ordered_tallies}
 use Rattle.report_total.specs.Totals.{total_of}
 use Rattle.report_total.proofs.total_of.Given as goal

@@ -1,5 +1,6 @@
 -- No links at the start, in room for as many classes as there are owners' numbers.
-use Rattle.kit.specs.Names.{sym, ◌∙◌, ◌+◌, ◌/◌, arith, length, length-take-le}
+use Rattle.std.specs.Prelude.{◌+◌, ◌/◌}
+use Rattle.kit.specs.Names.{sym, ◌∙◌, arith, length, length-take-le}
 use Rattle.rules_statements.proofs.Judged.{column_long}
 use Rattle.rules_contract.proofs.function_fault.Goals as goal
 

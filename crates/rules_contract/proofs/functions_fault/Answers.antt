@@ -1,4 +1,5 @@
-use Rattle.kit.specs.Names.{◌∙◌, ◌+◌, ◌*◌, ◌≤◌, arith, length}
+use Rattle.std.specs.Prelude.{◌+◌, ◌*◌, ◌≤◌}
+use Rattle.kit.specs.Names.{◌∙◌, arith, length}
 use Rattle.file_decoded.specs.Slices.{number_at, parameters_from}
 use Rattle.rules_contract.proofs.Functions.{functions_start_law, functions_more, functions_done, own_parameters, own_ready}
 use Rattle.rules_contract.proofs.Passing.{fields_ready, nodes_ready, few_parameters_law, parameters_listed, root_there}

@@ -1,5 +1,5 @@
 -- The least fault and the column so far, with those of the functions ahead.
-use Rattle.kit.specs.Names.{◌-◌, ◌≤◌}
+use Rattle.std.specs.Prelude.{◌-◌, ◌≤◌}
 use Rattle.rules_contract.proofs.Functions.{FunctionsSo}
 use Rattle.rules_contract.proofs.functions_fault.Given as goal
 

@@ -1,5 +1,6 @@
 -- `rules_links::copy_classes` meets its contract: the classes copied so far are the same.
-use Rattle.kit.specs.Names.{◌-◌, get_or}
+use Rattle.std.specs.Prelude.{◌-◌}
+use Rattle.kit.specs.Names.{get_or}
 use Rattle.rules_links.proofs.Places.{UpTo}
 use Rattle.rules_links.proofs.copy_classes.Given as goal
 

@@ -1,5 +1,6 @@
 -- `rules_links::link` meets its contract: the classes passed are exchanged, those ahead are as before.
-use Rattle.kit.specs.Names.{◌-◌, get_or}
+use Rattle.std.specs.Prelude.{◌-◌}
+use Rattle.kit.specs.Names.{get_or}
 use Rattle.rules_links.specs.Classes.{exchanged}
 use Rattle.rules_links.proofs.Places.{UpTo}
 use Rattle.rules_links.proofs.link.Given as goal

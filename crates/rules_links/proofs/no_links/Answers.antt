@@ -1,4 +1,5 @@
-use Rattle.kit.specs.Names.{◌≡◌, refl, ℕ, ◌<◌, arith, length, get_or}
+use Rattle.std.specs.Prelude.{◌≡◌, ◌<◌}
+use Rattle.kit.specs.Names.{refl, ℕ, arith, length, get_or}
 use Rattle.rules_links.proofs.Places.{up_to_start, up_to_next}
 use Rattle.rules_links.proofs.Joining.{alone, classed}
 use Rattle.rules_links.proofs.no_links.Goals as goal

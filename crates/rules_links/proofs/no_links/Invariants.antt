@@ -1,5 +1,5 @@
 -- `rules_links::no_links` meets its contract: the classes set so far are their own indices.
-use Rattle.kit.specs.Names.{◌-◌}
+use Rattle.std.specs.Prelude.{◌-◌}
 use Rattle.rules_links.proofs.Places.{UpTo}
 use Rattle.rules_links.proofs.no_links.Given as goal
 

@@ -1,6 +1,7 @@
 -- `rules_meet::meet` meets its contract: first each pair of classes gets its last name, then each name gets that of its pair.
 -- A place of the table, in each loop.
-use Rattle.kit.specs.Names.{◌-◌, get_or}
+use Rattle.std.specs.Prelude.{◌-◌}
+use Rattle.kit.specs.Names.{get_or}
 use Rattle.rules_links.proofs.Places.{UpTo}
 use Rattle.rules_meet.proofs.Meeting.{pair_of, Lasts}
 use Rattle.rules_meet.proofs.meet.Given as goal

@@ -1,5 +1,6 @@
 -- Each turn shows one content more.
-use Rattle.kit.specs.Names.{◌≡◌, ◌≤◌, ◌-◌, ◌+◌, ◌*◌, ◌/◌, length, drop}
+use Rattle.std.specs.Prelude.{◌≡◌, ◌≤◌, ◌-◌, ◌+◌, ◌*◌, ◌/◌}
+use Rattle.kit.specs.Names.{length, drop}
 use Rattle.memory_buffer.specs.Buffer.{stored}
 use Rattle.ledger_contents.specs.Contents.{contents_of}
 use Rattle.view_item.specs.Items.{shown}

@@ -1,5 +1,6 @@
 -- `walk_commands::run` meets its contract. The invariant: what is left to walk completes, and ends, as the whole does.
-use Rattle.kit.specs.Names.{◌≡◌, ◌≤◌, length}
+use Rattle.std.specs.Prelude.{◌≡◌, ◌≤◌}
+use Rattle.kit.specs.Names.{length}
 use Rattle.write_trees.specs.Trees.{command_in}
 use Rattle.write_trees.specs.Table.{table_of}
 use Rattle.ledger_circuits.specs.Circuits.{constraints_from}

@@ -1,4 +1,5 @@
-use Rattle.kit.specs.Names.{◌+◌, arith}
+use Rattle.std.specs.Prelude.{◌+◌}
+use Rattle.kit.specs.Names.{arith}
 use Rattle.walk_contents.proofs.ConstraintParts.{set_holds, unset_holds}
 use Rattle.walk_constraints.proofs.constraint_holds.Goals as goal
 

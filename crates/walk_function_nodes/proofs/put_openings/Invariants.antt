@@ -1,5 +1,6 @@
 -- The loop's invariant: so many constraints are stored.
-use Rattle.kit.specs.Names.{◌≡◌, ◌-◌, ◌≤◌, length}
+use Rattle.std.specs.Prelude.{◌≡◌, ◌-◌, ◌≤◌}
+use Rattle.kit.specs.Names.{length}
 use Rattle.memory_buffer.specs.Buffer.{stored}
 use Rattle.walk_function_nodes.specs.Functions.{opening_numbers}
 use Rattle.walk_function_nodes.proofs.put_openings.Given as goal

@@ -1,5 +1,6 @@
 -- `walk_constraints::verify` meets its contract. The invariant: what is left to test holds just when all constraints do.
-use Rattle.kit.specs.Names.{◌≡◌, ◌+◌, ◌*◌, ◌≤◌, length}
+use Rattle.std.specs.Prelude.{◌≡◌, ◌+◌, ◌*◌, ◌≤◌}
+use Rattle.kit.specs.Names.{length}
 use Rattle.write_trees.specs.Table.{table_of}
 use Rattle.ledger_circuits.specs.Circuits.{all_hold, constraints_at, constraints_from}
 use Rattle.walk_verify.proofs.verify.Given as goal

@@ -1,4 +1,5 @@
-use Rattle.kit.specs.Names.{sym, ◌∙◌, ◌-◌, arith, length, rules}
+use Rattle.std.specs.Prelude.{◌-◌}
+use Rattle.kit.specs.Names.{sym, ◌∙◌, arith, length, rules}
 use borrow.Rule.Slice.PartMut.{put_mid, take_put}
 use Rattle.theory_laws.proofs.Records.{kind_as}
 use Rattle.rewrite_simple_statements.proofs.ByKind.{others_simple}

@@ -1,5 +1,5 @@
 -- Statements by the kind of their node, sequences, conditionals and branches: the node number falls.
-use Rattle.kit.specs.Names.{◌+◌, ◌*◌}
+use Rattle.std.specs.Prelude.{◌+◌, ◌*◌}
 use Rattle.write_bodies.proofs.+write_branch_write_branches_write_conditional_write_sequence_write_statement.Given as goal
 
 abbrev pub decreases-write_branch : goal.decreases-write_branch

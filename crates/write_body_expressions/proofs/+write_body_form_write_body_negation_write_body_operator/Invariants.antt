@@ -1,5 +1,5 @@
 -- A body's form by the kind of its node, operators and negations: the node number falls.
-use Rattle.kit.specs.Names.{◌+◌, ◌*◌}
+use Rattle.std.specs.Prelude.{◌+◌, ◌*◌}
 use Rattle.write_body_expressions.proofs.+write_body_form_write_body_negation_write_body_operator.Given as goal
 
 abbrev pub decreases-write_body_form : goal.decreases-write_body_form

@@ -1,5 +1,6 @@
 -- The loop's invariant: the bytes of the claims passed are appended, and those of the claims left are left.
-use Rattle.kit.specs.Names.{◌≡◌, ◌+◌, ◌*◌, length}
+use Rattle.std.specs.Prelude.{◌≡◌, ◌+◌, ◌*◌}
+use Rattle.kit.specs.Names.{length}
 use Rattle.write_claims.proofs.Sixes.{SixesLeft}
 use Rattle.write_claims.proofs.append_claims.Given as goal
 

@@ -1,4 +1,5 @@
-use Rattle.kit.specs.Names.{refl, ◌+◌, arith, rules}
+use Rattle.std.specs.Prelude.{◌+◌}
+use Rattle.kit.specs.Names.{refl, arith, rules}
 use Rattle.write_ends.proofs.Turns.{end_here, end_later, no_end}
 use Rattle.write_ends.proofs.find_end.Goals as goal
 

@@ -1,5 +1,6 @@
 -- Each turn passes an entry that is no end.
-use Rattle.kit.specs.Names.{◌-◌, ◌≤◌, length}
+use Rattle.std.specs.Prelude.{◌-◌, ◌≤◌}
+use Rattle.kit.specs.Names.{length}
 use Rattle.write_ends.proofs.Turns.{Same}
 use Rattle.write_ends.proofs.find_end.Given as goal
 

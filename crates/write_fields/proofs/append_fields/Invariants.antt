@@ -1,5 +1,6 @@
 -- The loop's invariant: the fields left are left to append.
-use Rattle.kit.specs.Names.{◌≡◌, ◌+◌, ◌*◌, ◌-◌, ◌≤◌, length}
+use Rattle.std.specs.Prelude.{◌≡◌, ◌+◌, ◌*◌, ◌-◌, ◌≤◌}
+use Rattle.kit.specs.Names.{length}
 use Rattle.memory_append.specs.Append.{Appending}
 use Rattle.write_fields.specs.Fields.{fields_from}
 use Rattle.write_fields.proofs.append_fields.Given as goal

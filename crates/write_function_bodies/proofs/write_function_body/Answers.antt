@@ -1,5 +1,6 @@
 -- The openings, the passage behind them and the sequences that nest them.
-use Rattle.kit.specs.Names.{sym, ◌-◌, arith, length}
+use Rattle.std.specs.Prelude.{◌-◌}
+use Rattle.kit.specs.Names.{sym, arith, length}
 use borrow.Rule.Slice.PartMut.{put_mid, take_put}
 use Rattle.write_function_bodies.proofs.Passages.{openings_ready, openings_fit, passage_ready, body_close, body_written}
 use Rattle.write_function_bodies.proofs.write_function_body.Goals as goal

@@ -1,5 +1,6 @@
 -- The count, the constraints of the private parameters, and those of the log.
-use Rattle.kit.specs.Names.{◌+◌, ◌/◌, arith, length}
+use Rattle.std.specs.Prelude.{◌+◌, ◌/◌}
+use Rattle.kit.specs.Names.{arith, length}
 use Rattle.definitions.specs.Basics.{two_bytes}
 use Rattle.write_claims.proofs.Sixes.{sixes_length}
 use Rattle.write_variables.specs.PerEntry.{count_tag}

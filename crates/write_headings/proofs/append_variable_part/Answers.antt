@@ -1,5 +1,5 @@
 -- The count, the reads of private parameters, and the variables of the log.
-use Rattle.kit.specs.Names.{◌+◌}
+use Rattle.std.specs.Prelude.{◌+◌}
 use Rattle.definitions.specs.Basics.{two_bytes}
 use Rattle.write_variables.specs.PerEntry.{per_entry}
 use Rattle.write_variables.specs.Variables.{variable_of}

@@ -1,5 +1,6 @@
 -- The loop's invariant: the claims left are left to append.
-use Rattle.kit.specs.Names.{◌≡◌, ◌-◌, ◌≤◌, length}
+use Rattle.std.specs.Prelude.{◌≡◌, ◌-◌, ◌≤◌}
+use Rattle.kit.specs.Names.{length}
 use Rattle.memory_append.specs.Append.{Appending}
 use Rattle.write_parameters.specs.Parameters.{opening_claims}
 use Rattle.write_parameters.proofs.append_opening_claims.Given as goal

@@ -1,5 +1,6 @@
 -- The loop's invariant: the parameters left are left to append.
-use Rattle.kit.specs.Names.{◌≡◌, ◌+◌, ◌*◌, length}
+use Rattle.std.specs.Prelude.{◌≡◌, ◌+◌, ◌*◌}
+use Rattle.kit.specs.Names.{length}
 use Rattle.memory_append.specs.Append.{Appending}
 use Rattle.write_parameters.specs.Parameters.{parameters_from}
 use Rattle.write_parameters.proofs.append_parameters.Given as goal

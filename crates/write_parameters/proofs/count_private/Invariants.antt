@@ -1,5 +1,5 @@
 -- The loop's invariant: those counted and those left are all.
-use Rattle.kit.specs.Names.{◌≡◌, ◌+◌, ◌*◌, ◌≤◌}
+use Rattle.std.specs.Prelude.{◌≡◌, ◌+◌, ◌*◌, ◌≤◌}
 use Rattle.write_parameters.specs.Parameters.{private_count}
 use Rattle.write_parameters.proofs.count_private.Given as goal
 

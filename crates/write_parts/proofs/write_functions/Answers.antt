@@ -1,4 +1,5 @@
-use Rattle.kit.specs.Names.{refl, ◌∙◌, ◌<◌, arith}
+use Rattle.std.specs.Prelude.{◌<◌}
+use Rattle.kit.specs.Names.{refl, ◌∙◌, arith}
 use Rattle.definitions.specs.ContractFile.{function_count}
 use Rattle.write_function_room.proofs.Room.{function_room, functions_few}
 use Rattle.write_parts.proofs.Parts.{none_put, places_fit, one_put, next_start, all_put}

@@ -1,5 +1,6 @@
 -- The loop's invariant: the functions before this one stand in the buffers.
-use Rattle.kit.specs.Names.{◌≡◌, ◌-◌, ◌≤◌, length}
+use Rattle.std.specs.Prelude.{◌≡◌, ◌-◌, ◌≤◌}
+use Rattle.kit.specs.Names.{length}
 use Rattle.file_accepted.specs.Functions.{function_start}
 use Rattle.write_parts.specs.Parts.{FunctionsPut}
 use Rattle.write_parts.proofs.write_functions.Given as goal

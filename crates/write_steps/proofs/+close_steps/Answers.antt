@@ -1,4 +1,5 @@
-use Rattle.kit.specs.Names.{◌∙◌, ◌-◌, arith}
+use Rattle.std.specs.Prelude.{◌-◌}
+use Rattle.kit.specs.Names.{◌∙◌, arith}
 use Rattle.write_steps.proofs.Closing.{closed_none, closed_next}
 use Rattle.write_steps.proofs.+close_steps.Goals as goal
 

@@ -1,4 +1,5 @@
-use Rattle.kit.specs.Names.{refl, ◌∙◌, ◌+◌, arith}
+use Rattle.std.specs.Prelude.{◌+◌}
+use Rattle.kit.specs.Names.{refl, ◌∙◌, arith}
 use Rattle.write_steps.proofs.Entries.{steps_none, steps_read, steps_other, readable_next, readable_inside, readable_few}
 use Rattle.write_steps.proofs.Turns.{room_same, put_same, put_none, room_step, room_root, root_fits, room_steps, put_first}
 use Rattle.write_steps.proofs.+put_steps.Goals as goal

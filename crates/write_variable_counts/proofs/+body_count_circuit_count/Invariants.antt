@@ -1,5 +1,5 @@
 -- The two counts meet their contracts, as a cycle: around it the node number falls, or a body's count asks for the same node's circuit.
-use Rattle.kit.specs.Names.{◌+◌, ◌*◌}
+use Rattle.std.specs.Prelude.{◌+◌, ◌*◌}
 use Rattle.write_variable_counts.proofs.+body_count_circuit_count.Given as goal
 
 abbrev pub decreases-body_count : goal.decreases-body_count

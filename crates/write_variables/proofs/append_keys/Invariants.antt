@@ -1,5 +1,6 @@
 -- The loop's invariant: the keys of the entries passed are appended and marked, and those of the entries left are left.
-use Rattle.kit.specs.Names.{◌≡◌, [], ◌-◌, ◌≤◌, length, drop}
+use Rattle.std.specs.Prelude.{◌≡◌, ◌-◌, ◌≤◌}
+use Rattle.kit.specs.Names.{[], length, drop}
 use Rattle.definitions.specs.Rewriting.{each_once}
 use Rattle.memory_append.specs.Append.{Appending}
 use Rattle.write_variables.specs.PerEntry.{per_entry}

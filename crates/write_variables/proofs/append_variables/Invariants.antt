@@ -1,5 +1,6 @@
 -- The loop's invariant: the variables of the entries passed are appended, and those of the entries left are left.
-use Rattle.kit.specs.Names.{◌≡◌, ◌-◌, ◌≤◌, length, drop}
+use Rattle.std.specs.Prelude.{◌≡◌, ◌-◌, ◌≤◌}
+use Rattle.kit.specs.Names.{length, drop}
 use Rattle.memory_append.specs.Append.{Appending}
 use Rattle.write_variables.specs.PerEntry.{per_entry}
 use Rattle.write_variables.specs.Variables.{variable_of}

@@ -1,5 +1,6 @@
 -- The loop's invariant: those counted and those left are all.
-use Rattle.kit.specs.Names.{◌≡◌, ◌+◌, ◌-◌, ◌≤◌, length, drop}
+use Rattle.std.specs.Prelude.{◌≡◌, ◌+◌, ◌-◌, ◌≤◌}
+use Rattle.kit.specs.Names.{length, drop}
 use Rattle.write_variables.specs.PerEntry.{per_entry, of_tag, count_tag}
 use Rattle.write_variables.proofs.count_tag.Given as goal
 

@@ -1,0 +1,8 @@
+-- The room suffices.
+use Rattle.kit.specs.Names.{subst}
+use Rattle.write_room.specs.Rooms.{Suffices}
+use Rattle.write_room.proofs.Room.{any_file_fits}
+use Rattle.compile.proofs.answer_any.Goals as goal
+
+pub answer_in-requires : goal.answer_in-requires
+answer_in-requires c = subst (Suffices _) c.written_room-out.ensures (any_file_fits c.args.file.now)
