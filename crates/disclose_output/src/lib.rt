@@ -12,6 +12,7 @@ ghost use Rattle.disclose_output.specs.Handing.{HandedOver};
 use memory_answer::Answer;
 
 // What refuses before anything is worked out: the call's own number, then that of a party that is none.
+#[tactic(auto, using(crate::proofs::Refusals::number_first), unfolding(definitions::specs::Basics::first_that_holds))]
 pub fn refusal(number: u8, party: u8) -> u8
     ensures { result ≡ or_else number (first_that_holds 21 (ltb 15 party ∷ [])) }
 {

@@ -10,7 +10,7 @@ use program_output::{not_text, print, tell, too_long};
 use program_reading::{read_from, read_on};
 use std::env::{Env, FillError};
 use std::fs::File;
-use std::io::{Error, ErrorKind};
+use std::io::Error;
 use std::str::from_utf8;
 
 // How many bytes were read, and whether there is an input at all: a failure was told, and so was a bad use of the program. The programs
@@ -73,10 +73,10 @@ fn none_begun(room: &[u8]) -> Beginning
     }
 }
 
-// What is told of an argument that cannot be had.
+// What is told of an argument that cannot be had: the system's number for one that is not there, or is too long.
 fn unread(why: FillError) -> Error {
     match why {
-        FillError::NotPresent => Error::from(ErrorKind::InvalidInput),
+        FillError::NotPresent => Error::from_raw_os_error(22),
         FillError::TooLong => too_long(),
     }
 }

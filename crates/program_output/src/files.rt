@@ -32,9 +32,9 @@ fn argument_room() -> [u8; 4096]
     [0; 4096]
 }
 
-// All of the bytes into the file that is open, down to its device.
-fn fill(file: &mut File, bytes: &[u8]) -> Result<(), Error> {
-    let done = write_all(file, bytes);
+// All of the bytes into a new file, down to its device. The file is closed then.
+fn fill(mut file: File, bytes: &[u8]) -> Result<(), Error> {
+    let done = write_all(&mut file, bytes);
     if let Some(error) = done.failed {
         return Err(error);
     }
@@ -56,17 +56,12 @@ fn is_replaceable(rt: &HostRuntime, name: &str) -> Result<(), Error> {
     }
 }
 
-// A new file with these bytes. One that cannot be filled is removed.
-fn create(rt: &HostRuntime, new_name: &str, bytes: &[u8]) -> Result<(), Error> {
-    let mut file = OpenOptions::new()
+// A file of this name that was not there before.
+fn create(rt: &HostRuntime, new_name: &str) -> Result<File, Error> {
+    OpenOptions::new()
         .write(true)
         .create_new(true)
-        .open(rt, new_name)?;
-    let filled = fill(&mut file, bytes);
-    if filled.is_err() {
-        let _removed = remove_file(rt, new_name);
-    }
-    filled
+        .open(rt, new_name)
 }
 
 // The new file gets its bytes, and then the name. Where that fails it is told and removed, and the name's own file is as it was.
@@ -75,8 +70,16 @@ fn replace(rt: &HostRuntime, program: &[u8], new_name: &str, name: &str, bytes: 
         tell(rt, program, b": cannot write ", name.as_bytes(), error);
         return false;
     }
-    if let Err(error) = create(rt, new_name, bytes) {
+    let file = match create(rt, new_name) {
+        Ok(file) => file,
+        Err(error) => {
+            tell(rt, program, b": cannot write ", new_name.as_bytes(), error);
+            return false;
+        }
+    };
+    if let Err(error) = fill(file, bytes) {
         tell(rt, program, b": cannot write ", new_name.as_bytes(), error);
+        let _removed = remove_file(rt, new_name);
         return false;
     }
     if let Err(error) = rename(rt, new_name, name) {

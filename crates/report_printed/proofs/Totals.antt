@@ -90,18 +90,21 @@ module _ (file : List ℕ) (out : List ℕ) where
     pub total_stands_last : take 6 (last_line (handed_out file out)) ≡ total_word
     total_stands_last = ap (take 6) (last_is first_line lines (total_word ++ decimal total) (handed_out file out) text_lines)
 
-    -- "the number of variables with origins 0 to 3 in the written file, counted there"
-    pub total_counts_the_file : number_in (last_line (handed_out file out)) ≡ total_in (written_file file)
+    total_read : number_in (last_line (handed_out file out)) ≡ total
     unfolding behind_space
-    total_counts_the_file =
+    total_read =
         ap number_in (last_is first_line lines (total_word ++ decimal total) (handed_out file out) text_lines)
         ∙ digits_read 20 total (omega (arith, largest_total file accepted))
+
+    -- "the number of variables with origins 0 to 3 in the written file, counted there"
+    pub total_counts_the_file : number_in (last_line (handed_out file out)) ≡ total_in (written_file file)
+    total_counts_the_file = total_read
 
     -- "the sum of the lines above"
     pub total_sums_the_lines : number_in (last_line (handed_out file out)) ≡ sum (map number_in (lines_above (handed_out file out)))
     total_sums_the_lines =
         let summed = total_is_sum (written_file file) ∙ sym (lines_total counts) in
-        total_counts_the_file ∙ summed ∙ sym (counts_read lines (omega (arith, largest_total file accepted)))
+        total_read ∙ summed ∙ sym (counts_read lines (omega (arith, largest_total file accepted)))
         ∙ ap (λ (ls : List (List ℕ)). sum (map number_in ls)) (sym (above_are first_line lines (total_word ++ decimal total) (handed_out file out) text_lines))
 
 -- What is printed for a refused file: one line, whose first word is another.
