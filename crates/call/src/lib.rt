@@ -38,13 +38,13 @@ fn after_call(
     let bytes = l.file;
     let shown = made.parameters;
     let held = l.places;
-    let set = filled(variables);
+    let set = filled::<1024>(variables);
     let mut after = Ledger {
         file: bytes,
         file_length: l.file_length,
         call: l.call + 1,
-        function: function,
-        caller: caller,
+        function,
+        caller,
         outcome: made.outcome,
         parameters: shown,
         parameter_count: made.parameter_count,
@@ -54,7 +54,7 @@ fn after_call(
         place_count: l.place_count,
     };
     if made.outcome == DONE {
-        let moved = filled(places);
+        let moved = filled::<1024>(places);
         after.places = moved;
         after.place_count = places.len() / 5;
     }
@@ -79,10 +79,7 @@ fn called_on(
     let caller = request.caller;
     let number = call_number(file, request, parameters, variables, places, arguments);
     if is_refused(number) {
-        return Called {
-            number: number,
-            ledger: l,
-        };
+        return Called { number, ledger: l };
     }
     let mut supplied = [0u32; 5120];
     let made = honest_call(
@@ -116,8 +113,8 @@ pub fn call(l: Ledger, function: u8, caller: u8, arguments: &[u32]) -> Called
             caller: l.caller,
             outcome: l.outcome,
         },
-        function: function,
-        caller: caller,
+        function,
+        caller,
     };
     let mut parameters = [0u32; 40];
     let shown = flat_parameters(l, &mut parameters[..]);

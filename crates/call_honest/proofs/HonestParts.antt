@@ -9,10 +9,9 @@ use Rattle.memory_buffer.proofs.Storing.{front_stored}
 use Rattle.file_accepted.proofs.Declarations.{parameters_count}
 use Rattle.theory_typing.proofs.WellFormed.{ledger_accepted}
 use Rattle.theory_typing.proofs.CallEnvironment.{call_well_formed, function_exists, argument_count}
-use Rattle.file_accepted.specs.Context.{nodes_in, parameters_in, scope_in, Source}
+use Rattle.file_accepted.specs.Context.{nodes_in, parameters_in, scope_in}
 use Rattle.file_accepted.specs.Functions.{function_start, root_at}
 use Rattle.file_accepted.proofs.Functions.{functions_count, function_in_law}
-use Rattle.file_accepted.proofs.Sources.{context_with}
 use Rattle.ledger_contents.specs.Contents.{contents_of}
 use Rattle.rewrite_log.specs.declared.Position.{Position}
 use Rattle.rewrite_log.specs.Entries.{Entries}
@@ -38,13 +37,12 @@ pub called_accepted : (l : Ledger) (function caller : ℕ) (arguments : List ℕ
 called_accepted l function caller arguments clear file same = ap check_number same ∙ ledger_accepted l (call_well_formed l function caller arguments clear)
 
 -- The log of a body.
-module _ (file : List ℕ) (at : ℕ) (source : List ℕ) (private : ℕ) (log : List ℕ) (room : LogRoom file at source private log) where
-  pub log_ready : Ready file at source (root_at file at) log (starting_at private) (statement_of file at 0 (root_at file at))
+module _ (file : List ℕ) (at : ℕ) (private : ℕ) (log : List ℕ) (room : LogRoom file at private log) where
+  pub log_ready : Ready file (root_at file at) log (starting_at private) (statement_of file at 0 (root_at file at))
   log_ready =
       rw room.private_is
       (record {
         inside = room.room.root;
-        context = context_with file at source room.room.context room.held;
         room = record { space = omega (arith, room.room.events, room.space); few = omega (arith, room.room.variables) };
       })
 
@@ -97,13 +95,11 @@ module _ (l : Ledger) (function caller : ℕ) (arguments file : List ℕ) (at : 
       let context = room_here.context in
       record { place = record { near = context.near_function; few = context.few_parameters }; count = arguments_counted; room = long }
 
-  module _ (source : List ℕ) (held : Source file source) where
-    pub log_room : (private : ℕ) (log : List ℕ) → private ≡ private_in file at → 5120 ≤ length log → LogRoom file at source private log
-    log_room private log counted space = record { held = held; room = room_here; private_is = counted; space = space }
+  pub log_room : (private : ℕ) (log : List ℕ) → private ≡ private_in file at → 5120 ≤ length log → LogRoom file at private log
+  log_room private log counted space = record { room = room_here; private_is = counted; space = space }
 
-    pub slots_room : (slots : List ℕ) → 1024 ≤ length slots → SlotsRoom file at source slots
-    slots_room slots space =
-        record { context = context_with file at source room_here.context held; root = room_here.root; room = omega (arith, room_here.variables) }
+  pub slots_room : (slots : List ℕ) → 1024 ≤ length slots → SlotsRoom file at slots
+  slots_room slots space = record { root = room_here.root; room = omega (arith, room_here.variables) }
 
   pub given_honest : (next : ℕ) (given : List Content) → next ≡ suc l.call → given ≡ honest_parameters caller next 0 (parameters_in file at) arguments
       → given ≡ honest_parameters_of l function caller arguments
@@ -118,17 +114,18 @@ module _ (l : Ledger) (function caller : ℕ) (arguments file : List ℕ) (at : 
   pub slots_few : (numbers before after : List ℕ) (made : ℕ) → SlotsPut file at arguments caller numbers before after made → made ≤ 1024
   slots_few numbers before after made put = omega (arith, put.count, room_here.variables)
 
-pub opened_by : (l : Ledger) (function caller : ℕ) (arguments file : List ℕ) (at : ℕ) (source places numbers : List ℕ) (private : ℕ)
-    → Placed l function caller arguments file at source places private → numbers ≡ map opened_number (contents_of places)
-    → Opened l function caller arguments file at source numbers private
-opened_by l function caller arguments file at source places numbers private placed opened =
-    record { called = placed.called; held = placed.held; opened = opened ∙ ap (map opened_number) placed.stand; private_is = placed.private_is }
+pub opened_by : (l : Ledger) (function caller : ℕ) (arguments file : List ℕ) (at : ℕ) (places numbers : List ℕ) (private : ℕ)
+    → Placed l function caller arguments file at places private → numbers ≡ map opened_number (contents_of places)
+    → Opened l function caller arguments file at numbers private
+opened_by l function caller arguments file at places numbers private placed opened =
+    record { called = placed.called; opened = opened ∙ ap (map opened_number) placed.stand; private_is = placed.private_is }
 
 -- The numbers that are told on opened places are those worked out.
-pub worked_out_law : (l : Ledger) (function caller : ℕ) (arguments file : List ℕ) (at : ℕ) (source numbers log : List ℕ) (private : ℕ) (addresses : List ℕ)
-    → Told l function caller arguments file at source numbers log private addresses → (before slots : List ℕ) (made : ℕ)
+pub worked_out_law : (l : Ledger) (function caller : ℕ) (arguments file : List ℕ) (at : ℕ) (numbers log : List ℕ) (private : ℕ)
+    (addresses : List ℕ)
+    → Told l function caller arguments file at numbers log private addresses → (before slots : List ℕ) (made : ℕ)
     → SlotsPut file at arguments caller numbers before slots made → WorkedOut l function caller arguments file at log private (take made slots) addresses
-worked_out_law l function caller arguments file at source numbers log private addresses told before slots made put =
+worked_out_law l function caller arguments file at numbers log private addresses told before slots made put =
     let opened = told.known.opened in
     record {
       called = told.known.called;

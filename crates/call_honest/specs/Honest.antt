@@ -3,7 +3,7 @@ use Rattle.std.specs.Prelude.{◌≡◌, ◌*◌, ◌≤◌}
 use Rattle.kit.specs.Names.{List, map, ℕ, length, take}
 use Rattle.definitions.specs.Original.{address_in}
 use Rattle.definitions.specs.Ledger.{Ledger, opened_number, call_number, honest_parameters_of, honest_variables_of}
-use Rattle.file_accepted.specs.Context.{nodes_in, scope_in, Source}
+use Rattle.file_accepted.specs.Context.{nodes_in, scope_in}
 use Rattle.file_accepted.specs.Functions.{function_start}
 use Rattle.rewrite_log.specs.Entries.{Entries}
 use Rattle.ledger_contents.specs.Contents.{contents_of}
@@ -19,30 +19,25 @@ pub record Called (l : Ledger) (function caller : ℕ) (arguments file : List �
   pub same_file : file ≡ l.file
   pub begins : at ≡ function_start file function
 
--- The nodes of its file are decoded, and the ledger's places stand apart.
-pub record Placed (l : Ledger) (function caller : ℕ) (arguments file : List ℕ) (at : ℕ) (source places : List ℕ) (private : ℕ) :
-    Type 0 where
+-- The ledger's places stand apart.
+pub record Placed (l : Ledger) (function caller : ℕ) (arguments file : List ℕ) (at : ℕ) (places : List ℕ) (private : ℕ) : Type 0 where
   pub called : Called l function caller arguments file at
-  pub held : Source file source
   pub stand : contents_of places ≡ l.places
   pub private_is : private ≡ private_in file at
 
 -- There is a ledger on which the call is made.
-pub record PlacedOnce (function caller : ℕ) (arguments file : List ℕ) (at : ℕ) (source places : List ℕ) (private : ℕ) : Type 0 where
+pub record PlacedOnce (function caller : ℕ) (arguments file : List ℕ) (at : ℕ) (places : List ℕ) (private : ℕ) : Type 0 where
   pub ledger : Ledger
-  pub known : Placed ledger function caller arguments file at source places private
+  pub known : Placed ledger function caller arguments file at places private
 
 -- The places' numbers are those of their contents opened.
-pub record Opened (l : Ledger) (function caller : ℕ) (arguments file : List ℕ) (at : ℕ) (source numbers : List ℕ) (private : ℕ) :
-    Type 0 where
+pub record Opened (l : Ledger) (function caller : ℕ) (arguments file : List ℕ) (at : ℕ) (numbers : List ℕ) (private : ℕ) : Type 0 where
   pub called : Called l function caller arguments file at
-  pub held : Source file source
   pub opened : numbers ≡ map opened_number l.places
   pub private_is : private ≡ private_in file at
 
 -- The log of a function's body fits.
-pub record LogRoom (file : List ℕ) (at : ℕ) (source : List ℕ) (private : ℕ) (log : List ℕ) : Type 0 where
-  pub held : Source file source
+pub record LogRoom (file : List ℕ) (at : ℕ) (private : ℕ) (log : List ℕ) : Type 0 where
   pub room : FunctionRoom file at 0 0
   pub private_is : private ≡ private_in file at
   pub space : 5120 ≤ length log
@@ -53,16 +48,16 @@ pub record LogPut (file : List ℕ) (at : ℕ) (log : List ℕ) (r : ℕ) : Type
   pub fits : r ≤ 5120
 
 -- On opened places: the entries of the body's events, and the address of each name.
-pub record Told (l : Ledger) (function caller : ℕ) (arguments file : List ℕ) (at : ℕ) (source numbers log : List ℕ)
+pub record Told (l : Ledger) (function caller : ℕ) (arguments file : List ℕ) (at : ℕ) (numbers log : List ℕ)
     (private : ℕ) (addresses : List ℕ) : Type 0 where
-  pub known : Opened l function caller arguments file at source numbers private
+  pub known : Opened l function caller arguments file at numbers private
   pub entries : Entries (nodes_in file) (events_in file at) log
   pub addressed : Addressed file at caller arguments numbers addresses
 
-pub record ToldOnce (function caller : ℕ) (arguments file : List ℕ) (at : ℕ) (source numbers log : List ℕ)
+pub record ToldOnce (function caller : ℕ) (arguments file : List ℕ) (at : ℕ) (numbers log : List ℕ)
     (private : ℕ) (addresses : List ℕ) : Type 0 where
   pub ledger : Ledger
-  pub told : Told ledger function caller arguments file at source numbers log private addresses
+  pub told : Told ledger function caller arguments file at numbers log private addresses
 
 -- The numbers that the original works out for the variables, and the address of each name, on the places opened.
 pub record WorkedOut (l : Ledger) (function caller : ℕ) (arguments file : List ℕ) (at : ℕ) (log : List ℕ) (private : ℕ)

@@ -12,7 +12,8 @@ ghost use Rattle.call_honest.specs.Honest.{Placed, PlacedOnce, LogRoom, LogPut, 
 
 use call_numbers::{Request, serial_call};
 use call_with::{Made, call_with};
-use file_decoded::node_room;
+use file_accepted::CheckedFunction;
+use file_decoded::{NODE_NUMBERS, numbers_room};
 use file_functions::function_start;
 use file_kinds::PARAMETER_CODES_END;
 use file_source::decode_source;
@@ -23,10 +24,9 @@ use ledger_numbers::opened_numbers;
 use rewrite_statements::function_log;
 use write_parameters::count_private;
 
-// The function that is called, where it begins, who calls it, the number of the call, and how many of its parameters are private.
+// The number of the function that is called, who calls it, the number of the call, and how many of its parameters are private.
 #[derive(Clone, Copy)]
 struct Called {
-    function_at: usize,
     function: u8,
     caller: u8,
     call: u16,
@@ -34,50 +34,34 @@ struct Called {
 }
 
 // The events of the function's body, which tell its variables.
-fn log_body(
-    file: &[u8],
-    function_at: usize,
-    source: &[u16],
-    private: usize,
-    log: &mut [u16],
-) -> usize
-    requires { LogRoom file.now function_at source.now private log.old }
-    ensures { LogPut file.now function_at log.new result }
+fn log_body(function: &CheckedFunction, private: usize, log: &mut [u16]) -> usize
+    requires { LogRoom function.now.file.now function.now.at private log.old }
+    ensures { LogPut function.now.file.now function.now.at log.new result }
 {
-    let end = function_log(file, function_at, source, private, log);
+    let end = function_log(function, private, log);
     end.at
 }
 
 // The contents of the variables, from the number that the original works out for each. The places' numbers are used up.
 fn supply_logged(
-    file: &[u8],
+    function: &CheckedFunction,
     called: Called,
-    source: &[u16],
     arguments: &[u32],
     numbers: &mut [u32],
     log: &[u16],
     addresses: &[u32],
     supplied: &mut [u32],
 ) -> usize
-    requires { (ToldOnce called.function called.caller arguments.now file.now called.function_at source.now
+    requires { (ToldOnce called.function called.caller arguments.now function.now.file.now function.now.at
         numbers.old log.now called.private addresses.now) × (length supplied.old ≡ 5120) }
-    ensures { (l : Ledger) → Told l called.function called.caller arguments.now file.now
-        called.function_at source.now numbers.old log.now called.private
+    ensures { (l : Ledger) → Told l called.function called.caller arguments.now function.now.file.now
+        function.now.at numbers.old log.now called.private
         addresses.now → called.call ≡ suc l.call
         → Flat (honest_variables_of l called.function called.caller arguments.now) supplied.new 1024 result }
 {
-    let function_at = called.function_at;
     let caller = called.caller;
     let mut slots = [0u64; 1024];
-    let made = honest_slots(
-        file,
-        function_at,
-        source,
-        numbers,
-        arguments,
-        caller,
-        &mut slots[..],
-    );
+    let made = honest_slots(function, numbers, arguments, caller, &mut slots[..]);
     let end = 5 * made;
     put_variables(
         log,
@@ -92,49 +76,46 @@ fn supply_logged(
 
 // The contents of the parameters and of the variables, on the places opened.
 fn supply(
-    file: &[u8],
+    function: &CheckedFunction,
     called: Called,
-    source: &[u16],
     arguments: &[u32],
     places: &[u32],
     numbers: &mut [u32],
     given: &mut [u32],
     supplied: &mut [u32],
 ) -> usize
-    requires { (PlacedOnce called.function called.caller arguments.now file.now called.function_at source.now
+    requires { (PlacedOnce called.function called.caller arguments.now function.now.file.now function.now.at
         places.now called.private) × (length numbers.old ≡ length places.now / 5)
         × (length given.old ≡ 40) × (length supplied.old ≡ 5120) }
-    ensures { (l : Ledger) → Placed l called.function called.caller arguments.now file.now
-        called.function_at source.now places.now called.private → called.call ≡ suc l.call
+    ensures { (l : Ledger) → Placed l called.function called.caller arguments.now function.now.file.now
+        function.now.at places.now called.private → called.call ≡ suc l.call
         → Supplied l called.function called.caller arguments.now given.new supplied.new result }
 {
-    let function_at = called.function_at;
     let caller = called.caller;
     let size = 5 * arguments.len();
     opened_numbers(places, numbers);
     let mut addresses = [0u32; PARAMETER_CODES_END];
     put_addresses(
-        file,
-        function_at,
+        function.file,
+        function.at,
         caller,
         arguments,
         numbers,
         &mut addresses[..],
     );
     put_parameters(
-        file,
-        function_at,
+        function.file,
+        function.at,
         caller,
         called.call,
         arguments,
         &mut given[..size],
     );
     let mut log = [0u16; 5120];
-    let logged = log_body(file, function_at, source, called.private, &mut log[..]);
+    let logged = log_body(function, called.private, &mut log[..]);
     supply_logged(
-        file,
+        function,
         called,
-        source,
         arguments,
         numbers,
         &log[..logged],
@@ -168,25 +149,28 @@ pub fn honest_call(
     let last = request.last;
     let call = serial_call(last.call);
     let function_at = function_start(file, function);
-    let mut room = node_room();
+    let mut room = numbers_room::<NODE_NUMBERS>();
     let count = decode_source(file, &mut room[..]);
+    let checked = CheckedFunction {
+        file,
+        at: function_at,
+        source: &room[..count],
+    };
     let shown = arguments.len();
     let private = count_private(file, function_at + 1, shown);
     let called = Called {
-        function_at: function_at,
-        function: function,
-        caller: caller,
-        call: call,
-        private: private,
+        function,
+        caller,
+        call,
+        private,
     };
     let mut given = [0u32; 40];
     let size = 5 * shown;
     let mut numbers = [0u32; 1024];
     let many = places.len() / 5;
     let set = supply(
-        file,
+        &checked,
         called,
-        &room[..count],
         arguments,
         places,
         &mut numbers[..many],
@@ -194,9 +178,7 @@ pub fn honest_call(
         supplied,
     );
     call_with(
-        file,
-        function_at,
-        &room[..count],
+        &checked,
         caller,
         &given[..size],
         places,

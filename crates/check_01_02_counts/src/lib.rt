@@ -25,14 +25,14 @@ fn many_parameters(file: &[u8], from: usize, count: usize) -> bool
     ensures { result ≡ any (λ f. ltb 8 (length f.parameters)) (function_records count file.now from) }
 {
     let mut at = from;
-    let mut left = count;
-    let mut many = false;
-    while 0 < left {
-        many = many | (8 < byte_at(file, at));
+    for _ in 0..count {
+        let many = 8 < byte_at(file, at);
+        if many {
+            return true;
+        }
         at = function_end(file, at);
-        left -= 1;
     }
-    many
+    false
 }
 
 // "2. A count is off its limits."

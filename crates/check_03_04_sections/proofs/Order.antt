@@ -1,11 +1,11 @@
--- An owner code and a function's parameters as code asks of them, and the first of the sentences 3 and 4 that holds.
-use Rattle.std.specs.Prelude.{◌≡◌, ◌&&◌, ◌||◌, ◌∷◌, ◌+◌, ◌*◌, ◌-◌, ◌/◌, ◌%◌, ◌≤◌}
-use Rattle.kit.specs.Names.{Bool, true, false, cond, not, List, [], ℕ, arith, eqb, leb, length}
+-- An owner code as code asks of it, and the first of the sentences 3 and 4 that holds.
+use Rattle.std.specs.Prelude.{◌≡◌, ◌&&◌, ◌||◌, ◌∷◌, ◌-◌, ◌/◌}
+use Rattle.kit.specs.Names.{Bool, true, false, cond, not, List, [], ℕ, eqb, leb, length}
 use Rattle.definitions.specs.Basics.{any, any_numbered, first_that_holds}
 use Rattle.definitions.specs.ContractFile.{field_owner_of_code}
 use Rattle.definitions.specs.Numbers.{field_of_declared_owner, outside_tables, names_nothing}
 use Rattle.file_children.proofs.Truth.{or-false}
-use Rattle.file_decoded.specs.Slices.{number_at, fields_from, functions_from, nodes_from, sections_from, ParametersInside}
+use Rattle.file_decoded.specs.Slices.{fields_from, functions_from, nodes_from, sections_from}
 use Rattle.file_decoded.proofs.Records.{fields_length, nodes_length}
 use Rattle.check_03_declarations.specs.Outside.{field_outside, function_outside, node_outside}
 use Rattle.check_04_nodes.specs.Naming.{owner_names_nothing, root_names_nothing, node_names_nothing}
@@ -16,12 +16,6 @@ unfolding any
 owner_asked count owner true b e f = rw e
 owner_asked count owner false true e f = rw (e, f)
 owner_asked count owner false false e f = rw (e, f, or-false (leb count (owner - 16)))
-
-pub inside_at : (functions parameters : List ℕ) → ParametersInside functions parameters → (at : ℕ) → at % 3 ≡ 0 → at + 3 ≤ length functions
-    → number_at functions at + 2 * number_at functions (at + 1) ≤ length parameters
-inside_at functions parameters inside at whole h =
-    let e : 3 * (at / 3) ≡ at = omega arith in
-    rw e at (inside.each (at / 3) (omega arith))
 
 pub first_of_two : (fields functions parameters nodes : List ℕ) (a b c d e f : Bool)
     → (a ≡ any field_outside (fields_from (length fields / 3) fields 0))

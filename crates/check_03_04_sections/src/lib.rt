@@ -5,14 +5,15 @@ ghost use Rattle.std.specs.Prelude.{◌≡◌, ◌∷◌, ◌/◌};
 ghost use Rattle.kit.specs.Names.{[], length};
 ghost use Rattle.definitions.specs.Basics.{any, any_numbered, first_that_holds};
 ghost use Rattle.definitions.specs.Numbers.{outside_tables, names_nothing};
-ghost use Rattle.file_decoded.specs.Slices.{fields_from, functions_from, nodes_from, sections_from, ParametersInside};
+ghost use Rattle.file_decoded.specs.Slices.{fields_from, functions_from, nodes_from, ParametersInside};
+ghost use Rattle.file_decoded.specs.Sections.{sections_held};
 ghost use Rattle.check_03_declarations.specs.Outside.{field_outside, function_outside, node_outside};
 ghost use Rattle.check_04_nodes.specs.Naming.{owner_names_nothing, root_names_nothing, node_names_nothing};
 
 use check_03_declarations::{field_in_tables, parameters_outside};
 use check_03_nodes::node_in_tables;
 use check_04_nodes::{final_number, node_names_nothing};
-use file_decoded::{node_from, number_from};
+use file_decoded::{DecodedSections, node_from, number_from};
 use file_kinds::{EVERYONE_CODE, KEY_CODE};
 
 // What is noted of a section: something in it is outside the tables, or names nothing.
@@ -28,24 +29,17 @@ fn note_fields(fields: &[u16]) -> Noted
         (fields_from (length fields.now / 3) fields.now 0)) }
 {
     let count = fields.len() / 3;
-    let mut at: usize = 0;
-    let mut left = count;
     let mut outside = false;
     let mut nothing = false;
-    while 0 < left {
-        let shape = number_from(fields, at);
-        let data_type = number_from(fields, at + 1);
-        let owner = number_from(fields, at + 2);
+    for i in 0..count {
+        let shape = number_from(fields, 3 * i);
+        let data_type = number_from(fields, 3 * i + 1);
+        let owner = number_from(fields, 3 * i + 2);
         outside = outside | !field_in_tables(shape, data_type, owner);
         let names_field = (owner != EVERYONE_CODE) & (owner != KEY_CODE);
         nothing = nothing | names_field & (count <= final_number(owner));
-        at += 3;
-        left -= 1;
     }
-    Noted {
-        outside: outside,
-        nothing: nothing,
-    }
+    Noted { outside, nothing }
 }
 
 fn note_functions(functions: &[u16], parameters: &[u16], nodes: usize) -> Noted
@@ -55,23 +49,16 @@ fn note_functions(functions: &[u16], parameters: &[u16], nodes: usize) -> Noted
         × (result.nothing ≡ any (root_names_nothing nodes)
         (functions_from parameters.now (length functions.now / 3) functions.now 0)) }
 {
-    let mut at: usize = 0;
-    let mut left = functions.len() / 3;
     let mut outside = false;
     let mut nothing = false;
-    while 0 < left {
-        let first = number_from(functions, at);
-        let own = number_from(functions, at + 1);
-        let root = number_from(functions, at + 2);
+    for i in 0..functions.len() / 3 {
+        let first = number_from(functions, 3 * i);
+        let own = number_from(functions, 3 * i + 1);
+        let root = number_from(functions, 3 * i + 2);
         outside = outside | parameters_outside(parameters, first, own);
         nothing = nothing | (nodes <= root);
-        at += 3;
-        left -= 1;
     }
-    Noted {
-        outside: outside,
-        nothing: nothing,
-    }
+    Noted { outside, nothing }
 }
 
 fn note_nodes(nodes: &[u16], fields: usize) -> Noted
@@ -79,37 +66,32 @@ fn note_nodes(nodes: &[u16], fields: usize) -> Noted
         × (result.nothing ≡ any_numbered (node_names_nothing fields) 0
         (nodes_from (length nodes.now / 5) nodes.now 0)) }
 {
-    let mut at: usize = 0;
-    let mut left = nodes.len() / 5;
-    let mut n: usize = 0;
     let mut outside = false;
     let mut nothing = false;
-    while 0 < left {
-        let node = node_from(nodes, at);
+    for n in 0..nodes.len() / 5 {
+        let node = node_from(nodes, 5 * n);
         outside = outside | !node_in_tables(node);
         nothing = nothing | node_names_nothing(fields, n, node);
-        at += 5;
-        left -= 1;
-        n += 1;
     }
-    Noted {
-        outside: outside,
-        nothing: nothing,
-    }
+    Noted { outside, nothing }
 }
 
 // "3. A shape, type, owner code, kind, operator, constant or unused part is outside the tables above."
 // "4. A field number, in owner codes too, names nothing, a root is no node, or a child's number isn't below its parent's."
-pub fn tables_and_names(fields: &[u16], functions: &[u16], parameters: &[u16], nodes: &[u16]) -> u8
-    requires { ParametersInside functions.now parameters.now }
+pub fn tables_and_names(sections: &DecodedSections) -> u8
+    requires { ParametersInside sections.now.functions.now sections.now.parameters.now }
     ensures { result ≡ first_that_holds 3
-        (outside_tables (sections_from fields.now functions.now parameters.now nodes.now)
-        ∷ names_nothing (sections_from fields.now functions.now parameters.now nodes.now)
+        (outside_tables (sections_held sections.now)
+        ∷ names_nothing (sections_held sections.now)
         ∷ []) }
 {
-    let of_fields = note_fields(fields);
-    let of_functions = note_functions(functions, parameters, nodes.len() / 5);
-    let of_nodes = note_nodes(nodes, fields.len() / 3);
+    let of_fields = note_fields(sections.fields);
+    let of_functions = note_functions(
+        sections.functions,
+        sections.parameters,
+        sections.nodes.len() / 5,
+    );
+    let of_nodes = note_nodes(sections.nodes, sections.fields.len() / 3);
     if of_fields.outside | of_functions.outside | of_nodes.outside {
         return 3;
     }

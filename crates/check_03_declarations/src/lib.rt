@@ -34,15 +34,12 @@ pub fn parameters_outside(parameters: &[u16], from: usize, count: usize) -> bool
     requires { from + 2 * count ≤ length parameters.now }
     ensures { result ≡ any parameter_outside (parameters_from count parameters.now from) }
 {
-    let mut at = from;
-    let mut left = count;
-    let mut outside = false;
-    while 0 < left {
-        let data_type = number_from(parameters, at);
-        let owner = number_from(parameters, at + 1);
-        outside = outside | !((data_type <= ADDRESS) & (owner <= CALLER_CODE));
-        at += 2;
-        left -= 1;
+    for i in 0..count {
+        let data_type = number_from(parameters, from + 2 * i);
+        let owner = number_from(parameters, from + 2 * i + 1);
+        if !((data_type <= ADDRESS) & (owner <= CALLER_CODE)) {
+            return true;
+        }
     }
-    outside
+    false
 }

@@ -2,21 +2,21 @@
 #![tactic(auto)]
 
 ghost use Rattle.std.specs.Prelude.{◌≡◌};
-ghost use Rattle.file_decoded.specs.Slices.{sections_from};
+ghost use Rattle.file_decoded.specs.Sections.{sections_held};
 ghost use Rattle.check_03_to_07.specs.Shape.{sections_number, Held};
 
 use check_03_04_sections::tables_and_names;
 use check_05_to_07::uses_depth_sorts;
+use file_decoded::DecodedSections;
 
 // The first of the sentences 3 to 7 that holds of the sections that four slices hold, or 0.
-pub fn sections_number(fields: &[u16], functions: &[u16], parameters: &[u16], nodes: &[u16]) -> u8
-    requires { Held functions.now parameters.now nodes.now }
-    ensures { result ≡ sections_number (sections_from fields.now functions.now
-        parameters.now nodes.now) }
+pub fn sections_number(sections: &DecodedSections) -> u8
+    requires { Held sections.now.functions.now sections.now.parameters.now sections.now.nodes.now }
+    ensures { result ≡ sections_number (sections_held sections.now) }
 {
-    let number = tables_and_names(fields, functions, parameters, nodes);
+    let number = tables_and_names(sections);
     if number != 0 {
         return number;
     }
-    uses_depth_sorts(functions, nodes)
+    uses_depth_sorts(sections.functions, sections.nodes)
 }

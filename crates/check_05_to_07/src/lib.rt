@@ -32,22 +32,16 @@ fn look_at_children(nodes: &[u16], at: usize, counts: &mut [u16; 512], depths: &
 {
     let kind = number_from(nodes, at);
     let expressions = expression_count(kind);
-    let mut left = child_count(kind);
-    let mut i: usize = 0;
+    let children = child_count(kind);
     let mut deepest: usize = 0;
     let mut wrong = false;
-    while 0 < left {
+    for i in 0..children {
         let child = number_from(nodes, at + 2 + i);
         count_use(counts, child);
         deepest = larger(deepest, depth_of(depths, child));
         wrong = wrong | !has_sort(nodes, i < expressions, child);
-        i += 1;
-        left -= 1;
     }
-    Seen {
-        deepest: deepest,
-        wrong: wrong,
-    }
+    Seen { deepest, wrong }
 }
 
 // Counts the uses of each node's children, notes each node's depth, and tells whether some child is of another sort than is due.
@@ -61,17 +55,11 @@ fn look_at_nodes(nodes: &[u16], counts: &mut [u16; 512], depths: &mut [u16; 512]
         × (Chains (nodes_in nodes.now) (length nodes.now / 5) depths.new)
         × (result ≡ any (parts_wrong (nodes_in nodes.now)) (nodes_in nodes.now)) }
 {
-    let mut at: usize = 0;
-    let mut left = nodes.len() / 5;
-    let mut n: usize = 0;
     let mut wrong = false;
-    while 0 < left {
-        let seen = look_at_children(nodes, at, counts, depths);
+    for n in 0..nodes.len() / 5 {
+        let seen = look_at_children(nodes, 5 * n, counts, depths);
         depths[n] = (seen.deepest + 1) as u16;
         wrong = wrong | seen.wrong;
-        at += 5;
-        left -= 1;
-        n += 1;
     }
     wrong
 }

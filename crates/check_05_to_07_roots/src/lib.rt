@@ -35,17 +35,13 @@ pub fn look_at_roots(
         (functions_from parameters (length functions.now / 3) functions.now 0))
         ∷ [])) }
 {
-    let mut at: usize = 0;
-    let mut left = functions.len() / 3;
     let mut deep = false;
     let mut wrong = noted;
-    while 0 < left {
-        let root = number_from(functions, at + 2);
+    for i in 0..functions.len() / 3 {
+        let root = number_from(functions, 3 * i + 2);
         count_use(counts, root);
         deep = deep | (64 < depth_of(depths, root));
         wrong = wrong | !has_sort(nodes, false, root);
-        at += 3;
-        left -= 1;
     }
     if deep {
         return 6;

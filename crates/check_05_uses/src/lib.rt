@@ -20,13 +20,5 @@ pub fn some_other_than_one(counts: &[u16; 512], count: usize) -> bool
     requires { count ≤ 512 }
     ensures { result ≡ any_from (other_than_one counts.now) 0 count }
 {
-    let mut n: usize = 0;
-    let mut left = count;
-    let mut other = false;
-    while 0 < left {
-        other = other | (counts[n] != 1);
-        n += 1;
-        left -= 1;
-    }
-    other
+    counts[..count].iter().any(|uses| *uses != 1)
 }

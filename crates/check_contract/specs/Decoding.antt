@@ -8,6 +8,7 @@ use Rattle.definitions.specs.Numbers.{contract_sentences}
 use Rattle.file_bytes.specs.declared.Layout.{Layout}
 use Rattle.file_bytes.specs.Layout.{IsLayout}
 use Rattle.file_decoded.specs.Slices.{Shaped, ParametersInside, sections_from}
+use Rattle.file_decoded.specs.declared.DecodedSections.{DecodedSections}
 use Rattle.file_decoder.specs.Decoding.{Decodable}
 
 unfoldable pub contract_number : Sections → ℕ
@@ -26,6 +27,9 @@ pub record Held (fields functions parameters nodes owners : List ℕ) : Type 0 w
   pub few_fields : length fields ≤ 192
   pub few_parameters : any (λ r. ltb 8 (length r.parameters)) (sections_from fields functions parameters nodes).functions ≡ false
   pub column : length nodes / 5 ≤ length owners
+
+abbrev pub HeldIn : DecodedSections → List ℕ → Type 0
+HeldIn sections owners = Held sections.fields.now sections.functions.now sections.parameters.now sections.nodes.now owners
 
 -- The same before the file is decoded into them.
 pub record Room (file : List ℕ) (l : Layout) (fields functions parameters nodes owners : List ℕ) : Type 0 where

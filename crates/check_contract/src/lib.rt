@@ -7,33 +7,30 @@ ghost use Rattle.kit.specs.Names.{length, take};
 ghost use Rattle.definitions.specs.ContractFile.{sections_of};
 ghost use Rattle.definitions.specs.Numbers.{check_number};
 ghost use Rattle.file_bytes.specs.Layout.{IsLayout};
-ghost use Rattle.file_decoded.specs.Slices.{sections_from};
+ghost use Rattle.file_decoded.specs.Sections.{sections_held};
 ghost use Rattle.file_accepted.specs.Context.{Source};
-ghost use Rattle.check_contract.specs.Decoding.{contract_number, Held, Room, Counted, Enough};
+ghost use Rattle.check_contract.specs.Decoding.{contract_number, HeldIn, Room, Counted, Enough};
 
 use check_01_02_counts::{count_off_limits, ends_wrongly};
 use check_03_to_07::sections_number;
 use file_bytes::{Layout, read_layout};
+use file_decoded::{
+    COLUMN_NUMBERS, DecodedSections, FIELD_NUMBERS, FUNCTION_NUMBERS, NODE_NUMBERS,
+    PARAMETER_NUMBERS, SHORT_COLUMN_NUMBERS, SHORT_NODE_NUMBERS, numbers_room,
+};
 use file_decoder::decode;
 use rules_contract::rules_number;
 
 // The first of the sentences 3 to 15 that holds of the sections that four slices hold, or 0.
-fn slices_number(
-    fields: &[u16],
-    functions: &[u16],
-    parameters: &[u16],
-    nodes: &[u16],
-    owners: &mut [u16],
-) -> u8
-    requires { Held fields.now functions.now parameters.now nodes.now owners.old }
-    ensures { result ≡ contract_number (sections_from fields.now functions.now
-        parameters.now nodes.now) }
+fn slices_number(sections: &DecodedSections, owners: &mut [u16]) -> u8
+    requires { HeldIn sections.now owners.old }
+    ensures { result ≡ contract_number (sections_held sections.now) }
 {
-    let shape = sections_number(fields, functions, parameters, nodes);
+    let shape = sections_number(sections);
     if 0 < shape {
         return shape;
     }
-    rules_number(fields, functions, parameters, nodes, owners)
+    rules_number(sections, owners)
 }
 
 // The same of a file of right counts, decoded into lent slices. Its nodes stay where they were decoded.
@@ -50,7 +47,13 @@ fn decoded_number(
     ensures { (result ≡ contract_number (sections_of file.now)) × (Source file.now nodes.new) }
 {
     decode(file, l, fields, functions, parameters, nodes);
-    slices_number(fields, functions, parameters, nodes, owners)
+    let sections = DecodedSections {
+        fields,
+        functions,
+        parameters,
+        nodes,
+    };
+    slices_number(&sections, owners)
 }
 
 // The same in room for the largest sections that number 2 lets pass, of which that for the nodes is lent.
@@ -59,9 +62,9 @@ fn number_in_room(file: &[u8], l: Layout, nodes: &mut [u16], owners: &mut [u16])
     ensures { (result ≡ contract_number (sections_of file.now))
         × (Source file.now (take (5 * l.nodes) nodes.new)) }
 {
-    let mut fields = file_decoded::field_room();
-    let mut functions = file_decoded::function_room();
-    let mut parameters = file_decoded::parameter_room();
+    let mut fields = numbers_room::<FIELD_NUMBERS>();
+    let mut functions = numbers_room::<FUNCTION_NUMBERS>();
+    let mut parameters = numbers_room::<PARAMETER_NUMBERS>();
     let field_numbers = 3 * l.fields;
     let function_numbers = 3 * l.functions;
     let parameter_numbers = l.nodes_at - (l.functions_at + 1 + function_numbers);
@@ -93,21 +96,15 @@ pub fn check_in(file: &[u8], l: Layout, nodes: &mut [u16], owners: &mut [u16]) -
     number_in_room(file, l, nodes, owners)
 }
 
-fn check_short(file: &[u8], l: Layout) -> u8
-    requires { (IsLayout file.now l) × (l.nodes ≤ 64) }
+// In room for so many nodes and owners, which is as much as number 2 lets pass or as the file needs.
+fn check_with<const NODES: usize, const OWNERS: usize>(file: &[u8], l: Layout) -> u8
+    requires layout { IsLayout file.now l }
+    requires enough { l.nodes ≤ 512 → (5 * l.nodes ≤ NODES) × (l.nodes ≤ OWNERS) }
+    requires small { (NODES ≤ 2560) × (OWNERS ≤ 512) }
     ensures { result ≡ check_number file.now }
 {
-    let mut nodes = file_decoded::short_node_room();
-    let mut owners = file_decoded::short_column_room();
-    check_in(file, l, &mut nodes, &mut owners)
-}
-
-fn check_long(file: &[u8], l: Layout) -> u8
-    requires { IsLayout file.now l }
-    ensures { result ≡ check_number file.now }
-{
-    let mut nodes = file_decoded::node_room();
-    let mut owners = file_decoded::column_room();
+    let mut nodes = numbers_room::<NODES>();
+    let mut owners = numbers_room::<OWNERS>();
     check_in(file, l, &mut nodes, &mut owners)
 }
 
@@ -118,8 +115,8 @@ pub fn check(file: &[u8]) -> u8
 {
     let l = read_layout(file);
     if l.nodes <= 64 {
-        check_short(file, l)
+        check_with::<SHORT_NODE_NUMBERS, SHORT_COLUMN_NUMBERS>(file, l)
     } else {
-        check_long(file, l)
+        check_with::<NODE_NUMBERS, COLUMN_NUMBERS>(file, l)
     }
 }

@@ -1,5 +1,6 @@
 -- Functions on truth values, numbers and lists that the definitions share.
-pub use Rattle.std.specs.Prelude.{◌≡◌, Bool, true, false, ◌&&◌, ◌||◌, cond, not, ℕ, zero, suc, ◌+◌, ◌/◌, ◌%◌, max, ◌*◌, ◌-◌, eqb, leb, ltb, length, replicate, get_or, drop, set}
+pub use Rattle.std.specs.Prelude.{◌≡◌, Bool, true, false, ◌&&◌, ◌||◌, cond, not, ℕ, zero, suc, ◌+◌, ◌/◌, ◌%◌, max, ◌*◌}
+pub use Rattle.std.specs.Prelude.{◌-◌, eqb, leb, ltb, length, replicate, get_or, drop, set}
 pub use mathlib.Core.List.{List, [], ◌∷◌, ◌++◌, map, zip_with}
 unfoldable pub use mathlib.Core.List.{flat_map}
 pub use Rattle.std.proofs.Math.Option.{Option, none, some}

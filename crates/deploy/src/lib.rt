@@ -44,23 +44,20 @@ fn refused(number: u8) -> Deployment
     let variables = [zero; 1024];
     let places = [zero; 1024];
     let ledger = Ledger {
-        file: file,
+        file,
         file_length: 0,
         call: 0,
         function: 0,
         caller: 0,
         outcome: 0,
-        parameters: parameters,
+        parameters,
         parameter_count: 0,
-        variables: variables,
+        variables,
         variable_count: 0,
-        places: places,
+        places,
         place_count: 0,
     };
-    Deployment {
-        number: number,
-        ledger: ledger,
-    }
+    Deployment { number, ledger }
 }
 
 // A contract brought into force with the addresses of its finals.
@@ -72,8 +69,5 @@ pub fn deploy(file: &[u8], addresses: &[u8]) -> Deployment
         return refused(number);
     }
     let ledger = deploy_ledger::deployed(file, addresses);
-    Deployment {
-        number: number,
-        ledger: ledger,
-    }
+    Deployment { number, ledger }
 }

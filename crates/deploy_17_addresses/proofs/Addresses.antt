@@ -1,7 +1,9 @@
 -- Number 17 by counting finals and looking at each address, and the file's own number before it.
 use Rattle.std.specs.Prelude.{◌≡◌, ◌||◌, ◌∷◌, ◌+◌, ◌<◌, ◌≤◌}
-use Rattle.kit.specs.Names.{refl, ◌∙◌, Bool, true, false, cond, not, List, ℕ, zero, suc, arith, add-one, eqb}
-use Rattle.kit.specs.Names.{ltb, length, get_or, drop, drop_of_length-le, drop-cons, eq-eqb, ne_eqb, lt-ltb, le-ltb}
+use Rattle.kit.specs.Names.{refl, ◌∙◌, Bool, cond, not, List, ℕ, zero, suc, arith, add-one, eqb}
+use Rattle.kit.specs.Names.{ltb, length, drop, drop_of_length-le, drop-cons, eq-eqb, ne_eqb}
+use Rattle.std.specs.List.{list_any}
+use Rattle.std.proofs.lemmas.List.Recursion.{same_from_clauses}
 use Rattle.definitions.specs.Basics.{any, count_if, first_that_holds}
 use Rattle.definitions.specs.ContractFile.{Field, field_at, is_final, contract_in}
 use Rattle.definitions.specs.Numbers.{check_number, or_else}
@@ -28,21 +30,10 @@ finals_done fields f finals goal out inv =
     let none : finals_from fields f ≡ 0 = rw (drop_of_length-le fields out) in
     omega arith
 
--- One address more is looked at.
-module _ (addresses : List ℕ) (i : ℕ) (goal : Bool) (inv : any (ltb 15) (drop i addresses) ≡ goal) where
-  opened_any : i < length addresses → (ltb 15 (get_or addresses i 0) || any (ltb 15) (drop (suc i) addresses)) ≡ goal
-  unfolding any
-  opened_any inside = rw (drop-cons addresses i 0 inside) at inv
-
-  pub high_found : i < length addresses → 15 < get_or addresses i 0 → true ≡ goal
-  high_found inside high = rw (lt-ltb 15 (get_or addresses i 0) high) at (opened_any inside)
-
-  pub high_next : i < length addresses → get_or addresses i 0 ≤ 15 → any (ltb 15) (drop (i + 1) addresses) ≡ goal
-  high_next inside low = rw (add-one i) (rw (le-ltb 15 (get_or addresses i 0) low) at (opened_any inside))
-
-  pub high_none : length addresses ≤ i → false ≡ goal
-  unfolding any
-  high_none out = rw (drop_of_length-le addresses out) at inv
+-- The library's word for a test that some address passes.
+pub any_listed : (test : ℕ → Bool) (addresses : List ℕ) → list_any test addresses ≡ any test addresses
+unfolding any
+any_listed test = same_from_clauses (list_any test) (any test) (λ address later. test address || later) refl (λ _ _. refl) (λ _ _. refl)
 
 -- Number 17 from the count of finals and the test of the addresses.
 module _ (file addresses : List ℕ) (finals : ℕ) (counted : finals ≡ count_if (λ d. is_final d.shape) (fields_in file)) where

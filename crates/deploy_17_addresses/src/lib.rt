@@ -28,11 +28,9 @@ pub fn final_count(file: &[u8]) -> usize
     ensures { result ≡ count_if (λ d. is_final d.shape) (fields_in file.now) }
 {
     let count = file_bytes::byte_at(file, 0);
-    let mut f: usize = 0;
     let mut finals: usize = 0;
-    while f < count {
+    for f in 0..count {
         finals += final_bit(file, f);
-        f += 1;
     }
     finals
 }
@@ -41,14 +39,7 @@ pub fn final_count(file: &[u8]) -> usize
 pub fn any_too_high(addresses: &[u8]) -> bool
     ensures { result ≡ any (ltb 15) addresses.now }
 {
-    let mut i: usize = 0;
-    while i < addresses.len() {
-        if 15 < addresses[i] {
-            return true;
-        }
-        i += 1;
-    }
-    false
+    addresses.iter().any(|address| 15 < *address)
 }
 
 // "17. Deployment gives other than one address, 0 to 15, for each final."

@@ -1,26 +1,35 @@
 -- The numbers of all places at deployment, field by field.
-use Rattle.std.specs.Prelude.{◌≡◌, ◌∷◌, ◌++◌, ◌+◌, ◌*◌, ◌-◌, ◌<◌, ◌≤◌}
-use Rattle.kit.specs.Names.{refl, ap, sym, ◌∙◌, Bool, true, false, List, [], ℕ, zero, suc, arith}
+use Rattle.std.specs.Prelude.{◌≡◌, ◌∷◌, ◌++◌, ◌+◌, ◌*◌, ◌<◌, ◌≤◌}
+use Rattle.kit.specs.Names.{refl, ap, sym, ◌∙◌, Bool, true, false, List, [], ℕ, suc, arith}
 use Rattle.kit.specs.Names.{add-one, add-zero, eqb, length, get_or, set, drop, replicate, length-append, length-replicate, drop_of_length-le}
-use Rattle.kit.specs.Names.{drop-cons, drop-drop, get_or-drop, ne_eqb}
+use Rattle.kit.specs.Names.{drop-cons, drop-drop, get_or-drop, ne_eqb, take, take_all, length-drop, length-take-le}
+use Rattle.std.proofs.lemmas.List.{drop-replicate}
+use Rattle.std.proofs.lemmas.Slice.{put_mid-paste}
+use borrow.Rule.Slice.PartMut.{put_mid}
 use Rattle.memory_buffer.specs.Buffer.{stored}
+use Rattle.ledger_struct.specs.Whole.{padded}
 use Rattle.memory_buffer.proofs.Storing.{stored_one, stored_then, stored_nothing}
 use Rattle.definitions.specs.ContractFile.{Field, field_at, is_final, byte_at, field_count, shape_of, field_of}
 use Rattle.definitions.specs.Original.{place_count, deployed_numbers}
 use Rattle.file_accepted.specs.Context.{fields_in}
 use Rattle.file_accepted.proofs.Declarations.{field_declared}
 
--- One zero more.
-pub zeros_next : (numbers : List ℕ) (at left : ℕ) (goal : List ℕ) → 0 < left → at < length numbers → stored numbers at (replicate left 0) ≡ goal
-    → stored (set numbers at 0) (at + 1) (replicate (left - 1) 0) ≡ goal
-zeros_next numbers at zero goal h room inv = absurd (omega arith)
-zeros_next numbers at (suc left) goal h room inv =
-    let e : suc left - 1 ≡ left = omega arith in
-    rw (e, ← stored_one numbers at 0 room) (stored_then numbers at (0 ∷ []) (replicate left 0) (omega arith) ∙ inv)
+-- A part that was filled with zeros, in its place.
+pub zeros_put : (numbers zeros : List ℕ) (p count k : ℕ) → p + count ≤ length numbers → k ≡ count
+    → zeros ≡ replicate (length (take k (drop p numbers))) 0 → put_mid p k numbers zeros ≡ stored numbers p (replicate count 0)
+unfolding stored
+zeros_put numbers zeros p count k room long same =
+    let behind = length-drop p numbers in
+    let all : length (take k (drop p numbers)) ≡ count = length-take-le k (drop p numbers) (omega arith) ∙ long in
+    let written : List ℕ = replicate count 0 in
+    let many : length written ≡ count = length-replicate count 0 in
+    put_mid-paste p k numbers zeros written (length written) (same ∙ ap (λ (n : ℕ). replicate {A = ℕ} n 0) all) (omega arith) refl
+    ∙ ap (λ (l : List ℕ). take p numbers ++ l ++ drop (p + length written) numbers) (take_all (length written) written (omega arith))
 
-pub zeros_done : (numbers : List ℕ) (at left : ℕ) (goal : List ℕ) → left ≤ 0 → stored numbers at (replicate left 0) ≡ goal → numbers ≡ goal
-zeros_done numbers at zero goal h inv = sym (stored_nothing numbers at) ∙ inv
-zeros_done numbers at (suc left) goal h inv = absurd (omega arith)
+-- An array of zeros with a file at its front.
+pub zeros_behind : (n : ℕ) (file front : List ℕ) → front ≡ file → front ++ drop (length file) (replicate n 0) ≡ padded n 0 file
+unfolding padded
+zeros_behind n file front same = rw (same, drop-replicate {X = ℕ} (length file) n 0)
 
 module _ (fields : List Field) (f : ℕ) (inside : f < length fields) where
   pub opened : drop f fields ≡ field_at fields f ∷ drop (suc f) fields

@@ -15,29 +15,11 @@ use file_kinds::FINAL;
 use ledger_contents::{Content, Place};
 use ledger_struct::Ledger;
 
-// Zeros from a place on.
-fn put_zeros(numbers: &mut [u32], p: usize, count: usize)
-    requires { p + count ≤ length numbers.old }
-    ensures { numbers.new ≡ stored numbers.old p (replicate count 0) }
-{
-    let mut at = p;
-    let mut left = count;
-    while 0 < left {
-        numbers[at] = 0;
-        at += 1;
-        left -= 1;
-    }
-}
-
 // An address that is not given reads as 0.
 fn address_at(addresses: &[u8], a: usize) -> u32
     ensures { result ≡ get_or addresses.now a 0 }
 {
-    if a < addresses.len() {
-        addresses[a] as u32
-    } else {
-        0
-    }
+    u32::from(addresses.get(a).copied().unwrap_or(0))
 }
 
 // The numbers of all places at deployment, and how many there are.
@@ -47,20 +29,17 @@ fn put_numbers(file: &[u8], addresses: &[u8], numbers: &mut [u32]) -> usize
         numbers.old numbers.new result }
 {
     let count = file_bytes::byte_at(file, 0);
-    let mut f: usize = 0;
     let mut p: usize = 0;
     let mut a: usize = 0;
-    while f < count {
+    for f in 0..count {
         if file_bytes::byte_at(file, 1 + 3 * f) == FINAL {
             numbers[p] = address_at(addresses, a);
             p += 1;
             a += 1;
-            f += 1;
         } else {
             let many = ledger_places::place_count(file, f);
-            put_zeros(numbers, p, many);
+            numbers[p..p + many].fill(0);
             p += many;
-            f += 1;
         }
     }
     p
@@ -81,12 +60,10 @@ fn put_field(
     ensures { FieldStands file.now numbers.now f p count places result }
 {
     let mut made = places;
-    let mut key: usize = 0;
-    while key < count {
+    for key in 0..count {
         let reader = ledger_readers::place_reader(file, f, key as u32, numbers);
         let content = ledger_readers::content_for(reader, 0, 0, numbers[p + key]);
-        made[p + key] = Place { content: content };
-        key += 1;
+        made[p + key] = Place { content };
     }
     made
 }
@@ -101,14 +78,12 @@ fn put_places(file: &[u8], numbers: &[u32]) -> [Place; 1024]
     };
     let mut places = [zero; 1024];
     let count = file_bytes::byte_at(file, 0);
-    let mut f: usize = 0;
     let mut p: usize = 0;
-    while f < count {
+    for f in 0..count {
         let many = ledger_places::place_count(file, f);
         let made = put_field(file, numbers, f, p, many, places);
         places = made;
         p += many;
-        f += 1;
     }
     places
 }
@@ -119,11 +94,7 @@ fn copied(file: &[u8]) -> [u8; 4596]
     ensures { result ≡ padded 4596 0 file.now }
 {
     let mut bytes = [0u8; 4596];
-    let mut i: usize = 0;
-    while i < file.len() {
-        bytes[i] = file[i];
-        i += 1;
-    }
+    bytes[..file.len()].copy_from_slice(file);
     bytes
 }
 
@@ -148,11 +119,11 @@ pub fn deployed(file: &[u8], addresses: &[u8]) -> Ledger
         function: 0,
         caller: 0,
         outcome: 0,
-        parameters: parameters,
+        parameters,
         parameter_count: 0,
-        variables: variables,
+        variables,
         variable_count: 0,
-        places: places,
+        places,
         place_count: count,
     }
 }

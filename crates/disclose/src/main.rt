@@ -70,15 +70,12 @@ fn disclose(rt: &HostRuntime, bytes: &[u8]) {
         return;
     }
     let mut ledger = deployment.ledger;
-    let mut k: u8 = 0;
-    while k < script.calls {
+    for k in 0..script.calls {
         let called = call_at(bytes, k, ledger);
         if !tell_call(rt, bytes, k, ledger, called.number, script.party) {
             return;
         }
-        let after = called.ledger;
-        ledger = after;
-        k += 1;
+        ledger = called.ledger;
     }
 }
 

@@ -8,10 +8,9 @@ use Rattle.definitions.specs.View.{disclosed_on}
 use Rattle.theory_trees.specs.Trees.{statement_in}
 use Rattle.memory_append.specs.Append.{Appended}
 use Rattle.file_bytes.proofs.Sections.{count_of_nodes}
-use Rattle.file_accepted.specs.Context.{Source, nodes_in, fields_in}
+use Rattle.file_accepted.specs.Context.{nodes_in, fields_in}
 use Rattle.file_accepted.specs.Functions.{function_start, root_at}
 use Rattle.file_accepted.proofs.Functions.{functions_count, function_in_law}
-use Rattle.file_accepted.proofs.Sources.{context_with}
 use Rattle.ledger_addresses.specs.Addresses.{AddressRoom, Addressed}
 use Rattle.write_room.specs.Sizes.{bodies_size}
 use Rattle.write_room.proofs.Room.{nodes_suffice}
@@ -47,13 +46,12 @@ module _ (file : List ℕ) (at caller : ℕ) (arguments numbers : List ℕ) (par
     body_is =
         ap (λ (address : Name → ℕ). disclosed_by (fields_in file) address arguments party numbers (statement_in (nodes_in file) (root_at file at))) put.addresses
 
-    pub body_ready : (source : List ℕ) (asked : Asked) (root : ℕ) → Source file source → asked.function_at ≡ at → asked.caller ≡ caller → asked.party ≡ party
-        → asked.at ≡ 0 → root ≡ root_at file at → StatementReady file arguments addresses numbers source asked root values
-    body_ready source asked root held begins called told start first =
+    pub body_ready : (asked : Asked) (root : ℕ) → asked.caller ≡ caller → asked.party ≡ party → asked.at ≡ 0 → root ≡ root_at file at
+        → StatementReady file arguments addresses numbers asked root values
+    body_ready asked root called told start first =
         rw first
         (record {
           inside = ready.root;
-          context = rw begins (context_with file at source ready.context held);
           called = ap (λ (address : Name → ℕ). address me_name) put.addresses ∙ sym called;
           room = rw (told, start, body_is) (omega (arith, ready.room));
         })

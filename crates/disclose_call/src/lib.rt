@@ -16,7 +16,8 @@ use check_refusals::is_refused;
 use disclose_expressions::Asked;
 use disclose_output::{hand_over, refusal};
 use disclose_statements::disclose_statement;
-use file_decoded::node_room;
+use file_accepted::CheckedFunction;
+use file_decoded::{NODE_NUMBERS, numbers_room};
 use file_functions::function_start;
 use file_kinds::PARAMETER_CODES_END;
 use file_source::decode_source;
@@ -56,18 +57,21 @@ fn disclose_body(
         numbers,
         &mut addresses[..],
     );
-    let mut room = node_room();
+    let mut room = numbers_room::<NODE_NUMBERS>();
     let count = decode_source(file, &mut room[..]);
+    let function = CheckedFunction {
+        file,
+        at: function_at,
+        source: &room[..count],
+    };
     let who = Asked {
-        function_at: function_at,
-        caller: caller,
-        party: party,
+        caller,
+        party,
         at: 0,
     };
     let root = root_at(file, function_at);
     let told = disclose_statement(
-        file,
-        &room[..count],
+        &function,
         who,
         numbers,
         arguments,
@@ -134,10 +138,7 @@ fn disclosed_apart(
         party,
     );
     if is_refused(number) {
-        return Answer {
-            number: number,
-            length: 0,
-        };
+        return Answer { number, length: 0 };
     }
     let many = places.len() / 5;
     let mut numbers = [0u32; 1024];
@@ -177,10 +178,10 @@ pub fn disclosed(
                 caller: l.caller,
                 outcome: l.outcome,
             },
-            function: function,
-            caller: caller,
+            function,
+            caller,
         },
-        party: party,
+        party,
     };
     let mut parameters = [0u32; 40];
     let shown = flat_parameters(l, &mut parameters[..]);

@@ -21,7 +21,7 @@ use Rattle.disclose_expressions.proofs.InTurn.{same_appended, appended_stopped, 
 
 -- The same is asked, and the next value goes elsewhere.
 abbrev pub asked_at : Asked → ℕ → Asked
-asked_at asked place = record { function_at = asked.function_at; caller = asked.caller; party = asked.party; at = place }
+asked_at asked place = record { caller = asked.caller; party = asked.party; at = place }
 
 module _ (file arguments addresses numbers : List ℕ) where
   -- Of all addresses the value of an expression asks the caller's alone.
@@ -31,11 +31,11 @@ module _ (file arguments addresses numbers : List ℕ) where
   value_here caller v e same worked = worked ∙ sym (value_is file (address_from addresses) arguments caller same numbers e)
 
   -- A part of a node that can be worked out can be too.
-  pub ready_part : (source : List ℕ) (asked : Asked) (n m : ℕ) (out held : List ℕ) (place : ℕ) → ExpressionReady file arguments addresses numbers source asked n out → m < n
+  pub ready_part : (asked : Asked) (n m : ℕ) (out held : List ℕ) (place : ℕ) → ExpressionReady file arguments addresses numbers asked n out → m < n
       → place + length (disclosed_in file arguments addresses numbers asked.party (expression_in (nodes_in file) m)) ≤ length held
-      → ExpressionReady file arguments addresses numbers source (asked_at asked place) m held
-  ready_part source asked n m out held place ready less room =
-      record { inside = omega (arith, ready.inside); context = ready.context; called = ready.called; room = room }
+      → ExpressionReady file arguments addresses numbers (asked_at asked place) m held
+  ready_part asked n m out held place ready less room =
+      record { inside = omega (arith, ready.inside); called = ready.called; room = room }
 
   module _ (party : ℕ) where
     abbrev told : Expression → List ℕ

@@ -5,7 +5,7 @@ use Rattle.definitions.specs.ContractFile.{Expression, me_name, node_count}
 use Rattle.definitions.specs.Original.{value, is_worked_out, disclosed}
 use Rattle.theory_trees.specs.Trees.{expression_in}
 use Rattle.memory_append.specs.Append.{Appended}
-use Rattle.file_accepted.specs.Context.{Context, nodes_in, fields_in}
+use Rattle.file_accepted.specs.Context.{nodes_in, fields_in}
 use Rattle.ledger_circuits.specs.Circuits.{address_from}
 use Rattle.disclose_expressions.specs.declared.Asked.{Asked}
 use Rattle.disclose_expressions.specs.declared.Told.{Told}
@@ -21,9 +21,8 @@ module _ (file arguments addresses numbers : List ℕ) where
   disclosed_in party e = disclosed (fields_in file) (address_from addresses) arguments party numbers e
 
   -- Node n can be worked out, and there is room for what it discloses.
-  pub record ExpressionReady (source : List ℕ) (asked : Asked) (n : ℕ) (out : List ℕ) : Type 0 where
+  pub record ExpressionReady (asked : Asked) (n : ℕ) (out : List ℕ) : Type 0 where
     pub inside : n < node_count file
-    pub context : Context file asked.function_at source
     pub called : address_from addresses me_name ≡ asked.caller
     pub room : asked.at + length (disclosed_in asked.party (expression_in (nodes_in file) n)) ≤ length out
 

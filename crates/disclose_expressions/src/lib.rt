@@ -7,20 +7,20 @@ ghost use Rattle.kit.specs.Names.{[], length};
 ghost use Rattle.definitions.specs.ContractFile.{node_count};
 ghost use Rattle.theory_trees.specs.Trees.{expression_in};
 ghost use Rattle.memory_append.specs.Append.{Appended};
-ghost use Rattle.file_accepted.specs.Context.{Context, nodes_in};
+ghost use Rattle.file_accepted.specs.Context.{nodes_in};
 ghost use Rattle.honest_values.specs.Values.{kind_at, value_of};
 ghost use Rattle.disclose_expressions.specs.Expressions.{ExpressionReady, ExpressionDisclosed};
 
 use disclose_readers::may_read;
+use file_accepted::CheckedFunction;
 use file_decoded::node_at;
 use file_kinds::*;
 use honest_values::value;
 use walk_expressions::divides;
 
-// Which function is worked out, for which caller, the party that is told, and where the next value goes.
+// For which caller a function is worked out, the party that is told, and where the next value goes.
 #[derive(Clone, Copy)]
 pub struct Asked {
-    pub function_at: usize,
     pub caller: u8,
     pub party: u8,
     pub at: usize,
@@ -44,33 +44,23 @@ fn append_value(value: u32, out: &mut [u32], at: usize) -> usize
 
 // The value of node n for the caller.
 pub fn value_asked(
-    file: &[u8],
-    source: &[u16],
+    function: &CheckedFunction,
     who: Asked,
     numbers: &[u32],
     arguments: &[u32],
     n: usize,
 ) -> u32
-    requires { (n < node_count file.now) × (Context file.now who.function_at source.now) }
-    ensures { result ≡ value_of file.now arguments.now who.caller numbers.now
-        (expression_in (nodes_in file.now) n) }
+    requires { n < node_count function.now.file.now }
+    ensures { result ≡ value_of function.now.file.now arguments.now who.caller numbers.now
+        (expression_in (nodes_in function.now.file.now) n) }
 {
-    value(
-        file,
-        who.function_at,
-        source,
-        numbers,
-        arguments,
-        who.caller,
-        n,
-    )
+    value(function, numbers, arguments, who.caller, n)
 }
 
 // What node n discloses, appended.
 #[cycle(disclose_expression_disclose_operator_disclose_reveal)]
 pub fn disclose_expression(
-    file: &[u8],
-    source: &[u16],
+    function: &CheckedFunction,
     who: Asked,
     numbers: &[u32],
     arguments: &[u32],
@@ -78,21 +68,21 @@ pub fn disclose_expression(
     n: usize,
     out: &mut [u32],
 ) -> Told
-    requires { ExpressionReady file.now arguments.now addresses.now numbers.now source.now who n out.old }
-    ensures { ExpressionDisclosed file.now arguments.now addresses.now numbers.now
-        who.party (expression_in (nodes_in file.now) n) out.old out.new who.at result }
+    requires { ExpressionReady function.now.file.now arguments.now addresses.now numbers.now who n out.old }
+    ensures { ExpressionDisclosed function.now.file.now arguments.now addresses.now numbers.now
+        who.party (expression_in (nodes_in function.now.file.now) n) out.old out.new who.at result }
 {
-    let node = node_at(source, n);
+    let node = node_at(function.source, n);
     let kind = node.kind;
     match kind {
         ENTRY => disclose_expression(
-            file, source, who, numbers, arguments, addresses, node.first, out,
+            function, who, numbers, arguments, addresses, node.first, out,
         ),
-        OPERATOR => disclose_operator(file, source, who, numbers, arguments, addresses, n, out),
+        OPERATOR => disclose_operator(function, who, numbers, arguments, addresses, n, out),
         NOT => disclose_expression(
-            file, source, who, numbers, arguments, addresses, node.first, out,
+            function, who, numbers, arguments, addresses, node.first, out,
         ),
-        REVEAL => disclose_reveal(file, source, who, numbers, arguments, addresses, n, out),
+        REVEAL => disclose_reveal(function, who, numbers, arguments, addresses, n, out),
         _ => Told {
             at: who.at,
             finished: true,
@@ -103,8 +93,7 @@ pub fn disclose_expression(
 // The left operand first; the right one discloses nothing where the left one fails.
 #[cycle(disclose_expression_disclose_operator_disclose_reveal)]
 fn disclose_operator(
-    file: &[u8],
-    source: &[u16],
+    function: &CheckedFunction,
     who: Asked,
     numbers: &[u32],
     arguments: &[u32],
@@ -112,23 +101,21 @@ fn disclose_operator(
     n: usize,
     out: &mut [u32],
 ) -> Told
-    requires { (kind_at source.now n ≡ 6)
-        × (ExpressionReady file.now arguments.now addresses.now numbers.now source.now who n out.old) }
-    ensures { ExpressionDisclosed file.now arguments.now addresses.now numbers.now
-        who.party (expression_in (nodes_in file.now) n) out.old out.new who.at result }
+    requires { (kind_at function.now.source.now n ≡ 6)
+        × (ExpressionReady function.now.file.now arguments.now addresses.now numbers.now who n out.old) }
+    ensures { ExpressionDisclosed function.now.file.now arguments.now addresses.now numbers.now
+        who.party (expression_in (nodes_in function.now.file.now) n) out.old out.new who.at result }
 {
-    let node = node_at(source, n);
+    let node = node_at(function.source, n);
     let left = disclose_expression(
-        file, source, who, numbers, arguments, addresses, node.first, out,
+        function, who, numbers, arguments, addresses, node.first, out,
     );
     if !left.finished {
         return left;
     }
     let right = disclose_expression(
-        file,
-        source,
+        function,
         Asked {
-            function_at: who.function_at,
             caller: who.caller,
             party: who.party,
             at: left.at,
@@ -142,7 +129,7 @@ fn disclose_operator(
     if !right.finished {
         return right;
     }
-    let divisor = value_asked(file, source, who, numbers, arguments, node.second);
+    let divisor = value_asked(function, who, numbers, arguments, node.second);
     Told {
         at: right.at,
         finished: divides(node.arg, divisor),
@@ -152,8 +139,7 @@ fn disclose_operator(
 // A reveal's part first, and then its own value.
 #[cycle(disclose_expression_disclose_operator_disclose_reveal)]
 fn disclose_reveal(
-    file: &[u8],
-    source: &[u16],
+    function: &CheckedFunction,
     who: Asked,
     numbers: &[u32],
     arguments: &[u32],
@@ -161,14 +147,14 @@ fn disclose_reveal(
     n: usize,
     out: &mut [u32],
 ) -> Told
-    requires { (kind_at source.now n ≡ 8)
-        × (ExpressionReady file.now arguments.now addresses.now numbers.now source.now who n out.old) }
-    ensures { ExpressionDisclosed file.now arguments.now addresses.now numbers.now
-        who.party (expression_in (nodes_in file.now) n) out.old out.new who.at result }
+    requires { (kind_at function.now.source.now n ≡ 8)
+        × (ExpressionReady function.now.file.now arguments.now addresses.now numbers.now who n out.old) }
+    ensures { ExpressionDisclosed function.now.file.now arguments.now addresses.now numbers.now
+        who.party (expression_in (nodes_in function.now.file.now) n) out.old out.new who.at result }
 {
-    let node = node_at(source, n);
+    let node = node_at(function.source, n);
     let part = disclose_expression(
-        file, source, who, numbers, arguments, addresses, node.first, out,
+        function, who, numbers, arguments, addresses, node.first, out,
     );
     if !part.finished {
         return part;
@@ -176,7 +162,7 @@ fn disclose_reveal(
     if !may_read(addresses, node.arg, who.party) {
         return part;
     }
-    let shown = value_asked(file, source, who, numbers, arguments, node.first);
+    let shown = value_asked(function, who, numbers, arguments, node.first);
     let next = append_value(shown, out, part.at);
     Told {
         at: next,

@@ -24,10 +24,8 @@ fn append_values(values: &[u32], out: &mut [u8], from: usize) -> usize
     ensures { Appended out.old out.new from (flat_map spaced_value values.now) result }
 {
     let mut at = from;
-    let mut i: usize = 0;
-    while i < values.len() {
-        at = append_value(values[i], out, at);
-        i += 1;
+    for value in values {
+        at = append_value(*value, out, at);
     }
     at
 }

@@ -6,7 +6,6 @@ ghost use Rattle.std.specs.Prelude.{◌≡◌, ◌∷◌, ◌≤◌};
 ghost use Rattle.kit.specs.Names.{[], ltb, length};
 ghost use Rattle.definitions.specs.Basics.{first_that_holds};
 ghost use Rattle.definitions.specs.Numbers.{or_else};
-ghost use Rattle.memory_buffer.specs.Buffer.{stored};
 ghost use Rattle.disclose_output.specs.Handing.{HandedOver};
 
 use memory_answer::Answer;
@@ -25,18 +24,6 @@ pub fn refusal(number: u8, party: u8) -> u8
     0
 }
 
-// Values at the front of an output with room for them.
-fn copy_values(values: &[u32], out: &mut [u32])
-    requires { length values.now ≤ length out.old }
-    ensures { out.new ≡ stored out.old 0 values.now }
-{
-    let mut i = 0;
-    while i < values.len() {
-        out[i] = values[i];
-        i += 1;
-    }
-}
-
 // "its output is too short": nothing is written then.
 pub fn hand_over(values: &[u32], out: &mut [u32]) -> Answer
     ensures { HandedOver values.now out.old out.new result }
@@ -47,7 +34,7 @@ pub fn hand_over(values: &[u32], out: &mut [u32]) -> Answer
             length: 0,
         };
     }
-    copy_values(values, out);
+    out[..values.len()].copy_from_slice(values);
     Answer {
         number: 0,
         length: values.len(),

@@ -31,17 +31,17 @@ branch_below n false branch then other e a b = rw e b
 
 -- The parts of a statement that can be worked out can be too, on whatever numbers.
 module _ (file arguments addresses numbers : List ℕ) where
-  pub expression_ready : (source : List ℕ) (asked : Asked) (n m : ℕ) (out held : List ℕ) (place : ℕ) → StatementReady file arguments addresses numbers source asked n out → m < n
+  pub expression_ready : (asked : Asked) (n m : ℕ) (out held : List ℕ) (place : ℕ) → StatementReady file arguments addresses numbers asked n out → m < n
       → place + length (disclosed_in file arguments addresses numbers asked.party (expression_in (nodes_in file) m)) ≤ length held
-      → ExpressionReady file arguments addresses numbers source (asked_at asked place) m held
-  expression_ready source asked n m out held place ready less room =
-      record { inside = omega (arith, ready.inside); context = ready.context; called = ready.called; room = room }
+      → ExpressionReady file arguments addresses numbers (asked_at asked place) m held
+  expression_ready asked n m out held place ready less room =
+      record { inside = omega (arith, ready.inside); called = ready.called; room = room }
 
-  pub statement_ready : (later source : List ℕ) (asked : Asked) (n m : ℕ) (out held : List ℕ) (place : ℕ) → StatementReady file arguments addresses numbers source asked n out
+  pub statement_ready : (later : List ℕ) (asked : Asked) (n m : ℕ) (out held : List ℕ) (place : ℕ) → StatementReady file arguments addresses numbers asked n out
       → m < n → place + length (disclosed_by_in file arguments addresses later asked.party (statement_in (nodes_in file) m)) ≤ length held
-      → StatementReady file arguments addresses later source (asked_at asked place) m held
-  statement_ready later source asked n m out held place ready less room =
-      record { inside = omega (arith, ready.inside); context = ready.context; called = ready.called; room = room }
+      → StatementReady file arguments addresses later (asked_at asked place) m held
+  statement_ready later asked n m out held place ready less room =
+      record { inside = omega (arith, ready.inside); called = ready.called; room = room }
 
 module _ (file arguments addresses numbers : List ℕ) (party : ℕ) (s : Statement) where
   abbrev told : List ℕ

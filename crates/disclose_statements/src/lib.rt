@@ -10,14 +10,14 @@ ghost use Rattle.disclose_statements.specs.Statements.{StatementReady, Statement
 
 use disclose_branches::{branch_of, holds};
 use disclose_expressions::{Asked, Told, disclose_expression, value_asked};
+use file_accepted::CheckedFunction;
 use file_decoded::node_at;
 use file_kinds::*;
 use ledger_places::{position, put_number};
 
 // A field takes a value.
 fn disclose_field(
-    file: &[u8],
-    source: &[u16],
+    function: &CheckedFunction,
     who: Asked,
     numbers: &mut [u32],
     arguments: &[u32],
@@ -25,25 +25,24 @@ fn disclose_field(
     n: usize,
     out: &mut [u32],
 ) -> Told
-    requires { (kind_at source.now n ≡ 18)
-        × (StatementReady file.now arguments.now addresses.now numbers.old source.now who n out.old) }
-    ensures { StatementDisclosed file.now arguments.now addresses.now numbers.old
-        who.party (statement_in (nodes_in file.now) n) numbers.new
+    requires { (kind_at function.now.source.now n ≡ 18)
+        × (StatementReady function.now.file.now arguments.now addresses.now numbers.old who n out.old) }
+    ensures { StatementDisclosed function.now.file.now arguments.now addresses.now numbers.old
+        who.party (statement_in (nodes_in function.now.file.now) n) numbers.new
         out.old out.new who.at result }
 {
-    let node = node_at(source, n);
+    let node = node_at(function.source, n);
     let part = node.first;
-    let told = disclose_expression(file, source, who, numbers, arguments, addresses, part, out);
-    let v = value_asked(file, source, who, numbers, arguments, part);
-    let p = position(file, node.arg, 0);
+    let told = disclose_expression(function, who, numbers, arguments, addresses, part, out);
+    let v = value_asked(function, who, numbers, arguments, part);
+    let p = position(function.file, node.arg, 0);
     put_number(numbers, p, v);
     told
 }
 
 // A mapping's entry takes a value; its key is worked out first.
 fn disclose_entry(
-    file: &[u8],
-    source: &[u16],
+    function: &CheckedFunction,
     who: Asked,
     numbers: &mut [u32],
     arguments: &[u32],
@@ -51,24 +50,22 @@ fn disclose_entry(
     n: usize,
     out: &mut [u32],
 ) -> Told
-    requires { (kind_at source.now n ≡ 19)
-        × (StatementReady file.now arguments.now addresses.now numbers.old source.now who n out.old) }
-    ensures { StatementDisclosed file.now arguments.now addresses.now numbers.old
-        who.party (statement_in (nodes_in file.now) n) numbers.new
+    requires { (kind_at function.now.source.now n ≡ 19)
+        × (StatementReady function.now.file.now arguments.now addresses.now numbers.old who n out.old) }
+    ensures { StatementDisclosed function.now.file.now arguments.now addresses.now numbers.old
+        who.party (statement_in (nodes_in function.now.file.now) n) numbers.new
         out.old out.new who.at result }
 {
-    let node = node_at(source, n);
+    let node = node_at(function.source, n);
     let key = disclose_expression(
-        file, source, who, numbers, arguments, addresses, node.first, out,
+        function, who, numbers, arguments, addresses, node.first, out,
     );
     if !key.finished {
         return key;
     }
     let told = disclose_expression(
-        file,
-        source,
+        function,
         Asked {
-            function_at: who.function_at,
             caller: who.caller,
             party: who.party,
             at: key.at,
@@ -79,17 +76,16 @@ fn disclose_entry(
         node.second,
         out,
     );
-    let k = value_asked(file, source, who, numbers, arguments, node.first);
-    let v = value_asked(file, source, who, numbers, arguments, node.second);
-    let p = position(file, node.arg, k as usize);
+    let k = value_asked(function, who, numbers, arguments, node.first);
+    let v = value_asked(function, who, numbers, arguments, node.second);
+    let p = position(function.file, node.arg, k as usize);
     put_number(numbers, p, v);
     told
 }
 
 // What a condition discloses is disclosed even where it is false.
 fn disclose_require(
-    file: &[u8],
-    source: &[u16],
+    function: &CheckedFunction,
     who: Asked,
     numbers: &[u32],
     arguments: &[u32],
@@ -97,16 +93,16 @@ fn disclose_require(
     n: usize,
     out: &mut [u32],
 ) -> Told
-    requires { (kind_at source.now n ≡ 20)
-        × (StatementReady file.now arguments.now addresses.now numbers.now source.now who n out.old) }
-    ensures { StatementDisclosed file.now arguments.now addresses.now numbers.now
-        who.party (statement_in (nodes_in file.now) n) numbers.now
+    requires { (kind_at function.now.source.now n ≡ 20)
+        × (StatementReady function.now.file.now arguments.now addresses.now numbers.now who n out.old) }
+    ensures { StatementDisclosed function.now.file.now arguments.now addresses.now numbers.now
+        who.party (statement_in (nodes_in function.now.file.now) n) numbers.now
         out.old out.new who.at result }
 {
-    let node = node_at(source, n);
+    let node = node_at(function.source, n);
     let part = node.first;
-    let told = disclose_expression(file, source, who, numbers, arguments, addresses, part, out);
-    let condition = value_asked(file, source, who, numbers, arguments, part);
+    let told = disclose_expression(function, who, numbers, arguments, addresses, part, out);
+    let condition = value_asked(function, who, numbers, arguments, part);
     Told {
         at: told.at,
         finished: holds(told.finished, condition),
@@ -116,8 +112,7 @@ fn disclose_require(
 // What node n discloses, appended, and the numbers that it leaves where it completes.
 #[cycle(disclose_conditional_disclose_sequence_disclose_statement)]
 pub fn disclose_statement(
-    file: &[u8],
-    source: &[u16],
+    function: &CheckedFunction,
     who: Asked,
     numbers: &mut [u32],
     arguments: &[u32],
@@ -125,19 +120,19 @@ pub fn disclose_statement(
     n: usize,
     out: &mut [u32],
 ) -> Told
-    requires { StatementReady file.now arguments.now addresses.now numbers.old source.now who n out.old }
-    ensures { StatementDisclosed file.now arguments.now addresses.now numbers.old
-        who.party (statement_in (nodes_in file.now) n) numbers.new
+    requires { StatementReady function.now.file.now arguments.now addresses.now numbers.old who n out.old }
+    ensures { StatementDisclosed function.now.file.now arguments.now addresses.now numbers.old
+        who.party (statement_in (nodes_in function.now.file.now) n) numbers.new
         out.old out.new who.at result }
 {
-    let node = node_at(source, n);
+    let node = node_at(function.source, n);
     let kind = node.kind;
     match kind {
-        SEQUENCE => disclose_sequence(file, source, who, numbers, arguments, addresses, n, out),
-        FIELD_TAKES => disclose_field(file, source, who, numbers, arguments, addresses, n, out),
-        ENTRY_TAKES => disclose_entry(file, source, who, numbers, arguments, addresses, n, out),
-        REQUIRE => disclose_require(file, source, who, numbers, arguments, addresses, n, out),
-        IF => disclose_conditional(file, source, who, numbers, arguments, addresses, n, out),
+        SEQUENCE => disclose_sequence(function, who, numbers, arguments, addresses, n, out),
+        FIELD_TAKES => disclose_field(function, who, numbers, arguments, addresses, n, out),
+        ENTRY_TAKES => disclose_entry(function, who, numbers, arguments, addresses, n, out),
+        REQUIRE => disclose_require(function, who, numbers, arguments, addresses, n, out),
+        IF => disclose_conditional(function, who, numbers, arguments, addresses, n, out),
         _ => Told {
             at: who.at,
             finished: true,
@@ -148,8 +143,7 @@ pub fn disclose_statement(
 // The second of two statements discloses nothing where the first one fails.
 #[cycle(disclose_conditional_disclose_sequence_disclose_statement)]
 fn disclose_sequence(
-    file: &[u8],
-    source: &[u16],
+    function: &CheckedFunction,
     who: Asked,
     numbers: &mut [u32],
     arguments: &[u32],
@@ -157,24 +151,22 @@ fn disclose_sequence(
     n: usize,
     out: &mut [u32],
 ) -> Told
-    requires { (kind_at source.now n ≡ 17)
-        × (StatementReady file.now arguments.now addresses.now numbers.old source.now who n out.old) }
-    ensures { StatementDisclosed file.now arguments.now addresses.now numbers.old
-        who.party (statement_in (nodes_in file.now) n) numbers.new
+    requires { (kind_at function.now.source.now n ≡ 17)
+        × (StatementReady function.now.file.now arguments.now addresses.now numbers.old who n out.old) }
+    ensures { StatementDisclosed function.now.file.now arguments.now addresses.now numbers.old
+        who.party (statement_in (nodes_in function.now.file.now) n) numbers.new
         out.old out.new who.at result }
 {
-    let node = node_at(source, n);
+    let node = node_at(function.source, n);
     let first = disclose_statement(
-        file, source, who, numbers, arguments, addresses, node.first, out,
+        function, who, numbers, arguments, addresses, node.first, out,
     );
     if !first.finished {
         return first;
     }
     disclose_statement(
-        file,
-        source,
+        function,
         Asked {
-            function_at: who.function_at,
             caller: who.caller,
             party: who.party,
             at: first.at,
@@ -190,8 +182,7 @@ fn disclose_sequence(
 // The condition first, and then the taken branch alone.
 #[cycle(disclose_conditional_disclose_sequence_disclose_statement)]
 fn disclose_conditional(
-    file: &[u8],
-    source: &[u16],
+    function: &CheckedFunction,
     who: Asked,
     numbers: &mut [u32],
     arguments: &[u32],
@@ -199,26 +190,24 @@ fn disclose_conditional(
     n: usize,
     out: &mut [u32],
 ) -> Told
-    requires { (kind_at source.now n ≡ 21)
-        × (StatementReady file.now arguments.now addresses.now numbers.old source.now who n out.old) }
-    ensures { StatementDisclosed file.now arguments.now addresses.now numbers.old
-        who.party (statement_in (nodes_in file.now) n) numbers.new
+    requires { (kind_at function.now.source.now n ≡ 21)
+        × (StatementReady function.now.file.now arguments.now addresses.now numbers.old who n out.old) }
+    ensures { StatementDisclosed function.now.file.now arguments.now addresses.now numbers.old
+        who.party (statement_in (nodes_in function.now.file.now) n) numbers.new
         out.old out.new who.at result }
 {
-    let node = node_at(source, n);
-    let condition = value_asked(file, source, who, numbers, arguments, node.first);
+    let node = node_at(function.source, n);
+    let condition = value_asked(function, who, numbers, arguments, node.first);
     let branch = branch_of(condition, node.second, node.third);
     let told = disclose_expression(
-        file, source, who, numbers, arguments, addresses, node.first, out,
+        function, who, numbers, arguments, addresses, node.first, out,
     );
     if !told.finished {
         return told;
     }
     disclose_statement(
-        file,
-        source,
+        function,
         Asked {
-            function_at: who.function_at,
             caller: who.caller,
             party: who.party,
             at: told.at,

@@ -4,8 +4,9 @@ use Rattle.kit.specs.Names.{refl, ap, sym, subst, ◌∙◌, Bool, true, false, 
 use Rattle.kit.specs.Names.{length-map, get_or_eq_default, length, ltb-true, ltb-false}
 use Rattle.definitions.specs.ContractFile.{Expression, Statement, NodeRecord, node, nodes_at, node_count, node_record, sections_of, Kind, kind_of, unknown_node, node_of, node_at}
 use Rattle.definitions.specs.Numbers.{kind_in_tables}
-use Rattle.theory_trees.specs.Trees.{Keeps, Reads}
+use Rattle.theory_trees.specs.Trees.{Falling, Keeps, Reads}
 use Rattle.theory_trees.proofs.Kept.{unknown_keeps}
+use Rattle.theory_trees.proofs.Unfolding.{nodes_read_law}
 use Rattle.file_bytes.proofs.Sections.{node_of_law, count_of_nodes}
 use Rattle.file_decoded.specs.Slices.{record_at}
 use Rattle.file_accepted.specs.Context.{nodes_in, Context}
@@ -33,12 +34,16 @@ nodes_keep P Q leaf nothing file keep n = go (ltb n (node_count file)) refl
     go true e = let h = ltb-true n (node_count file) e in subst (Keeps P Q) (sym (node_read_law file n h)) (keep n h)
     go false e = subst (Keeps P Q) (sym (node_past file n (ltb-false n (node_count file) e))) (unknown_keeps P Q leaf nothing)
 
+pub context_falls : (file : List ℕ) (function_start : ℕ) (source : List ℕ) → Context file function_start source → Falling (nodes_in file)
+unfolding nodes_in
+context_falls file function_start source context = record { read = nodes_read_law (sections_of file).nodes; below = context.below }
+
 module _ (file : List ℕ) (function_start : ℕ) (source : List ℕ) (context : Context file function_start source) (n : ℕ) (inside : n < node_count file) (r : NodeRecord)
     (same : r ≡ record_at source n) where
   -- A decoded record is that of the file's node.
   pub node_reads : Reads (nodes_in file) n r
   node_reads = record {
-    falling = context.falling;
+    falling = context_falls file function_start source context;
     named = node_read_law file n inside ∙ ap (λ (x : NodeRecord). node_of x) (sym (same ∙ context.read n inside));
   }
 

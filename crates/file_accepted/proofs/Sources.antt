@@ -19,7 +19,7 @@ context_with file at source known held =
       few_nodes = known.few_nodes;
       field_listed = known.field_listed;
       node_listed = λ n inside. ap (λ (r : NodeRecord). node_in_tables r) (held.read n inside) ∙ known.node_listed n inside;
-      falling = known.falling;
+      below = known.falling.below;
       expressions_due = known.expressions_due;
       statements_due = known.statements_due;
     }

@@ -66,10 +66,8 @@ fn functions_end(file: &[u8], from: usize, count: usize) -> usize
     ensures upper_bound { result ≤ from + 513 * count }
 {
     let mut at = from;
-    let mut left = count;
-    while 0 < left {
+    for _ in 0..count {
         at = function_end(file, at);
-        left -= 1;
     }
     at
 }
@@ -84,11 +82,11 @@ pub fn read_layout(file: &[u8]) -> Layout
     let nodes_at = functions_end(file, functions_at + 1, functions);
     let nodes = two_bytes_at(file, nodes_at);
     Layout {
-        fields: fields,
-        functions_at: functions_at,
-        functions: functions,
-        nodes_at: nodes_at,
-        nodes: nodes,
+        fields,
+        functions_at,
+        functions,
+        nodes_at,
+        nodes,
     }
 }
 
@@ -103,10 +101,10 @@ pub fn read_node(file: &[u8], at: usize) -> Node
     let second = two_bytes_at(file, at + 4);
     let third = two_bytes_at(file, at + 6);
     Node {
-        kind: kind,
-        arg: arg,
-        first: first,
-        second: second,
-        third: third,
+        kind,
+        arg,
+        first,
+        second,
+        third,
     }
 }

@@ -1,7 +1,7 @@
 // What a kind of node says of the node's parts.
 #![tactic(auto)]
 
-ghost use Rattle.std.specs.Prelude.{◌≡◌, ◌||◌};
+ghost use Rattle.std.specs.Prelude.{◌≡◌};
 ghost use Rattle.file_children.specs.Children.{child_count, expression_count, is_expression_kind, is_statement_kind};
 
 use file_kinds::*;
@@ -55,11 +55,4 @@ pub fn is_statement_kind(kind: usize) -> bool
     ensures { result ≡ is_statement_kind kind }
 {
     SKIP <= kind && kind <= IF
-}
-
-// Both operands are worked out, so that a loop that notes an answer has one path.
-pub fn either(a: bool, b: bool) -> bool
-    ensures { result ≡ (a || b) }
-{
-    if a { true } else { b }
 }

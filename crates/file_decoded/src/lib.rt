@@ -2,58 +2,48 @@
 #![tactic(auto)]
 
 ghost use Rattle.std.specs.Prelude.{◌≡◌, ◌+◌, ◌*◌, ◌<◌, ◌≤◌};
-ghost use Rattle.kit.specs.Names.{length};
+ghost use Rattle.kit.specs.Names.{length, replicate};
 ghost use Rattle.file_bytes.specs.Node.{IsNode};
 ghost use Rattle.file_decoded.specs.Slices.{number_at, node_from, record_at, Narrow};
 ghost use Rattle.file_decoded.specs.Node.{IsDecoded};
 
 use file_bytes::Node;
 
-// Room for the most that number 2 lets pass: 64 fields.
-pub fn field_room() -> [u16; 192]
-    ensures { 192 ≡ length result }
-{
-    [0; 192]
+// A contract's sections, each as a slice of numbers; the parameters of all functions stand in one.
+#[derive(Clone, Copy)]
+pub struct DecodedSections<'a> {
+    pub fields: &'a [u16],
+    pub functions: &'a [u16],
+    pub parameters: &'a [u16],
+    pub nodes: &'a [u16],
 }
+
+// The most numbers that number 2 lets pass: 64 fields.
+pub const FIELD_NUMBERS: usize = 192;
 
 // 16 functions.
-pub fn function_room() -> [u16; 48]
-    ensures { 48 ≡ length result }
-{
-    [0; 48]
-}
+pub const FUNCTION_NUMBERS: usize = 48;
 
 // Eight parameters for each of them.
-pub fn parameter_room() -> [u16; 256]
-    ensures { 256 ≡ length result }
-{
-    [0; 256]
-}
+pub const PARAMETER_NUMBERS: usize = 256;
 
-// 512 nodes; and room for a short contract, 64 nodes, which costs less to clear.
-pub fn node_room() -> [u16; 2560]
-    ensures { 2560 ≡ length result }
-{
-    [0; 2560]
-}
+// 512 nodes.
+pub const NODE_NUMBERS: usize = 2560;
 
-pub fn short_node_room() -> [u16; 320]
-    ensures { 320 ≡ length result }
-{
-    [0; 320]
-}
+// 64 nodes, those of a short contract, which cost less to clear.
+pub const SHORT_NODE_NUMBERS: usize = 320;
 
-// A column with a number for each of their nodes.
-pub fn column_room() -> [u16; 512]
-    ensures { 512 ≡ length result }
-{
-    [0; 512]
-}
+// A column with a number for each of 512 nodes.
+pub const COLUMN_NUMBERS: usize = 512;
 
-pub fn short_column_room() -> [u16; 64]
-    ensures { 64 ≡ length result }
+// The same for a short contract.
+pub const SHORT_COLUMN_NUMBERS: usize = 64;
+
+// Room for so many numbers, all zero.
+pub fn numbers_room<const N: usize>() -> [u16; N]
+    ensures { (N ≡ length result) × (result ≡ replicate N 0) }
 {
-    [0; 64]
+    [0; N]
 }
 
 // The number at a place.
@@ -84,11 +74,11 @@ pub fn node_from(nodes: &[u16], at: usize) -> Node
     let second = number_from(nodes, at + 3);
     let third = number_from(nodes, at + 4);
     Node {
-        kind: kind,
-        arg: arg,
-        first: first,
-        second: second,
-        third: third,
+        kind,
+        arg,
+        first,
+        second,
+        third,
     }
 }
 

@@ -20,14 +20,8 @@ pub fn decode_nodes(file: &[u8], from: usize, nodes: &mut [u16])
         × (length nodes.new ≡ length nodes.old) }
     ensures narrow { Narrow nodes.new }
 {
-    let mut left = nodes.len() / 5;
-    let mut place = from;
-    let mut at = 0;
-    while 0 < left {
-        decode_node(file, place, nodes, at);
-        place += 8;
-        at += 5;
-        left -= 1;
+    for i in 0..nodes.len() / 5 {
+        decode_node(file, from + 8 * i, nodes, 5 * i);
     }
 }
 
@@ -62,16 +56,12 @@ fn decode_functions(file: &[u8], from: usize, functions: &mut [u16], parameters:
         × (parameters.new
         ≡ stored parameters.old 0 (parameters_numbers (length functions.old / 3) file.now from)) }
 {
-    let mut left = functions.len() / 3;
     let mut place = from;
-    let mut at = 0;
     let mut first = 0;
-    while 0 < left {
-        let own = decode_function(file, place, functions, at, parameters, first);
+    for i in 0..functions.len() / 3 {
+        let own = decode_function(file, place, functions, 3 * i, parameters, first);
         place += 1 + 2 * own + 2;
-        at += 3;
         first += 2 * own;
-        left -= 1;
     }
 }
 

@@ -13,10 +13,8 @@ pub fn function_start(file: &[u8], f: u8) -> usize
 {
     let fields = byte_at(file, 0);
     let mut at = 1 + 3 * fields + 1;
-    let mut left = f as usize;
-    while 0 < left {
+    for _ in 0..f {
         at = function_end(file, at);
-        left -= 1;
     }
     at
 }

@@ -29,10 +29,8 @@ pub fn copy_bytes(file: &[u8], from: usize, count: usize, numbers: &mut [u16], a
     requires { (from + count ≤ length file.now) × (at + count ≤ length numbers.old) }
     ensures { numbers.new ≡ stored numbers.old at (bytes_at file.now from count) }
 {
-    let mut i = 0;
-    while i < count {
+    for i in 0..count {
         put_number(numbers, at + i, byte_in(file, from + i));
-        i += 1;
     }
 }
 

@@ -4,7 +4,7 @@ use Rattle.kit.specs.Names.{List, none, ℕ}
 use Rattle.definitions.specs.ContractFile.{field_at, node_count}
 use Rattle.definitions.specs.Owners.{name_of, place_owner}
 use Rattle.definitions.specs.Rewriting.{always}
-use Rattle.file_accepted.specs.Context.{Context, fields_in, scope_in}
+use Rattle.file_accepted.specs.Context.{fields_in, scope_in}
 use Rattle.rewrite_events.specs.Events.{Events, in_turn, place_events}
 use Rattle.rewrite_plans.specs.Plans.{node_expression}
 use Rattle.honest_supplies.specs.Supplies.{Room, body_in}
@@ -23,15 +23,13 @@ module _ (file : List ℕ) (function_start f : ℕ) where
   abbrev pub entry_events : ℕ → ℕ → Events
   entry_events key n = in_turn (body_in file function_start key) (keyed_events key n)
 
-pub record FieldReady (file : List ℕ) (function_start : ℕ) (source : List ℕ) (f n : ℕ) (out : List ℕ) (i : ℕ) : Type 0 where
+pub record FieldReady (file : List ℕ) (function_start f n : ℕ) (out : List ℕ) (i : ℕ) : Type 0 where
   pub small_field : f ≤ 255
   pub inside : n < node_count file
-  pub context : Context file function_start source
   pub room : Room out i (field_events file function_start f n)
 
-pub record EntryReady (file : List ℕ) (function_start : ℕ) (source : List ℕ) (f key n : ℕ) (out : List ℕ) (i : ℕ) : Type 0 where
+pub record EntryReady (file : List ℕ) (function_start f key n : ℕ) (out : List ℕ) (i : ℕ) : Type 0 where
   pub small_field : f ≤ 255
   pub key_inside : key < node_count file
   pub inside : n < node_count file
-  pub context : Context file function_start source
   pub room : Room out i (entry_events file function_start f key n)

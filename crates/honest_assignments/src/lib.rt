@@ -6,12 +6,13 @@ ghost use Rattle.kit.specs.Names.{cond, not, none, set};
 ghost use Rattle.definitions.specs.ContractFile.{field_at, is_everyone, node_count};
 ghost use Rattle.definitions.specs.Owners.{name_of, place_owner};
 ghost use Rattle.definitions.specs.Original.{position};
-ghost use Rattle.file_accepted.specs.Context.{Context, fields_in, scope_in};
+ghost use Rattle.file_accepted.specs.Context.{fields_in, scope_in};
 ghost use Rattle.rewrite_plans.specs.Plans.{node_expression};
 ghost use Rattle.honest_values.specs.Values.{value_of};
 ghost use Rattle.honest_supplies.specs.Supplies.{supplied_number, Wrote};
 ghost use Rattle.honest_assignments.specs.Assigned.{field_events, entry_events, FieldReady, EntryReady};
 
+use file_accepted::CheckedFunction;
 use file_bytes::Node;
 use file_kinds::EVERYONE_BYTE;
 use honest_supplies::{Placing, Turn, body_slots, place_slots};
@@ -28,26 +29,25 @@ fn put_taken(numbers: &mut [u32], taken: bool, p: usize, value: u32)
     }
 }
 
-fn is_private_field(file: &[u8], function_at: usize, source: &[u16], f: usize) -> bool
-    requires { (f ≤ 255) × (Context file.now function_at source.now) }
-    ensures { result ≡ not (is_everyone (place_owner (field_at (fields_in file.now) f).owner none)) }
+fn is_private_field(function: &CheckedFunction, f: usize) -> bool
+    requires { f ≤ 255 }
+    ensures { result ≡ not (is_everyone (place_owner (field_at (fields_in function.now.file.now) f).owner none)) }
 {
-    place_code(field_owner(file, f), NO_NAME) != EVERYONE_BYTE
+    place_code(field_owner(function.file, f), NO_NAME) != EVERYONE_BYTE
 }
 
-fn is_private_entry(file: &[u8], function_at: usize, source: &[u16], f: usize, key: usize) -> bool
-    requires { (f ≤ 255) × ((key < node_count file.now) × (Context file.now function_at source.now)) }
-    ensures { result ≡ not (is_everyone (place_owner (field_at (fields_in file.now) f).owner
-        (name_of (scope_in file.now function_at) (node_expression file.now key)))) }
+fn is_private_entry(function: &CheckedFunction, f: usize, key: usize) -> bool
+    requires { (f ≤ 255) × (key < node_count function.now.file.now) }
+    ensures { result ≡ not (is_everyone (place_owner (field_at (fields_in function.now.file.now) f).owner
+        (name_of (scope_in function.now.file.now function.now.at) (node_expression function.now.file.now key)))) }
 {
-    let owner = field_owner(file, f);
-    place_code(owner, name_code(file, function_at, source, key)) != EVERYONE_BYTE
+    let owner = field_owner(function.file, f);
+    place_code(owner, name_code(function, key)) != EVERYONE_BYTE
 }
 
 // The field of a node takes a value.
 pub fn field_slots(
-    file: &[u8],
-    source: &[u16],
+    function: &CheckedFunction,
     numbers: &mut [u32],
     arguments: &[u32],
     turn: Turn,
@@ -55,48 +55,38 @@ pub fn field_slots(
     out: &mut [u64],
     i: usize,
 ) -> usize
-    requires { FieldReady file.now turn.function_at source.now node.arg node.first out.old i }
+    requires { FieldReady function.now.file.now function.now.at node.arg node.first out.old i }
     ensures { (numbers.new ≡ cond turn.live
         (set numbers.old
-        (position (fields_in file.now) node.arg 0)
-        (value_of file.now arguments.now turn.caller numbers.old
-        (node_expression file.now node.first)))
+        (position (fields_in function.now.file.now) node.arg 0)
+        (value_of function.now.file.now arguments.now turn.caller numbers.old
+        (node_expression function.now.file.now node.first)))
         numbers.old)
-        × (Wrote (supplied_number file.now arguments.now turn.caller turn.live numbers.old)
-        out.old out.new i result (field_events file.now turn.function_at node.arg node.first)) }
+        × (Wrote (supplied_number function.now.file.now arguments.now turn.caller turn.live numbers.old)
+        out.old out.new i result (field_events function.now.file.now function.now.at node.arg node.first)) }
 {
-    let private = is_private_field(file, turn.function_at, source, node.arg);
+    let private = is_private_field(function, node.arg);
     let end = place_slots(
-        file,
-        source,
+        function,
         numbers,
         arguments,
         turn,
         Placing {
             n: node.first,
-            private: private,
+            private,
         },
         out,
         i,
     );
-    let v = value(
-        file,
-        turn.function_at,
-        source,
-        numbers,
-        arguments,
-        turn.caller,
-        node.first,
-    );
-    let p = position(file, node.arg, 0);
+    let v = value(function, numbers, arguments, turn.caller, node.first);
+    let p = position(function.file, node.arg, 0);
     put_taken(numbers, turn.live, p, v);
     end
 }
 
 // The entry of a node's field, at its key, takes a value.
 pub fn entry_slots(
-    file: &[u8],
-    source: &[u16],
+    function: &CheckedFunction,
     numbers: &mut [u32],
     arguments: &[u32],
     turn: Turn,
@@ -104,53 +94,36 @@ pub fn entry_slots(
     out: &mut [u64],
     i: usize,
 ) -> usize
-    requires { EntryReady file.now turn.function_at source.now node.arg node.first node.second out.old i }
+    requires { EntryReady function.now.file.now function.now.at node.arg node.first node.second out.old i }
     ensures { (numbers.new ≡ cond turn.live
         (set numbers.old
-        (position (fields_in file.now) node.arg
-        (value_of file.now arguments.now turn.caller numbers.old
-        (node_expression file.now node.first)))
-        (value_of file.now arguments.now turn.caller numbers.old
-        (node_expression file.now node.second)))
+        (position (fields_in function.now.file.now) node.arg
+        (value_of function.now.file.now arguments.now turn.caller numbers.old
+        (node_expression function.now.file.now node.first)))
+        (value_of function.now.file.now arguments.now turn.caller numbers.old
+        (node_expression function.now.file.now node.second)))
         numbers.old)
-        × (Wrote (supplied_number file.now arguments.now turn.caller turn.live numbers.old)
+        × (Wrote (supplied_number function.now.file.now arguments.now turn.caller turn.live numbers.old)
         out.old out.new i result
-        (entry_events file.now turn.function_at node.arg node.first node.second)) }
+        (entry_events function.now.file.now function.now.at node.arg node.first node.second)) }
 {
-    let private = is_private_entry(file, turn.function_at, source, node.arg, node.first);
-    let j = body_slots(file, source, numbers, arguments, turn, node.first, out, i);
+    let private = is_private_entry(function, node.arg, node.first);
+    let j = body_slots(function, numbers, arguments, turn, node.first, out, i);
     let end = place_slots(
-        file,
-        source,
+        function,
         numbers,
         arguments,
         turn,
         Placing {
             n: node.second,
-            private: private,
+            private,
         },
         out,
         j,
     );
-    let k = value(
-        file,
-        turn.function_at,
-        source,
-        numbers,
-        arguments,
-        turn.caller,
-        node.first,
-    );
-    let v = value(
-        file,
-        turn.function_at,
-        source,
-        numbers,
-        arguments,
-        turn.caller,
-        node.second,
-    );
-    let p = position(file, node.arg, k as usize);
+    let k = value(function, numbers, arguments, turn.caller, node.first);
+    let v = value(function, numbers, arguments, turn.caller, node.second);
+    let p = position(function.file, node.arg, k as usize);
     put_taken(numbers, turn.live, p, v);
     end
 }

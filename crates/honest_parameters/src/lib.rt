@@ -12,8 +12,8 @@ ghost use Rattle.honest_parameters.specs.Parameters.{ParametersNear, ParametersR
 ghost use Rattle.honest_parameters.specs.Parameters.{reader_for};
 
 use file_bytes::byte_at;
+use file_kinds::EVERYONE_CODE;
 use ledger_contents::{content_at, put_content};
-use ledger_places::number_at;
 use ledger_readers::{Reader, content_for};
 
 // The caller for a private parameter, all for a public one.
@@ -22,7 +22,7 @@ fn parameter_reader(file: &[u8], function_at: usize, k: usize, caller: u8) -> Re
     ensures result_value { reader_of_code result ≡ reader_for file.now function_at k caller }
     ensures short { Short result }
 {
-    if byte_at(file, function_at + 1 + 2 * k + 1) == 0 {
+    if byte_at(file, function_at + 1 + 2 * k + 1) == EVERYONE_CODE {
         Reader::Anyone
     } else {
         Reader::Only(caller as u32)
@@ -42,14 +42,10 @@ pub fn put_parameters(
     ensures { contents_of flat.new
         ≡ honest_parameters caller call 0 (parameters_in file.now function_at) arguments.now }
 {
-    let count = arguments.len();
-    let mut k = 0;
-    while k < count {
+    for (k, value) in arguments.iter().enumerate() {
         let reader = parameter_reader(file, function_at, k, caller);
-        let value = number_at(arguments, k);
-        let content = content_for(reader, call, k as u16, value);
+        let content = content_for(reader, call, k as u16, *value);
         put_content(flat, k, content);
-        k += 1;
     }
 }
 
@@ -66,7 +62,7 @@ fn put_if_public(
     ensures { Picked (is_private file.now function_at k) (content_at (contents_of parameters.now) k)
         flat.old flat.new r result }
 {
-    if byte_at(file, function_at + 1 + 2 * k + 1) == 0 {
+    if byte_at(file, function_at + 1 + 2 * k + 1) == EVERYONE_CODE {
         let content = content_at(parameters, k);
         put_content(flat, r, content);
         r + 1
@@ -81,11 +77,9 @@ pub fn put_public(file: &[u8], function_at: usize, parameters: &[u32], flat: &mu
     ensures { PublicPut file.now function_at parameters.now flat.new result }
 {
     let count = byte_at(file, function_at);
-    let mut k = 0;
     let mut r = 0;
-    while k < count {
+    for k in 0..count {
         r = put_if_public(file, function_at, k, parameters, flat, r);
-        k += 1;
     }
     r
 }

@@ -8,7 +8,7 @@ use Rattle.definitions.specs.Original.{reader_of}
 use Rattle.definitions.specs.Ledger.{Content, plain, content_for}
 use Rattle.theory_trees.specs.Trees.{statement_in}
 use Rattle.memory_buffer.specs.Buffer.{stored}
-use Rattle.file_accepted.specs.Context.{Context, nodes_in, scope_in}
+use Rattle.file_accepted.specs.Context.{nodes_in, scope_in}
 use Rattle.rewrite_events.specs.Events.{Events, variables_of, body_events}
 use Rattle.rewrite_events.specs.Ends.{simple_events}
 use Rattle.honest_values.specs.Values.{value_of, numbers_after}
@@ -77,9 +77,8 @@ pub record SimpleKind (kind : ℕ) : Type 0 where
   pub sequence : kind ≡ 17 → ⊥
   pub conditional : kind ≡ 21 → ⊥
 
-pub record Startable (file : List ℕ) (function_start : ℕ) (source : List ℕ) (n : ℕ) (out : List ℕ) (i : ℕ) (numbering : Numbering) : Type 0 where
+pub record Startable (file : List ℕ) (n : ℕ) (out : List ℕ) (i : ℕ) (numbering : Numbering) : Type 0 where
   pub inside : n < node_count file
-  pub context : Context file function_start source
   pub space : Space out i numbering
 
 -- What a statement leaves: the original's numbers, and those of its variables.

@@ -5,12 +5,12 @@
 ghost use Rattle.std.specs.Prelude.{◌≡◌, ◌&&◌, ◌<◌};
 ghost use Rattle.kit.specs.Names.{not};
 ghost use Rattle.definitions.specs.ContractFile.{node_count};
-ghost use Rattle.file_accepted.specs.Context.{Context};
 ghost use Rattle.rewrite_plans.specs.Plans.{node_expression};
 ghost use Rattle.honest_values.specs.Values.{kind_at};
 ghost use Rattle.honest_statements.specs.Honest.{is_taken, branch_numbers, honest_numbers, branches_numbers, node_statement, SimpleKind};
 ghost use Rattle.honest_statements.specs.Honest.{Startable, Honest, BranchHonest, BranchesHonest};
 
+use file_accepted::CheckedFunction;
 use file_decoded::node_at;
 use file_kinds::*;
 use honest_assignments::{entry_slots, field_slots};
@@ -31,25 +31,22 @@ fn only(live: bool, taken: bool) -> bool
 
 // Whether node n is true.
 fn is_taken(
-    file: &[u8],
-    function_at: usize,
-    source: &[u16],
+    function: &CheckedFunction,
     numbers: &[u32],
     arguments: &[u32],
     caller: u8,
     n: usize,
 ) -> bool
-    requires { (n < node_count file.now) × (Context file.now function_at source.now) }
-    ensures { result ≡ is_taken file.now function_at arguments.now caller numbers.now
-        (node_expression file.now n) }
+    requires { n < node_count function.now.file.now }
+    ensures { result ≡ is_taken function.now.file.now function.now.at arguments.now caller numbers.now
+        (node_expression function.now.file.now n) }
 {
-    value(file, function_at, source, numbers, arguments, caller, n) != 0
+    value(function, numbers, arguments, caller, n) != 0
 }
 
 // A statement that holds no other: an assignment, a require or a skip.
 fn simple_slots(
-    file: &[u8],
-    source: &[u16],
+    function: &CheckedFunction,
     numbers: &mut [u32],
     arguments: &[u32],
     turn: Turn,
@@ -57,19 +54,18 @@ fn simple_slots(
     out: &mut [u64],
     i: usize,
 ) -> usize
-    requires { (SimpleKind (kind_at source.now n))
-        × (Startable file.now turn.function_at source.now n out.old i
-        (honest_numbers file.now turn.function_at arguments.now turn.caller (node_statement file.now n)
+    requires { (SimpleKind (kind_at function.now.source.now n)) × (Startable function.now.file.now n out.old i
+        (honest_numbers function.now.file.now function.now.at arguments.now turn.caller (node_statement function.now.file.now n)
         turn.live numbers.old)) }
-    ensures { Honest file.now turn.function_at arguments.now turn.caller turn.live
-        (node_statement file.now n) numbers.old numbers.new out.old out.new i result }
+    ensures { Honest function.now.file.now function.now.at arguments.now turn.caller turn.live
+        (node_statement function.now.file.now n) numbers.old numbers.new out.old out.new i result }
 {
-    let node = node_at(source, n);
+    let node = node_at(function.source, n);
     let kind = node.kind;
     match kind {
-        FIELD_TAKES => field_slots(file, source, numbers, arguments, turn, node, out, i),
-        ENTRY_TAKES => entry_slots(file, source, numbers, arguments, turn, node, out, i),
-        REQUIRE => body_slots(file, source, numbers, arguments, turn, node.first, out, i),
+        FIELD_TAKES => field_slots(function, numbers, arguments, turn, node, out, i),
+        ENTRY_TAKES => entry_slots(function, numbers, arguments, turn, node, out, i),
+        REQUIRE => body_slots(function, numbers, arguments, turn, node.first, out, i),
         _ => i,
     }
 }
@@ -77,8 +73,7 @@ fn simple_slots(
 // Statement n, worked out where it is turn.live.
 #[cycle(branch_slots_branches_slots_conditional_slots_sequence_slots_statement_slots)]
 pub fn statement_slots(
-    file: &[u8],
-    source: &[u16],
+    function: &CheckedFunction,
     numbers: &mut [u32],
     arguments: &[u32],
     turn: Turn,
@@ -86,25 +81,24 @@ pub fn statement_slots(
     out: &mut [u64],
     i: usize,
 ) -> usize
-    requires { Startable file.now turn.function_at source.now n out.old i
-        (honest_numbers file.now turn.function_at arguments.now turn.caller (node_statement file.now n)
+    requires { Startable function.now.file.now n out.old i
+        (honest_numbers function.now.file.now function.now.at arguments.now turn.caller (node_statement function.now.file.now n)
         turn.live numbers.old) }
-    ensures { Honest file.now turn.function_at arguments.now turn.caller turn.live
-        (node_statement file.now n) numbers.old numbers.new out.old out.new i result }
+    ensures { Honest function.now.file.now function.now.at arguments.now turn.caller turn.live
+        (node_statement function.now.file.now n) numbers.old numbers.new out.old out.new i result }
 {
-    let kind = node_at(source, n).kind;
+    let kind = node_at(function.source, n).kind;
     match kind {
-        SEQUENCE => sequence_slots(file, source, numbers, arguments, turn, n, out, i),
-        IF => conditional_slots(file, source, numbers, arguments, turn, n, out, i),
-        _ => simple_slots(file, source, numbers, arguments, turn, n, out, i),
+        SEQUENCE => sequence_slots(function, numbers, arguments, turn, n, out, i),
+        IF => conditional_slots(function, numbers, arguments, turn, n, out, i),
+        _ => simple_slots(function, numbers, arguments, turn, n, out, i),
     }
 }
 
 // The second of two statements is worked out on what the first left.
 #[cycle(branch_slots_branches_slots_conditional_slots_sequence_slots_statement_slots)]
 fn sequence_slots(
-    file: &[u8],
-    source: &[u16],
+    function: &CheckedFunction,
     numbers: &mut [u32],
     arguments: &[u32],
     turn: Turn,
@@ -112,23 +106,21 @@ fn sequence_slots(
     out: &mut [u64],
     i: usize,
 ) -> usize
-    requires { (kind_at source.now n ≡ 17)
-        × (Startable file.now turn.function_at source.now n out.old i
-        (honest_numbers file.now turn.function_at arguments.now turn.caller (node_statement file.now n)
+    requires { (kind_at function.now.source.now n ≡ 17) × (Startable function.now.file.now n out.old i
+        (honest_numbers function.now.file.now function.now.at arguments.now turn.caller (node_statement function.now.file.now n)
         turn.live numbers.old)) }
-    ensures { Honest file.now turn.function_at arguments.now turn.caller turn.live
-        (node_statement file.now n) numbers.old numbers.new out.old out.new i result }
+    ensures { Honest function.now.file.now function.now.at arguments.now turn.caller turn.live
+        (node_statement function.now.file.now n) numbers.old numbers.new out.old out.new i result }
 {
-    let node = node_at(source, n);
-    let j = statement_slots(file, source, numbers, arguments, turn, node.first, out, i);
-    statement_slots(file, source, numbers, arguments, turn, node.second, out, j)
+    let node = node_at(function.source, n);
+    let j = statement_slots(function, numbers, arguments, turn, node.first, out, i);
+    statement_slots(function, numbers, arguments, turn, node.second, out, j)
 }
 
 // A condition, and then both branches.
 #[cycle(branch_slots_branches_slots_conditional_slots_sequence_slots_statement_slots)]
 fn conditional_slots(
-    file: &[u8],
-    source: &[u16],
+    function: &CheckedFunction,
     numbers: &mut [u32],
     arguments: &[u32],
     turn: Turn,
@@ -136,23 +128,21 @@ fn conditional_slots(
     out: &mut [u64],
     i: usize,
 ) -> usize
-    requires { (kind_at source.now n ≡ 21)
-        × (Startable file.now turn.function_at source.now n out.old i
-        (honest_numbers file.now turn.function_at arguments.now turn.caller (node_statement file.now n)
+    requires { (kind_at function.now.source.now n ≡ 21) × (Startable function.now.file.now n out.old i
+        (honest_numbers function.now.file.now function.now.at arguments.now turn.caller (node_statement function.now.file.now n)
         turn.live numbers.old)) }
-    ensures { Honest file.now turn.function_at arguments.now turn.caller turn.live
-        (node_statement file.now n) numbers.old numbers.new out.old out.new i result }
+    ensures { Honest function.now.file.now function.now.at arguments.now turn.caller turn.live
+        (node_statement function.now.file.now n) numbers.old numbers.new out.old out.new i result }
 {
-    let first = node_at(source, n).first;
-    let j = body_slots(file, source, numbers, arguments, turn, first, out, i);
-    branches_slots(file, source, numbers, arguments, turn, n, out, j)
+    let first = node_at(function.source, n).first;
+    let j = body_slots(function, numbers, arguments, turn, first, out, i);
+    branches_slots(function, numbers, arguments, turn, n, out, j)
 }
 
 // Of the two branches of conditional n at most one is taken.
 #[cycle(branch_slots_branches_slots_conditional_slots_sequence_slots_statement_slots)]
 fn branches_slots(
-    file: &[u8],
-    source: &[u16],
+    function: &CheckedFunction,
     numbers: &mut [u32],
     arguments: &[u32],
     turn: Turn,
@@ -160,30 +150,19 @@ fn branches_slots(
     out: &mut [u64],
     i: usize,
 ) -> usize
-    requires { (kind_at source.now n ≡ 21)
-        × (Startable file.now turn.function_at source.now n out.old i
-        (branches_numbers file.now turn.function_at arguments.now turn.caller (node_statement file.now n)
+    requires { (kind_at function.now.source.now n ≡ 21) × (Startable function.now.file.now n out.old i
+        (branches_numbers function.now.file.now function.now.at arguments.now turn.caller (node_statement function.now.file.now n)
         turn.live numbers.old)) }
-    ensures { BranchesHonest file.now turn.function_at arguments.now turn.caller turn.live
-        (node_statement file.now n) numbers.old numbers.new out.old out.new i result }
+    ensures { BranchesHonest function.now.file.now function.now.at arguments.now turn.caller turn.live
+        (node_statement function.now.file.now n) numbers.old numbers.new out.old out.new i result }
 {
-    let node = node_at(source, n);
-    let taken = is_taken(
-        file,
-        turn.function_at,
-        source,
-        numbers,
-        arguments,
-        turn.caller,
-        node.first,
-    );
+    let node = node_at(function.source, n);
+    let taken = is_taken(function, numbers, arguments, turn.caller, node.first);
     let k = branch_slots(
-        file,
-        source,
+        function,
         numbers,
         arguments,
         Turn {
-            function_at: turn.function_at,
             caller: turn.caller,
             live: both(turn.live, taken),
         },
@@ -192,12 +171,10 @@ fn branches_slots(
         i,
     );
     branch_slots(
-        file,
-        source,
+        function,
         numbers,
         arguments,
         Turn {
-            function_at: turn.function_at,
             caller: turn.caller,
             live: only(turn.live, taken),
         },
@@ -210,8 +187,7 @@ fn branches_slots(
 // A branch begins with its guard.
 #[cycle(branch_slots_branches_slots_conditional_slots_sequence_slots_statement_slots)]
 fn branch_slots(
-    file: &[u8],
-    source: &[u16],
+    function: &CheckedFunction,
     numbers: &mut [u32],
     arguments: &[u32],
     turn: Turn,
@@ -219,12 +195,12 @@ fn branch_slots(
     out: &mut [u64],
     i: usize,
 ) -> usize
-    requires { Startable file.now turn.function_at source.now n out.old i (branch_numbers
-        (honest_numbers file.now turn.function_at arguments.now turn.caller (node_statement file.now n)
+    requires { Startable function.now.file.now n out.old i (branch_numbers
+        (honest_numbers function.now.file.now function.now.at arguments.now turn.caller (node_statement function.now.file.now n)
         turn.live numbers.old)) }
-    ensures { BranchHonest file.now turn.function_at arguments.now turn.caller turn.live
-        (node_statement file.now n) numbers.old numbers.new out.old out.new i result }
+    ensures { BranchHonest function.now.file.now function.now.at arguments.now turn.caller turn.live
+        (node_statement function.now.file.now n) numbers.old numbers.new out.old out.new i result }
 {
     put_slot(out, i, 0);
-    statement_slots(file, source, numbers, arguments, turn, n, out, i + 1)
+    statement_slots(function, numbers, arguments, turn, n, out, i + 1)
 }

@@ -1,6 +1,6 @@
 -- Each step of writing a node's numbers: what it asks of the next, and what it has written after it.
-use Rattle.std.specs.Prelude.{◌≡◌, ◌+◌, ◌≤◌}
-use Rattle.kit.specs.Names.{refl, ap, sym, ◌∙◌, Bool, true, false, cond, not, List, map, ℕ, suc, arith, add-one, eqb, ne_eqb}
+use Rattle.std.specs.Prelude.{◌≡◌, ◌≤◌}
+use Rattle.kit.specs.Names.{refl, ap, sym, ◌∙◌, Bool, true, false, cond, not, List, map, ℕ, suc, arith, eqb, ne_eqb}
 use Rattle.definitions.specs.ContractFile.{me_name, Owner, everyone, owned_by, Expression, Scope, is_everyone}
 use Rattle.definitions.specs.Owners.{owner_of, is_public}
 use Rattle.definitions.specs.Rewriting.{Variable, supplied, read_from, always}
@@ -15,31 +15,31 @@ use Rattle.honest_values.specs.Values.{value_of}
 use Rattle.honest_supplies.specs.Supplies.{supplied_number, body_in, circuit_in, supply_in, placed_in, Room, Ready, Wrote}
 use Rattle.honest_supplies.proofs.Writing.{wrote_as, wrote_nothing, wrote_turn, room_as, room_first, room_second, supply_count, supply_variables}
 
-module _ (file : List ℕ) (function_start : ℕ) (source : List ℕ) (n : ℕ) (out : List ℕ) (i : ℕ) where
-  pub ready_as : (a b : Events) → b ≡ a → Ready file function_start source n out i b → Ready file function_start source n out i a
-  ready_as a b e r = record { inside = r.inside; context = r.context; room = room_as out i a b e r.room }
+module _ (file : List ℕ) (n : ℕ) (out : List ℕ) (i : ℕ) where
+  pub ready_as : (a b : Events) → b ≡ a → Ready file n out i b → Ready file n out i a
+  ready_as a b e r = record { inside = r.inside; room = room_as out i a b e r.room }
 
   -- Parts: none, one, or two in turn.
-  module _ (rule : Expression → Events) (parts : Parts) (p : PartsOf file n parts) (r : Ready file function_start source n out i (each_part rule (node_expression file n))) where
-    pub one_ready : parts.count ≡ 1 → Ready file function_start source parts.first out i (rule (node_expression file parts.first))
+  module _ (rule : Expression → Events) (parts : Parts) (p : PartsOf file n parts) (r : Ready file n out i (each_part rule (node_expression file n))) where
+    pub one_ready : parts.count ≡ 1 → Ready file parts.first out i (rule (node_expression file parts.first))
     one_ready h =
         let less = p.first (omega arith) in
-        record { inside = omega (arith, r.inside); context = r.context; room = room_as out i _ _ (p.one h rule) r.room }
+        record { inside = omega (arith, r.inside); room = room_as out i _ _ (p.one h rule) r.room }
 
     two_room : 2 ≤ parts.count → Room out i (in_turn (rule (node_expression file parts.first)) (rule (node_expression file parts.second)))
     two_room h = room_as out i _ _ (p.two h rule) r.room
 
-    pub first_ready : 2 ≤ parts.count → Ready file function_start source parts.first out i (rule (node_expression file parts.first))
+    pub first_ready : 2 ≤ parts.count → Ready file parts.first out i (rule (node_expression file parts.first))
     first_ready h =
         let less = p.first (omega arith) in
-        record { inside = omega (arith, r.inside); context = r.context; room = room_first out i _ _ (two_room h) }
+        record { inside = omega (arith, r.inside); room = room_first out i _ _ (two_room h) }
 
     module _ (number : Variable → ℕ) (after : List ℕ) (j : ℕ) where
       pub second_ready : 2 ≤ parts.count → Wrote number out after i j (rule (node_expression file parts.first))
-          → Ready file function_start source parts.second after j (rule (node_expression file parts.second))
+          → Ready file parts.second after j (rule (node_expression file parts.second))
       second_ready h w =
           let less = p.second h in
-          record { inside = omega (arith, r.inside); context = r.context; room = room_second number out after i j _ _ (two_room h) w }
+          record { inside = omega (arith, r.inside); room = room_second number out after i j _ _ (two_room h) w }
 
       pub one_wrote : parts.count ≡ 1 → Wrote number out after i j (rule (node_expression file parts.first)) → Wrote number out after i j (each_part rule (node_expression file n))
       one_wrote h w = wrote_as number out after i j _ _ (p.one h rule) w
@@ -73,9 +73,9 @@ module _ (scope : Scope) (e : Expression) (code : ℕ) where
 pub owner_room : (out : List ℕ) (i : ℕ) (o p : Owner) (e : Expression) (a : Events) → Room out i (supply_events always o e a) → Room out i (supply_events always p e a)
 owner_room out i o p e a r = record { fits = omega (arith, r.fits, supply_count always o e a i, supply_count always p e a i) }
 
-pub owner_ready : (file : List ℕ) (function_start : ℕ) (source : List ℕ) (n : ℕ) (out : List ℕ) (i : ℕ) (o p : Owner) (e : Expression) (a : Events)
-    → Ready file function_start source n out i (supply_events always o e a) → Ready file function_start source n out i (supply_events always p e a)
-owner_ready file function_start source n out i o p e a r = record { inside = r.inside; context = r.context; room = owner_room out i o p e a r.room }
+pub owner_ready : (file : List ℕ) (n : ℕ) (out : List ℕ) (i : ℕ) (o p : Owner) (e : Expression) (a : Events)
+    → Ready file n out i (supply_events always o e a) → Ready file n out i (supply_events always p e a)
+owner_ready file n out i o p e a r = record { inside = r.inside; room = owner_room out i o p e a r.room }
 
 module _ (file arguments : List ℕ) (caller : ℕ) (live : Bool) (numbers : List ℕ) where
   pub owner_wrote : (before after : List ℕ) (i next : ℕ) (o p : Owner) (e : Expression) (a : Events)
@@ -100,9 +100,6 @@ module _ (file arguments : List ℕ) (caller : ℕ) (live : Bool) (numbers : Lis
   unfolding supplied_number
   read_is o e = refl
 
-pub live_number : (live : Bool) (value found : ℕ) → live ≡ true → found ≡ value → found + 1 ≡ cond live (suc value) 0
-live_number live value found h e = rw (h, e) (add-one value)
-
 -- A value is supplied for a private place if it is public; else it follows the body rule.
 pub placed_supply : (a b c : Events) (private public : Bool) → private ≡ true → public ≡ true → cond private (cond public a b) c ≡ a
 placed_supply a b c private public h k = rw (h, k)
@@ -115,16 +112,16 @@ placed_open file function_start n private h = rw h
 
 -- The events of putting a value into a place, told by its owner.
 module _ (file : List ℕ) (function_start n : ℕ) where
-  pub placed_ready : (source : List ℕ) (out : List ℕ) (i : ℕ) (o : Owner) (private : Bool) → private ≡ not (is_everyone o)
-      → Ready file function_start source n out i (place_events (scope_in file function_start) always o (node_expression file n))
-      → Ready file function_start source n out i (placed_in file function_start n private)
-  placed_ready source out i everyone private h r = ready_as file function_start source n out i _ _ (rw h) r
-  placed_ready source out i (owned_by m) private h r =
+  pub placed_ready : (out : List ℕ) (i : ℕ) (o : Owner) (private : Bool) → private ≡ not (is_everyone o)
+      → Ready file n out i (place_events (scope_in file function_start) always o (node_expression file n))
+      → Ready file n out i (placed_in file function_start n private)
+  placed_ready out i everyone private h r = ready_as file n out i _ _ (rw h) r
+  placed_ready out i (owned_by m) private h r =
       rw h (go (is_public (scope_in file function_start) (node_expression file n)) r)
     where
-      go : (public : Bool) → Ready file function_start source n out i (cond public (supply_events always (owned_by m) (node_expression file n) (circuit_in file function_start n)) (body_in file function_start n))
-          → Ready file function_start source n out i (cond public (supply_in file function_start n) (body_in file function_start n))
-      go true r = owner_ready file function_start source n out i (owned_by m) (owned_by me_name) (node_expression file n) (circuit_in file function_start n) r
+      go : (public : Bool) → Ready file n out i (cond public (supply_events always (owned_by m) (node_expression file n) (circuit_in file function_start n)) (body_in file function_start n))
+          → Ready file n out i (cond public (supply_in file function_start n) (body_in file function_start n))
+      go true r = owner_ready file n out i (owned_by m) (owned_by me_name) (node_expression file n) (circuit_in file function_start n) r
       go false r = r
 
   pub placed_wrote : (arguments : List ℕ) (caller : ℕ) (live : Bool) (numbers before after : List ℕ) (i next : ℕ) (o : Owner) (private : Bool) → private ≡ not (is_everyone o)

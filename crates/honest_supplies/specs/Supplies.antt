@@ -5,7 +5,7 @@ use Rattle.definitions.specs.ContractFile.{me_name, owned_by, node_count}
 use Rattle.definitions.specs.Owners.{is_public}
 use Rattle.definitions.specs.Rewriting.{Variable, supplied, read_from, guard, always}
 use Rattle.memory_buffer.specs.Buffer.{stored}
-use Rattle.file_accepted.specs.Context.{Context, scope_in}
+use Rattle.file_accepted.specs.Context.{scope_in}
 use Rattle.rewrite_events.specs.Events.{Events, variables_of, variable_count, supply_events, body_events, circuit_events}
 use Rattle.rewrite_events.specs.Parts.{each_part}
 use Rattle.rewrite_plans.specs.Plans.{node_expression}
@@ -42,9 +42,8 @@ module _ (file : List ℕ) (function_start n : ℕ) where
 pub record Room (out : List ℕ) (i : ℕ) (events : Events) : Type 0 where
   pub fits : i + variable_count (events i) ≤ length out
 
-pub record Ready (file : List ℕ) (function_start : ℕ) (source : List ℕ) (n : ℕ) (out : List ℕ) (i : ℕ) (events : Events) : Type 0 where
+pub record Ready (file : List ℕ) (n : ℕ) (out : List ℕ) (i : ℕ) (events : Events) : Type 0 where
   pub inside : n < node_count file
-  pub context : Context file function_start source
   pub room : Room out i events
 
 pub record Wrote (number : Variable → ℕ) (before after : List ℕ) (i next : ℕ) (events : Events) : Type 0 where

@@ -6,20 +6,19 @@ ghost use Rattle.std.specs.Prelude.{◌≡◌, ◌∷◌, ◌<◌};
 ghost use Rattle.kit.specs.Names.{cond, [], suc, length};
 ghost use Rattle.definitions.specs.ContractFile.{node_count};
 ghost use Rattle.memory_buffer.specs.Buffer.{stored};
-ghost use Rattle.file_accepted.specs.Context.{Context};
 ghost use Rattle.rewrite_plans.specs.Plans.{node_expression};
 ghost use Rattle.honest_values.specs.Values.{value_of};
 ghost use Rattle.honest_supplies.specs.Supplies.{Ready, Wrote, supplied_number, body_in, circuit_in, supply_in, body_parts_in};
 ghost use Rattle.honest_supplies.specs.Supplies.{circuit_parts_in, placed_in};
 
+use file_accepted::CheckedFunction;
 use honest_values::value;
 use rewrite_owners::is_public;
 use rewrite_plans::{parts_of, read_code, supplied_code};
 
-// Where the function that is called begins, who calls it, and whether what is worked out lies in a branch that is taken.
+// Who calls, and whether what is worked out lies in a branch that is taken.
 #[derive(Clone, Copy)]
 pub struct Turn {
-    pub function_at: usize,
     pub caller: u8,
     pub live: bool,
 }
@@ -34,30 +33,20 @@ pub fn put_slot(out: &mut [u64], i: usize, value: u64)
 
 // One more than the value of node n where the branch is taken.
 fn supplied_number(
-    file: &[u8],
-    source: &[u16],
+    function: &CheckedFunction,
     numbers: &[u32],
     arguments: &[u32],
     turn: Turn,
     n: usize,
 ) -> u64
-    requires { (n < node_count file.now) × (Context file.now turn.function_at source.now) }
+    requires { n < node_count function.now.file.now }
     ensures { result ≡ cond turn.live
-        (suc (value_of file.now arguments.now turn.caller numbers.now
-        (node_expression file.now n)))
+        (suc (value_of function.now.file.now arguments.now turn.caller numbers.now
+        (node_expression function.now.file.now n)))
         0 }
 {
     if turn.live {
-        value(
-            file,
-            turn.function_at,
-            source,
-            numbers,
-            arguments,
-            turn.caller,
-            n,
-        ) as u64
-            + 1
+        value(function, numbers, arguments, turn.caller, n) as u64 + 1
     } else {
         0
     }
@@ -66,8 +55,7 @@ fn supplied_number(
 // The variables that the body's form of node n makes.
 #[cycle(body_parts_body_slots_circuit_parts_circuit_slots_supply_slots)]
 pub fn body_slots(
-    file: &[u8],
-    source: &[u16],
+    function: &CheckedFunction,
     numbers: &[u32],
     arguments: &[u32],
     turn: Turn,
@@ -75,22 +63,21 @@ pub fn body_slots(
     out: &mut [u64],
     i: usize,
 ) -> usize
-    requires { Ready file.now turn.function_at source.now n out.old i (body_in file.now turn.function_at n) }
-    ensures { Wrote (supplied_number file.now arguments.now turn.caller turn.live numbers.now)
-        out.old out.new i result (body_in file.now turn.function_at n) }
+    requires { Ready function.now.file.now n out.old i (body_in function.now.file.now function.now.at n) }
+    ensures { Wrote (supplied_number function.now.file.now arguments.now turn.caller turn.live numbers.now)
+        out.old out.new i result (body_in function.now.file.now function.now.at n) }
 {
-    if supplied_code(file, turn.function_at, source, n) == 0 {
-        body_parts(file, source, numbers, arguments, turn, n, out, i)
+    if supplied_code(function, n) == 0 {
+        body_parts(function, numbers, arguments, turn, n, out, i)
     } else {
-        supply_slots(file, source, numbers, arguments, turn, n, out, i)
+        supply_slots(function, numbers, arguments, turn, n, out, i)
     }
 }
 
 // The variable that node n is supplied in, and those of its circuit.
 #[cycle(body_parts_body_slots_circuit_parts_circuit_slots_supply_slots)]
 pub fn supply_slots(
-    file: &[u8],
-    source: &[u16],
+    function: &CheckedFunction,
     numbers: &[u32],
     arguments: &[u32],
     turn: Turn,
@@ -98,20 +85,19 @@ pub fn supply_slots(
     out: &mut [u64],
     i: usize,
 ) -> usize
-    requires { Ready file.now turn.function_at source.now n out.old i (supply_in file.now turn.function_at n) }
-    ensures { Wrote (supplied_number file.now arguments.now turn.caller turn.live numbers.now)
-        out.old out.new i result (supply_in file.now turn.function_at n) }
+    requires { Ready function.now.file.now n out.old i (supply_in function.now.file.now function.now.at n) }
+    ensures { Wrote (supplied_number function.now.file.now arguments.now turn.caller turn.live numbers.now)
+        out.old out.new i result (supply_in function.now.file.now function.now.at n) }
 {
-    let number = supplied_number(file, source, numbers, arguments, turn, n);
+    let number = supplied_number(function, numbers, arguments, turn, n);
     put_slot(out, i, number);
-    circuit_slots(file, source, numbers, arguments, turn, n, out, i + 1)
+    circuit_slots(function, numbers, arguments, turn, n, out, i + 1)
 }
 
 // The variables that the circuit of node n makes.
 #[cycle(body_parts_body_slots_circuit_parts_circuit_slots_supply_slots)]
 fn circuit_slots(
-    file: &[u8],
-    source: &[u16],
+    function: &CheckedFunction,
     numbers: &[u32],
     arguments: &[u32],
     turn: Turn,
@@ -119,14 +105,14 @@ fn circuit_slots(
     out: &mut [u64],
     i: usize,
 ) -> usize
-    requires { Ready file.now turn.function_at source.now n out.old i (circuit_in file.now turn.function_at n) }
-    ensures { Wrote (supplied_number file.now arguments.now turn.caller turn.live numbers.now)
-        out.old out.new i result (circuit_in file.now turn.function_at n) }
+    requires { Ready function.now.file.now n out.old i (circuit_in function.now.file.now function.now.at n) }
+    ensures { Wrote (supplied_number function.now.file.now arguments.now turn.caller turn.live numbers.now)
+        out.old out.new i result (circuit_in function.now.file.now function.now.at n) }
 {
-    if read_code(file, turn.function_at, source, n) == 0 {
-        circuit_parts(file, source, numbers, arguments, turn, n, out, i)
+    if read_code(function, n) == 0 {
+        circuit_parts(function, numbers, arguments, turn, n, out, i)
     } else {
-        let j = body_parts(file, source, numbers, arguments, turn, n, out, i);
+        let j = body_parts(function, numbers, arguments, turn, n, out, i);
         put_slot(out, j, 0);
         j + 1
     }
@@ -134,8 +120,7 @@ fn circuit_slots(
 
 #[cycle(body_parts_body_slots_circuit_parts_circuit_slots_supply_slots)]
 fn body_parts(
-    file: &[u8],
-    source: &[u16],
+    function: &CheckedFunction,
     numbers: &[u32],
     arguments: &[u32],
     turn: Turn,
@@ -143,26 +128,25 @@ fn body_parts(
     out: &mut [u64],
     i: usize,
 ) -> usize
-    requires { Ready file.now turn.function_at source.now n out.old i (body_parts_in file.now turn.function_at n) }
-    ensures { Wrote (supplied_number file.now arguments.now turn.caller turn.live numbers.now)
-        out.old out.new i result (body_parts_in file.now turn.function_at n) }
+    requires { Ready function.now.file.now n out.old i (body_parts_in function.now.file.now function.now.at n) }
+    ensures { Wrote (supplied_number function.now.file.now arguments.now turn.caller turn.live numbers.now)
+        out.old out.new i result (body_parts_in function.now.file.now function.now.at n) }
 {
-    let parts = parts_of(file, turn.function_at, source, n);
+    let parts = parts_of(function, n);
     let count = parts.count;
     match count {
         0 => i,
-        1 => body_slots(file, source, numbers, arguments, turn, parts.first, out, i),
+        1 => body_slots(function, numbers, arguments, turn, parts.first, out, i),
         _ => {
-            let j = body_slots(file, source, numbers, arguments, turn, parts.first, out, i);
-            body_slots(file, source, numbers, arguments, turn, parts.second, out, j)
+            let j = body_slots(function, numbers, arguments, turn, parts.first, out, i);
+            body_slots(function, numbers, arguments, turn, parts.second, out, j)
         }
     }
 }
 
 #[cycle(body_parts_body_slots_circuit_parts_circuit_slots_supply_slots)]
 fn circuit_parts(
-    file: &[u8],
-    source: &[u16],
+    function: &CheckedFunction,
     numbers: &[u32],
     arguments: &[u32],
     turn: Turn,
@@ -170,18 +154,18 @@ fn circuit_parts(
     out: &mut [u64],
     i: usize,
 ) -> usize
-    requires { Ready file.now turn.function_at source.now n out.old i (circuit_parts_in file.now turn.function_at n) }
-    ensures { Wrote (supplied_number file.now arguments.now turn.caller turn.live numbers.now)
-        out.old out.new i result (circuit_parts_in file.now turn.function_at n) }
+    requires { Ready function.now.file.now n out.old i (circuit_parts_in function.now.file.now function.now.at n) }
+    ensures { Wrote (supplied_number function.now.file.now arguments.now turn.caller turn.live numbers.now)
+        out.old out.new i result (circuit_parts_in function.now.file.now function.now.at n) }
 {
-    let parts = parts_of(file, turn.function_at, source, n);
+    let parts = parts_of(function, n);
     let count = parts.count;
     match count {
         0 => i,
-        1 => circuit_slots(file, source, numbers, arguments, turn, parts.first, out, i),
+        1 => circuit_slots(function, numbers, arguments, turn, parts.first, out, i),
         _ => {
-            let j = circuit_slots(file, source, numbers, arguments, turn, parts.first, out, i);
-            circuit_slots(file, source, numbers, arguments, turn, parts.second, out, j)
+            let j = circuit_slots(function, numbers, arguments, turn, parts.first, out, i);
+            circuit_slots(function, numbers, arguments, turn, parts.second, out, j)
         }
     }
 }
@@ -195,8 +179,7 @@ pub struct Placing {
 
 // The variables that a node makes when it is put into a place: "A public value put into a private place is supplied".
 pub fn place_slots(
-    file: &[u8],
-    source: &[u16],
+    function: &CheckedFunction,
     numbers: &[u32],
     arguments: &[u32],
     turn: Turn,
@@ -204,21 +187,21 @@ pub fn place_slots(
     out: &mut [u64],
     i: usize,
 ) -> usize
-    requires { Ready file.now turn.function_at source.now placing.n out.old i
-        (placed_in file.now turn.function_at placing.n placing.private) }
-    ensures { Wrote (supplied_number file.now arguments.now turn.caller turn.live numbers.now)
+    requires { Ready function.now.file.now placing.n out.old i
+        (placed_in function.now.file.now function.now.at placing.n placing.private) }
+    ensures { Wrote (supplied_number function.now.file.now arguments.now turn.caller turn.live numbers.now)
         out.old out.new i result
-        (placed_in file.now turn.function_at placing.n placing.private) }
+        (placed_in function.now.file.now function.now.at placing.n placing.private) }
 {
     let n = placing.n;
     let private = placing.private;
     if private {
-        if is_public(file, turn.function_at, source, n) {
-            supply_slots(file, source, numbers, arguments, turn, n, out, i)
+        if is_public(function, n) {
+            supply_slots(function, numbers, arguments, turn, n, out, i)
         } else {
-            body_slots(file, source, numbers, arguments, turn, n, out, i)
+            body_slots(function, numbers, arguments, turn, n, out, i)
         }
     } else {
-        body_slots(file, source, numbers, arguments, turn, n, out, i)
+        body_slots(function, numbers, arguments, turn, n, out, i)
     }
 }

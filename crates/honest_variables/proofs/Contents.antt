@@ -1,5 +1,5 @@
 -- The contents of a call's variables, put one after another.
-use Rattle.std.specs.Prelude.{◌≡◌, ◌∷◌, ◌++◌, ◌+◌, ◌-◌, ◌<◌, ◌≤◌}
+use Rattle.std.specs.Prelude.{◌≡◌, ◌∷◌, ◌++◌, ◌+◌, ◌*◌, ◌-◌, ◌<◌, ◌≤◌}
 use Rattle.kit.specs.Names.{refl, ap, sym, ◌∙◌, true, false, List, [], append_assoc, append-nil, ℕ, suc}
 use Rattle.kit.specs.Names.{arith, add-one, length, get_or, take, drop, set, length-append, drop-cons, take-suc-set, take_all}
 use Rattle.definitions.specs.ContractFile.{Name, owner_of_code}
@@ -96,8 +96,19 @@ module _ (log : List ℕ) (private : ℕ) (slots addresses flat₀ : List ℕ) (
   Entering i flat n =
       Left (address_from addresses) call slots addresses (contents_of_codes (address_from addresses) call 0 (codes_of private log) slots) (per_entry code_of (drop i log)) flat n
 
-  pub opening_start : VariablesRoom log private slots addresses flat₀ → Opening private flat₀ 0
-  opening_start ready = record { same = refl; count = omega (arith, ready.count); room = ready.room; narrow = ready.narrow }
+  pub opening_start : VariablesRoom log private slots addresses flat₀ → Opening (private - 0) flat₀ 0
+  opening_start ready = let all : private - 0 ≡ private = omega arith in rw all record { same = refl; count = omega (arith, ready.count); room = ready.room; narrow = ready.narrow }
+
+  -- One read fewer is left, and five numbers of the log fewer.
+  pub opening_less : (count passed : ℕ) (flat : List ℕ) (n : ℕ) → Opening (count - passed - 1) flat n → Opening (count - (passed + 1)) flat n
+  opening_less count passed flat n h =
+      let e : count - (passed + 1) ≡ count - passed - 1 = omega arith in
+      rw e h
+
+  pub entering_less : (e : ℕ) (flat : List ℕ) (n : ℕ) → Entering (5 * e + 5) flat n → Entering (5 * (e + 1)) flat n
+  entering_less e flat n h =
+      let next : 5 * (e + 1) ≡ 5 * e + 5 = omega arith in
+      rw next h
 
   pub opening_next : (left : ℕ) (flat : List ℕ) (n : ℕ) → 0 < left → Opening left flat n
       → Left (address_from addresses) call slots addresses goal (code_of 2 0 1 0 0 ++ codes_of (left - 1) log) flat n

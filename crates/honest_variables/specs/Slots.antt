@@ -2,7 +2,6 @@
 use Rattle.std.specs.Prelude.{◌≡◌, ◌++◌, ◌+◌, ◌<◌, ◌≤◌}
 use Rattle.kit.specs.Names.{true, List, ℕ, length, take, replicate}
 use Rattle.definitions.specs.ContractFile.{node_count}
-use Rattle.file_accepted.specs.Context.{Context}
 use Rattle.file_accepted.specs.Functions.{root_at}
 use Rattle.rewrite_events.specs.Events.{variable_count}
 use Rattle.honest_statements.specs.Honest.{honest_numbers, node_statement}
@@ -15,8 +14,7 @@ slots_of file function_start arguments caller numbers =
     ++ honest_numbers file function_start arguments caller (node_statement file (root_at file function_start)) true numbers
     (private_in file function_start)
 
-pub record SlotsRoom (file : List ℕ) (function_start : ℕ) (source : List ℕ) (slots : List ℕ) : Type 0 where
-  pub context : Context file function_start source
+pub record SlotsRoom (file : List ℕ) (function_start : ℕ) (slots : List ℕ) : Type 0 where
   pub root : root_at file function_start < node_count file
   pub room : private_in file function_start + variable_count (events_in file function_start) ≤ length slots
 

@@ -13,10 +13,11 @@ ghost use Rattle.honest_variables.specs.Slots.{SlotsRoom, SlotsPut};
 ghost use Rattle.honest_variables.specs.Variables.{codes_of, content_of_slot, contents_of_codes, VariablesRoom, AddressPlace, SlotReady};
 ghost use Rattle.honest_variables.specs.Variables.{EntryReady, EntryPut};
 
+use file_accepted::CheckedFunction;
 use file_bytes::{byte_at, function_end, two_bytes_at};
 use file_kinds::*;
 use honest_statements::statement_slots;
-use honest_supplies::{Turn, put_slot};
+use honest_supplies::Turn;
 use ledger_contents::{Content, put_content};
 use ledger_places::number_at;
 use ledger_readers::{Reader, content_for};
@@ -33,32 +34,22 @@ pub fn root_at(file: &[u8], function_at: usize) -> usize
 
 // One number a variable of a call: the reads of private parameters, then the body. The places' numbers are used up.
 pub fn honest_slots(
-    file: &[u8],
-    function_at: usize,
-    source: &[u16],
+    function: &CheckedFunction,
     numbers: &mut [u32],
     arguments: &[u32],
     caller: u8,
     slots: &mut [u64],
 ) -> usize
-    requires { SlotsRoom file.now function_at source.now slots.old }
-    ensures { SlotsPut file.now function_at arguments.now caller numbers.old
+    requires { SlotsRoom function.now.file.now function.now.at slots.old }
+    ensures { SlotsPut function.now.file.now function.now.at arguments.now caller numbers.old
         slots.old slots.new result }
 {
-    let count = byte_at(file, function_at);
-    let private = count_private(file, function_at + 1, count);
-    let mut i = 0;
-    while i < private {
-        put_slot(slots, i, 0);
-        i += 1;
-    }
-    let root = root_at(file, function_at);
-    let turn = Turn {
-        function_at: function_at,
-        caller: caller,
-        live: true,
-    };
-    statement_slots(file, source, numbers, arguments, turn, root, slots, private)
+    let count = byte_at(function.file, function.at);
+    let private = count_private(function.file, function.at + 1, count);
+    slots[..private].fill(0);
+    let root = root_at(function.file, function.at);
+    let turn = Turn { caller, live: true };
+    statement_slots(function, numbers, arguments, turn, root, slots, private)
 }
 
 // Where the address of a name's code stands.
@@ -108,7 +99,7 @@ fn content_of_slot(slot: u64, code: usize, addresses: &[u32], call: u16, n: usiz
 fn slot_at(slots: &[u64], n: usize) -> u64
     ensures { result ≡ get_or slots.now n 0 }
 {
-    if n < slots.len() { slots[n] } else { 0 }
+    slots.get(n).copied().unwrap_or(0)
 }
 
 // The variable that an entry makes, if any.
@@ -149,14 +140,18 @@ pub fn put_variables(
         ≡ contents_of_codes (address_from addresses.now) call 0 (codes_of private log.now) slots.now }
 {
     let mut n = 0;
-    let mut left = private;
-    while 0 < left {
-        n = put_entry(READ_LOGGED, 1, slots, addresses, call, flat, n);
-        left -= 1;
+    for _ in 0..private {
+        n = put_entry(
+            READ_LOGGED,
+            CALLER_CODE_SHORT,
+            slots,
+            addresses,
+            call,
+            flat,
+            n,
+        );
     }
-    let mut i = 0;
-    while i + 4 < log.len() {
-        n = put_entry(log[i], log[i + 2], slots, addresses, call, flat, n);
-        i += 5;
+    for e in 0..log.len() / 5 {
+        n = put_entry(log[5 * e], log[5 * e + 2], slots, addresses, call, flat, n);
     }
 }

@@ -7,14 +7,15 @@ ghost use Rattle.definitions.specs.ContractFile.{function_count};
 ghost use Rattle.definitions.specs.Ledger.{Content, plain_number, all_fit, is_after_done};
 ghost use Rattle.definitions.specs.Numbers.{check_number};
 ghost use Rattle.definitions.specs.Original.{address_in};
-ghost use Rattle.file_accepted.specs.Context.{scope_in, Source};
+ghost use Rattle.file_accepted.specs.Context.{scope_in};
 ghost use Rattle.ledger_contents.specs.Contents.{contents_of};
 ghost use Rattle.ledger_struct.specs.Ledgers.{ledger_from};
 ghost use Rattle.ledger_18_forms.specs.Forms.{fits_or_zero};
 ghost use Rattle.write_function_room.specs.Functions.{written_in, FunctionRoom};
 ghost use Rattle.ledger_18_variable.specs.Variables.{variable_form};
 
-use file_decoded::node_room;
+use file_accepted::CheckedFunction;
+use file_decoded::{NODE_NUMBERS, numbers_room};
 use file_functions::function_start;
 use file_kinds::PARAMETER_CODES_END;
 use file_source::decode_source;
@@ -26,21 +27,19 @@ use ledger_struct::{DONE, LastCall};
 
 // The variables of the last call, which was done, by the addresses of the names in it.
 pub fn done_variables_fit(
-    file: &[u8],
-    function_at: usize,
-    source: &[u16],
+    function: &CheckedFunction,
     caller: u8,
     parameters: &[u32],
     numbers: &[u32],
     variables: &[u32],
 ) -> bool
-    requires function_room { (FunctionRoom file.now function_at 0 0) × (Source file.now source.now) }
+    requires function_room { FunctionRoom function.now.file.now function.now.at 0 0 }
     requires parameters_len_bound { length parameters.now ≤ 40 }
     ensures { result ≡ all_fit fits_or_zero
-        (map (variable_form (scope_in file.now function_at)
-        (address_in (scope_in file.now function_at) caller
+        (map (variable_form (scope_in function.now.file.now function.now.at)
+        (address_in (scope_in function.now.file.now function.now.at) caller
         (map plain_number (contents_of parameters.now)) numbers.now))
-        (written_in file.now function_at).variables)
+        (written_in function.now.file.now function.now.at).variables)
         (contents_of variables.now) }
 {
     let count = parameters.len() / 5;
@@ -48,14 +47,14 @@ pub fn done_variables_fit(
     plain_numbers(parameters, &mut arguments[..]);
     let mut addresses = [0u32; PARAMETER_CODES_END];
     put_addresses(
-        file,
-        function_at,
+        function.file,
+        function.at,
         caller,
         &arguments[..count],
         numbers,
         &mut addresses[..],
     );
-    variables_fit(file, function_at, source, &addresses[..], variables)
+    variables_fit(function, &addresses[..], variables)
 }
 
 // After a done call, which shows all parameters and the variables.
@@ -75,17 +74,14 @@ pub fn is_after_done(
     }
     let function_at = function_start(file, last.function);
     if parameters_fit(file, function_at, last.caller, true, parameters) {
-        let mut room = node_room();
+        let mut room = numbers_room::<NODE_NUMBERS>();
         let count = decode_source(file, &mut room[..]);
-        done_variables_fit(
+        let function = CheckedFunction {
             file,
-            function_at,
-            &room[..count],
-            last.caller,
-            parameters,
-            numbers,
-            variables,
-        )
+            at: function_at,
+            source: &room[..count],
+        };
+        done_variables_fit(&function, last.caller, parameters, numbers, variables)
     } else {
         false
     }

@@ -40,22 +40,18 @@ pub fn parameters_fit(file: &[u8], function_at: usize, caller: u8, all: bool, fl
         (contents_of flat.now) }
 {
     let count = byte_at(file, function_at);
-    let mut k: usize = 0;
     let mut p: usize = 0;
-    while k < count {
+    for k in 0..count {
         let owner = byte_at(file, function_at + 1 + 2 * k + 1);
         if is_hidden(all, owner) {
-            k += 1;
-        } else {
-            let code = ledger_types::parameter_type(file, function_at, k);
-            let reader = parameter_reader(owner, caller);
-            if ledger_18_forms::fits_at(flat, p, code, reader) {
-                p += 1;
-                k += 1;
-            } else {
-                return false;
-            }
+            continue;
         }
+        let code = ledger_types::parameter_type(file, function_at, k);
+        let reader = parameter_reader(owner, caller);
+        if !ledger_18_forms::fits_at(flat, p, code, reader) {
+            return false;
+        }
+        p += 1;
     }
     flat.len() / 5 <= p
 }

@@ -18,12 +18,9 @@ fn field_fits(file: &[u8], numbers: &[u32], f: usize, p: usize, count: usize, fl
         (drop p (contents_of flat.now)) }
 {
     let code = ledger_types::field_type(file, f);
-    let mut key: usize = 0;
-    while key < count {
+    for key in 0..count {
         let reader = ledger_readers::place_reader(file, f, key as u32, numbers);
-        if ledger_18_forms::fits_at(flat, p + key, code, reader) {
-            key += 1;
-        } else {
+        if !ledger_18_forms::fits_at(flat, p + key, code, reader) {
             return false;
         }
     }
@@ -37,16 +34,13 @@ pub fn places_fit(file: &[u8], numbers: &[u32], flat: &[u32]) -> bool
         (contents_of flat.now) }
 {
     let count = file_bytes::byte_at(file, 0);
-    let mut f: usize = 0;
     let mut p: usize = 0;
-    while f < count {
+    for f in 0..count {
         let many = ledger_places::place_count(file, f);
-        if field_fits(file, numbers, f, p, many, flat) {
-            p += many;
-            f += 1;
-        } else {
+        if !field_fits(file, numbers, f, p, many, flat) {
             return false;
         }
+        p += many;
     }
     flat.len() / 5 <= p
 }

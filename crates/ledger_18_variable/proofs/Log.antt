@@ -5,7 +5,7 @@ use Rattle.kit.specs.Names.{drop, get_or, length-drop, eq-eqb, ne_eqb}
 use Rattle.definitions.specs.ContractFile.{DataType, boolean, Expression, node_count, data_type_of, Node, expression_of, type_of}
 use Rattle.definitions.specs.Original.{anyone, only}
 use Rattle.definitions.specs.Ledger.{Content, Form, all_fit}
-use Rattle.file_accepted.proofs.Nodes.{node_past}
+use Rattle.file_accepted.proofs.Nodes.{context_falls, node_past}
 use Rattle.theory_laws.proofs.Lists.{five_next}
 use Rattle.theory_trees.specs.Trees.{expression_in}
 use Rattle.theory_trees.proofs.Unfolding.{expression_unfolds}
@@ -37,7 +37,7 @@ module _ (file : List ℕ) (at : ℕ) (source : List ℕ) (tag n : ℕ) (context
 
   past_is_me : node_count file ≤ n → expression_in (nodes_in file) n ≡ Expression.me
   unfolding expression_of
-  past_is_me h = expression_unfolds (nodes_in file) context.falling n ∙ ap (λ (node : Node). expression_of node (expression_in (nodes_in file))) (node_past file n h)
+  past_is_me h = expression_unfolds (nodes_in file) (context_falls file at source context) n ∙ ap (λ (node : Node). expression_of node (expression_in (nodes_in file))) (node_past file n h)
 
   pub past_typed : (tag ≡ 3 → ⊥) → node_count file ≤ n → data_type_of 2 ≡ type_due
   unfolding type_of

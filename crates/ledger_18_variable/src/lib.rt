@@ -5,10 +5,11 @@ ghost use Rattle.std.specs.Prelude.{◌≡◌};
 ghost use Rattle.kit.specs.Names.{cond, eqb};
 ghost use Rattle.definitions.specs.ContractFile.{boolean, data_type_of, type_of};
 ghost use Rattle.theory_trees.specs.Trees.{expression_in};
-ghost use Rattle.file_accepted.specs.Context.{Context, nodes_in, scope_in};
+ghost use Rattle.file_accepted.specs.Context.{nodes_in, scope_in};
 ghost use Rattle.ledger_readers.specs.Readers.{reader_of_code};
 ghost use Rattle.ledger_18_variable.specs.Variables.{code_reader};
 
+use file_accepted::CheckedFunction;
 use file_bytes::two_bytes_at;
 use file_kinds::*;
 use ledger_readers::Reader;
@@ -27,17 +28,16 @@ pub fn code_reader(addresses: &[u32], code: usize) -> Reader
 }
 
 // The type code of an entry's variable: a guard is a bool.
-pub fn entry_type(file: &[u8], function_at: usize, source: &[u16], tag: u16, node: usize) -> usize
-    requires { Context file.now function_at source.now }
+pub fn entry_type(function: &CheckedFunction, tag: u16, node: usize) -> usize
     ensures { data_type_of result ≡ cond (eqb tag 3)
         boolean
-        (type_of (scope_in file.now function_at) (expression_in (nodes_in file.now) node)) }
+        (type_of (scope_in function.now.file.now function.now.at) (expression_in (nodes_in function.now.file.now) node)) }
 {
     if tag == GUARD_LOGGED {
         return BOOL;
     }
-    if node < source.len() / 5 {
-        type_code(file, function_at, source, node)
+    if node < function.source.len() / 5 {
+        type_code(function, node)
     } else {
         ADDRESS
     }

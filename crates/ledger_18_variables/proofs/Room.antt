@@ -2,9 +2,8 @@
 use Rattle.std.specs.Prelude.{◌≡◌, ◌&&◌, ◌≤◌}
 use Rattle.kit.specs.Names.{ap, ap₂, sym, ◌∙◌, Bool, true, List, map, ℕ, arith, length, drop, take, get_or, length-take-le}
 use Rattle.definitions.specs.Ledger.{all_fit}
-use Rattle.file_accepted.specs.Context.{Context, nodes_in, parameters_in, scope_in, Source}
+use Rattle.file_accepted.specs.Context.{nodes_in, parameters_in, scope_in}
 use Rattle.file_accepted.specs.Functions.{root_at}
-use Rattle.file_accepted.proofs.Sources.{context_with}
 use Rattle.ledger_contents.specs.Contents.{contents_of}
 use Rattle.ledger_circuits.specs.Circuits.{address_from}
 use Rattle.rewrite_log.specs.declared.Position.{Position}
@@ -22,14 +21,10 @@ module _ (file : List ℕ) (at : ℕ) (room : FunctionRoom file at 0 0) (private
   pub private_few : private ≤ 1024
   private_few = omega (arith, room.variables)
 
-  pub context_at : (source : List ℕ) → Source file source → Context file at source
-  context_at source held = context_with file at source room.context held
-
-  pub log_ready : (source log : List ℕ) → Source file source → length log ≡ 5120 → Ready file at source (root_at file at) log (starting_at private) (statement_of file at 0 (root_at file at))
-  log_ready source log held l =
+  pub log_ready : (log : List ℕ) → length log ≡ 5120 → Ready file (root_at file at) log (starting_at private) (statement_of file at 0 (root_at file at))
+  log_ready log l =
       record {
         inside = room.root;
-        context = context_at source held;
         room = record { space = rw same (omega (arith, room.events)); few = rw same (omega (arith, room.variables)) };
       }
 

@@ -7,7 +7,7 @@ ghost use Rattle.ledger_addresses.specs.Addresses.{named, address_of_code, FewNa
 
 use file_bytes::byte_at;
 use file_kinds::*;
-use ledger_places::{number_at, position, put_number};
+use ledger_places::{number_at, position};
 
 // The address that final f holds; a field that is not final holds none.
 fn final_address(file: &[u8], f: usize, places: &[u32]) -> u32
@@ -29,7 +29,7 @@ fn parameter_address(file: &[u8], function_at: usize, k: usize, arguments: &[u32
     ensures { result ≡ named file.now function_at 0 arguments.now arguments.now (parameter_name k) }
 {
     if k < byte_at(file, function_at) {
-        if byte_at(file, function_at + 1 + 2 * k + 1) == 0 {
+        if byte_at(file, function_at + 1 + 2 * k + 1) == EVERYONE_CODE {
             return number_at(arguments, k);
         }
     }
@@ -77,10 +77,7 @@ pub fn put_addresses(
     requires { AddressRoom file.now function_at out.old }
     ensures { Addressed file.now function_at caller arguments.now places.now out.new }
 {
-    let mut code = 0;
-    while code < PARAMETER_CODES_END {
-        let address = address_of_code(file, function_at, caller, arguments, places, code);
-        put_number(out, code, address);
-        code += 1;
+    for (code, address) in out.iter_mut().enumerate() {
+        *address = address_of_code(file, function_at, caller, arguments, places, code);
     }
 }

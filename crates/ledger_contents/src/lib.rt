@@ -96,7 +96,7 @@ pub fn put_content(flat: &mut [u32], p: usize, content: Content)
                     owner: 0,
                     call: 0,
                     index: 0,
-                    value: value,
+                    value,
                 },
             ),
             Content::Cell(cell) => put_five(flat, 5 * p, 1, cell),

@@ -18,10 +18,9 @@ module _ (number : Content → ℕ) (flat : List ℕ) where
       filled_more (map number (contents_of flat)) out after i n (number (plain 0)) (omega arith) (omega (arith, numbers_count)) same
       (e ∙ sym (get_or_map number (contents_of flat) i (plain 0))) put
 
-  pub numbers_done : (before after : List ℕ) (count i : ℕ) → count ≡ length flat / 5 → i ≡ count → length after ≡ length before
+  pub numbers_done : (before after : List ℕ) (i : ℕ) → i ≡ length flat / 5 → length after ≡ length before
       → take i after ≡ take i (map number (contents_of flat)) → Numbered number flat before after
-  numbers_done before after count i e f size same =
-      let whole : i ≡ length flat / 5 = f ∙ e in
+  numbers_done before after i whole size same =
       record {
         first = ap (λ (n : ℕ). take n after) (sym whole) ∙ filled_all (map number (contents_of flat)) after i (omega (arith, numbers_count)) same;
         size = size;

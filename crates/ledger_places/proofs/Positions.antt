@@ -1,7 +1,8 @@
 -- Where a place stands, told one field at a time from the first.
 use Rattle.std.specs.Prelude.{◌≡◌, ◌∷◌, ◌+◌, ◌*◌, ◌-◌, ◌<◌, ◌≤◌}
-use Rattle.kit.specs.Names.{refl, ap, sym, ◌∙◌, cond, List, [], ℕ, zero, suc, arith, add-one, length}
+use Rattle.kit.specs.Names.{refl, ap, sym, ◌∙◌, cond, List, [], ℕ, zero, suc, arith, add-one, length, min, inl, inr}
 use Rattle.kit.specs.Names.{drop, length-map, drop_of_length-le, drop-cons, ne_eqb}
+use Rattle.std.proofs.lemmas.Bool.{cases_lt}
 use Rattle.definitions.specs.ContractFile.{Field, field_at, is_mapping, byte_at, field_count, field_records, field_of, shape_of}
 use Rattle.definitions.specs.Reading.{fields_read}
 use Rattle.definitions.specs.Original.{place_count, position}
@@ -41,16 +42,16 @@ module _ (fields : List Field) (f i at goal : ℕ) (inv : position (drop i field
       (rw (e, position_more (drop (suc i) fields) (f - suc i) at (place_count (field_at fields i)))
       (sym (position_first (field_at fields i) (drop (suc i) fields) (f - i) (f - suc i) at (omega arith)) ∙ (rw opened at inv)))
 
-  pub position_all : length fields ≤ i → position (drop f fields) (f - f) at ≡ goal
-  position_all out =
-      let e : f - f ≡ 0 = omega arith in
-      rw (e, position_none (drop f fields) at)
-      (sym (position_past (f - i) at) ∙ (rw (drop_of_length-le fields out) at inv))
+  position_out : length fields ≤ i → at ≡ goal
+  position_out out = sym (position_past (f - i) at) ∙ (rw (drop_of_length-le fields out) at inv)
 
-  pub position_done : f ≤ i → at ≡ goal
-  position_done out =
+  position_none_left : f ≤ i → at ≡ goal
+  position_none_left out =
       let e : f - i ≡ 0 = omega arith in
       sym (position_none (drop i fields) at) ∙ (rw e at inv)
+
+  pub position_done : min f (length fields) ≤ i → at ≡ goal
+  position_done out = elim (cases_lt i f) [ inl more ↦ position_out (omega arith) | inr none ↦ position_none_left none ]
 
 records_length : (k : ℕ) (file : List ℕ) (at : ℕ) → length (field_records k file at) ≡ k
 unfolding fields_read

@@ -30,14 +30,8 @@ pub fn position(file: &[u8], f: usize, key: usize) -> usize
 {
     let count = byte_at(file, 0);
     let mut at = key;
-    let mut i = 0;
-    while i < f {
-        if i < count {
-            at += place_count(file, i);
-            i += 1;
-        } else {
-            i = f;
-        }
+    for i in 0..f.min(count) {
+        at += place_count(file, i);
     }
     at
 }
@@ -46,7 +40,7 @@ pub fn position(file: &[u8], f: usize, key: usize) -> usize
 pub fn number_at(numbers: &[u32], p: usize) -> u32
     ensures { result ≡ get_or numbers.now p 0 }
 {
-    if p < numbers.len() { numbers[p] } else { 0 }
+    numbers.get(p).copied().unwrap_or(0)
 }
 
 // A place that is not there takes no number.

@@ -28,9 +28,9 @@ pub fn content_for(reader: Reader, call: u16, index: u16, value: u32) -> Content
         Reader::Anyone => Content::Plain(value),
         Reader::Only(address) => Content::Cell(Cell {
             owner: address as u8,
-            call: call,
-            index: index,
-            value: value,
+            call,
+            index,
+            value,
         }),
     }
 }

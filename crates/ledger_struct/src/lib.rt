@@ -8,6 +8,7 @@ ghost use Rattle.ledger_struct.specs.Ledgers.{ledger_of, contents_in, Flat};
 ghost use Rattle.ledger_struct.specs.Whole.{places_for};
 
 use ledger_contents::{Content, Place};
+use std::array;
 
 // The outcome of a call: "(0 done, 1 failed)".
 pub const DONE: u8 = 0;
@@ -45,72 +46,37 @@ pub struct LastCall {
 pub fn at_most(count: usize, room: usize) -> usize
     ensures { result ≡ min count room }
 {
-    if count < room { count } else { room }
+    count.min(room)
 }
 
 // The contents of places as flat numbers.
-pub fn flatten(places: [Place; 1024], count: usize, flat: &mut [u32])
-    requires { length flat.old ≡ 5 * min count 1024 }
-    ensures { contents_of flat.new ≡ contents_in count places }
+pub fn flatten<const N: usize>(places: [Place; N], count: usize, flat: &mut [u32])
+    requires { length flat.old ≡ 5 * min count N }
+    ensures { contents_of flat.new ≡ contents_in count places.entry }
 {
-    let many = at_most(count, 1024);
-    let mut i: usize = 0;
-    while i < many {
-        let place = places[i];
-        let content = place.content;
-        ledger_contents::put_content(flat, i, content);
-        i += 1;
+    for (i, place) in places[..count.min(N)].iter().enumerate() {
+        ledger_contents::put_content(flat, i, place.content);
     }
 }
 
 // Places that hold the contents of flat numbers; those behind hold plain 0.
-pub fn filled(flat: &[u32]) -> [Place; 1024]
-    requires { length flat.now / 5 ≤ 1024 }
-    ensures { result ≡ places_for 1024 (contents_of flat.now) }
+pub fn filled<const N: usize>(flat: &[u32]) -> [Place; N]
+    requires { length flat.now / 5 ≤ N }
+    ensures { result ≡ places_for N (contents_of flat.now) }
 {
-    let zero = Place {
-        content: Content::Plain(0),
-    };
-    let mut places = [zero; 1024];
-    let mut i: usize = 0;
-    while i < flat.len() / 5 {
-        let content = ledger_contents::content_at(flat, i);
-        places[i] = Place { content: content };
-        i += 1;
-    }
-    places
+    array::from_fn(|p| Place {
+        content: ledger_contents::content_at(flat, p),
+    })
 }
 
-// The same for the eight places of parameters.
-pub fn flatten_eight(places: [Place; 8], count: usize, flat: &mut [u32])
-    requires { length flat.old ≡ 5 * min count 8 }
-    ensures { contents_of flat.new ≡ contents_in count places }
+// The contents of places at the front of a buffer with room for all of them. The answer is how many numbers they are.
+fn flat_front<const N: usize>(places: [Place; N], count: usize, flat: &mut [u32]) -> usize
+    requires { length flat.old ≡ 5 * N }
+    ensures { Flat (contents_in count places.entry) flat.new N result }
 {
-    let many = at_most(count, 8);
-    let mut i: usize = 0;
-    while i < many {
-        let place = places[i];
-        let content = place.content;
-        ledger_contents::put_content(flat, i, content);
-        i += 1;
-    }
-}
-
-pub fn filled_eight(flat: &[u32]) -> [Place; 8]
-    requires { length flat.now / 5 ≤ 8 }
-    ensures { result ≡ places_for 8 (contents_of flat.now) }
-{
-    let zero = Place {
-        content: Content::Plain(0),
-    };
-    let mut places = [zero; 8];
-    let mut i: usize = 0;
-    while i < flat.len() / 5 {
-        let content = ledger_contents::content_at(flat, i);
-        places[i] = Place { content: content };
-        i += 1;
-    }
-    places
+    let size = 5 * count.min(N);
+    flatten(places, count, &mut flat[..size]);
+    size
 }
 
 // A ledger is taken apart: its contents become flat numbers at the front of a buffer. The answer is how many numbers they are.
@@ -118,28 +84,19 @@ pub fn flat_parameters(l: Ledger, flat: &mut [u32]) -> usize
     requires { length flat.old ≡ 40 }
     ensures { Flat (ledger_of l).parameters flat.new 8 result }
 {
-    let parameters = l.parameters;
-    let size = 5 * at_most(l.parameter_count, 8);
-    flatten_eight(parameters, l.parameter_count, &mut flat[..size]);
-    size
+    flat_front(l.parameters, l.parameter_count, flat)
 }
 
 pub fn flat_variables(l: Ledger, flat: &mut [u32]) -> usize
     requires { length flat.old ≡ 5120 }
     ensures { Flat (ledger_of l).variables flat.new 1024 result }
 {
-    let variables = l.variables;
-    let size = 5 * at_most(l.variable_count, 1024);
-    flatten(variables, l.variable_count, &mut flat[..size]);
-    size
+    flat_front(l.variables, l.variable_count, flat)
 }
 
 pub fn flat_places(l: Ledger, flat: &mut [u32]) -> usize
     requires { length flat.old ≡ 5120 }
     ensures { Flat (ledger_of l).places flat.new 1024 result }
 {
-    let places = l.places;
-    let size = 5 * at_most(l.place_count, 1024);
-    flatten(places, l.place_count, &mut flat[..size]);
-    size
+    flat_front(l.places, l.place_count, flat)
 }

@@ -2,11 +2,12 @@
 #![tactic(auto)]
 
 ghost use Rattle.std.specs.Prelude.{◌≡◌, ◌<◌, ◌≤◌};
-ghost use Rattle.definitions.specs.ContractFile.{field_at, parameter_at, byte_at, field_count, node_count, data_type_of, operator_of, result_type};
-ghost use Rattle.definitions.specs.ContractFile.{type_of};
+ghost use Rattle.definitions.specs.ContractFile.{field_at, parameter_at, byte_at, field_count, node_count, data_type_of};
+ghost use Rattle.definitions.specs.ContractFile.{operator_of, result_type, type_of};
 ghost use Rattle.theory_trees.specs.Trees.{expression_in};
-ghost use Rattle.file_accepted.specs.Context.{Context, nodes_in, fields_in, parameters_in, scope_in};
+ghost use Rattle.file_accepted.specs.Context.{nodes_in, fields_in, parameters_in, scope_in};
 
+use file_accepted::CheckedFunction;
 use file_bytes::byte_at;
 use file_decoded::node_at;
 use file_kinds::*;
@@ -49,20 +50,21 @@ fn operator_type(code: usize) -> usize
 }
 
 // The type code of node n.
-pub fn type_code(file: &[u8], function_at: usize, source: &[u16], n: usize) -> usize
-    requires { (n < node_count file.now) × (Context file.now function_at source.now) }
-    ensures { data_type_of result ≡ type_of (scope_in file.now function_at) (expression_in (nodes_in file.now) n) }
+pub fn type_code(function: &CheckedFunction, n: usize) -> usize
+    requires { n < node_count function.now.file.now }
+    ensures { data_type_of result
+        ≡ type_of (scope_in function.now.file.now function.now.at) (expression_in (nodes_in function.now.file.now) n) }
 {
-    let node = node_at(source, n);
+    let node = node_at(function.source, n);
     let kind = node.kind;
     match kind {
         CONSTANT => node.arg,
-        FIELD => field_type(file, node.arg),
-        ENTRY => field_type(file, node.arg),
-        PARAMETER => parameter_type(file, function_at, node.arg),
+        FIELD => field_type(function.file, node.arg),
+        ENTRY => field_type(function.file, node.arg),
+        PARAMETER => parameter_type(function.file, function.at, node.arg),
         OPERATOR => operator_type(node.arg),
         NOT => BOOL,
-        REVEAL => type_code(file, function_at, source, node.first),
+        REVEAL => type_code(function, node.first),
         _ => ADDRESS,
     }
 }

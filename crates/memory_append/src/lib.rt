@@ -30,10 +30,7 @@ pub fn append(bytes: &[u8], out: &mut [u8], at: usize) -> usize
     requires { at + length bytes.now ≤ length out.old }
     ensures { Appended out.old out.new at bytes.now result }
 {
-    let mut i = 0;
-    while i < bytes.len() {
-        put_byte(out, at + i, bytes[i]);
-        i += 1;
-    }
-    at + i
+    let end = at + bytes.len();
+    out[at..end].copy_from_slice(bytes);
+    end
 }

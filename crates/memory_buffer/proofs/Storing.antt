@@ -1,8 +1,10 @@
--- Laws of `stored`: its length, nothing stored, one value, and one run stored right behind another.
+-- Laws of `stored`: its length, nothing stored, one value, a part written whole, and one run stored right behind another.
 use Rattle.std.specs.Prelude.{◌≡◌, ◌∷◌, ◌++◌, ◌+◌, ◌<◌, ◌≤◌}
-use Rattle.kit.specs.Names.{ap, sym, ◌∙◌, List, [], append-nil, append_assoc, ℕ, arith, add-zero, add_assoc}
+use Rattle.std.proofs.lemmas.Slice.{put_mid-paste}
+use Rattle.kit.specs.Names.{refl, ap, sym, ◌∙◌, List, [], append-nil, append_assoc, ℕ, arith, add-zero, add_assoc}
 use Rattle.kit.specs.Names.{length, set, take, drop, length-append, length-drop, take-append-drop, sets-eq, length-take-le, take_at}
-use Rattle.kit.specs.Names.{drop-append-add, drop-drop}
+use Rattle.kit.specs.Names.{take_all, drop-append-add, drop-drop}
+use borrow.Rule.Slice.PartMut.{put_mid}
 use Rattle.memory_buffer.specs.Buffer.{stored}
 
 module _ (held : List ℕ) (at : ℕ) where
@@ -26,6 +28,13 @@ module _ (held : List ℕ) (at : ℕ) where
   pub stored_one : (value : ℕ) → at < length held → stored held at (value ∷ []) ≡ set held at value
   unfolding stored
   stored_one value inside = sym (sets-eq (value ∷ []) held at (omega arith))
+
+  -- As `copy_from_slice` leaves a buffer whose part of k values it wrote.
+  pub stored_part : (part values : List ℕ) (k : ℕ) → part ≡ values → k ≡ length values → put_mid at k held part ≡ stored held at values
+  unfolding stored
+  stored_part part values k same long =
+      put_mid-paste at k held part values (length values) same (omega arith) refl
+      ∙ ap (λ (l : List ℕ). take at held ++ l ++ drop (at + length values) held) (take_all (length values) values (omega arith))
 
   pub stored_then : (first second : List ℕ) → at + length first ≤ length held
       → stored (stored held at first) (at + length first) second ≡ stored held at (first ++ second)

@@ -7,6 +7,7 @@ ghost use Rattle.program_arguments.specs.Options.{is_option};
 use std::env::{Env, FillError};
 
 // Whether each argument is the name of a file, and how many there are: 0 where one is not.
+// Kept: what `read_names` promises is a bound on the count of every answer, `result.count ≤ most`.
 #[derive(Clone, Copy)]
 pub struct Names {
     pub known: bool,
@@ -33,10 +34,7 @@ fn is_option_at(rt: &HostRuntime, place: usize) -> bool {
 // Whether there is an argument at a place; one that is too long for the buffer is there too.
 fn is_given(rt: &HostRuntime, place: usize) -> bool {
     let mut argument = io::buffer();
-    match rt.arg(place, &mut argument) {
-        Err(FillError::NotPresent) => false,
-        _ => true,
-    }
+    !matches!(rt.arg(place, &mut argument), Err(FillError::NotPresent))
 }
 
 // How many arguments follow the program's own name.
@@ -54,24 +52,11 @@ pub fn read_names(rt: &HostRuntime, most: usize) -> Names
     ensures { result.count ≤ most }
 {
     let count = given(rt);
-    if most < count {
+    if most < count || (1..=count).any(|place| is_option_at(rt, place)) {
         return Names {
             known: false,
             count: 0,
         };
     }
-    let mut passed: usize = 0;
-    while passed < count {
-        passed += 1;
-        if is_option_at(rt, passed) {
-            return Names {
-                known: false,
-                count: 0,
-            };
-        }
-    }
-    Names {
-        known: true,
-        count: count,
-    }
+    Names { known: true, count }
 }

@@ -96,7 +96,7 @@ fn begin_open(
     Beginning {
         length: input.length,
         ready: input.ready,
-        full: full,
+        full,
         file: if full { Some(file) } else { None },
     }
 }

@@ -12,6 +12,7 @@ use std::io::{Error, ErrorKind};
 use std::str::from_utf8;
 
 // Whether all of the bytes are kept, and how many that is.
+// Kept: what `write_file` promises is about the count of every answer, by `all_or_none` of whether it is whole.
 #[derive(Clone, Copy)]
 pub struct Kept {
     pub whole: bool,
@@ -46,13 +47,8 @@ fn fill(mut file: File, bytes: &[u8]) -> Result<(), Error> {
 fn is_replaceable(rt: &HostRuntime, name: &str) -> Result<(), Error> {
     match OpenOptions::new().read(true).write(true).open(rt, name) {
         Ok(file) => file.sync_all(),
-        Err(error) => {
-            if error.kind() == ErrorKind::NotFound {
-                Ok(())
-            } else {
-                Err(error)
-            }
-        }
+        Err(error) if error.kind() == ErrorKind::NotFound => Ok(()),
+        Err(error) => Err(error),
     }
 }
 

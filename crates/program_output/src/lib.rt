@@ -4,7 +4,7 @@
 
 mod files;
 
-ghost use Rattle.std.specs.Prelude.{◌+◌, ◌≤◌};
+ghost use Rattle.std.specs.Prelude.{◌+◌, ◌<◌, ◌≤◌, IfOk};
 ghost use Rattle.kit.specs.Names.{length};
 ghost use Rattle.definitions.specs.Report.{refused_line};
 
@@ -23,15 +23,17 @@ pub fn write_all<W: Write>(out: &mut W, bytes: &[u8]) -> Written
     ensures { result.length ≤ length bytes.now }
 {
     let mut done: usize = 0;
+    // Kept: each turn goes on by as many bytes as the system takes, and std's `write_all` does not say how many that were where it fails.
     while done < bytes.len() {
-        let taken = write_once(out, &bytes[done..]);
-        if taken.length == 0 {
-            return Written {
-                length: done,
-                failed: taken.failed,
-            };
+        match write_once(out, &bytes[done..]) {
+            Ok(taken) => done += taken,
+            Err(error) => {
+                return Written {
+                    length: done,
+                    failed: Some(error),
+                };
+            }
         }
-        done += taken.length;
     }
     Written {
         length: done,
@@ -40,22 +42,12 @@ pub fn write_all<W: Write>(out: &mut W, bytes: &[u8]) -> Written
 }
 
 // A write that takes nothing has failed, whatever it answers.
-fn write_once<W: Write>(out: &mut W, bytes: &[u8]) -> Written
-    ensures { result.length ≤ length bytes.now }
+fn write_once<W: Write>(out: &mut W, bytes: &[u8]) -> Result<usize, Error>
+    ensures { IfOk result (λ taken. (0 < taken) × (taken ≤ length bytes.now)) }
 {
-    match out.write(bytes) {
-        Ok(0) => Written {
-            length: 0,
-            failed: Some(Error::from(ErrorKind::WriteZero)),
-        },
-        Ok(taken) => Written {
-            length: taken,
-            failed: None,
-        },
-        Err(error) => Written {
-            length: 0,
-            failed: Some(error),
-        },
+    match out.write(bytes)? {
+        0 => Err(Error::from(ErrorKind::WriteZero)),
+        taken => Ok(taken),
     }
 }
 

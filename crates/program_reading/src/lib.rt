@@ -7,7 +7,6 @@ ghost use Rattle.kit.specs.Names.{min, length, take};
 ghost use Rattle.io.specs.Counts.{IsPrefixLen};
 ghost use Rattle.program_reading.specs.Inputs.{where_ready, fitting, Begins};
 
-use memory_append::append;
 use program_output::tell;
 use std::env::Env;
 use std::fs::File;
@@ -22,25 +21,11 @@ pub struct Reading {
 }
 
 // How many bytes were read, and whether there is an input at all: a failure was told, and so was a bad use of the program.
+// Kept: what `read_on` promises is about the count of every answer, by `where_ready` of whether there is an input.
 #[derive(Clone, Copy)]
 pub struct Read {
     pub length: usize,
     pub ready: bool,
-}
-
-fn read_once<S: Source>(source: &mut S, room: &mut [u8]) -> Reading
-    ensures { IsPrefixLen result.length room.new }
-{
-    match source.read(room) {
-        Ok(length) => Reading {
-            length: length,
-            failed: None,
-        },
-        Err(error) => Reading {
-            length: 0,
-            failed: Some(error),
-        },
-    }
 }
 
 // As many reads as it takes to come to the input's end or to fill the room.
@@ -48,15 +33,18 @@ pub fn read_all<S: Source>(source: &mut S, room: &mut [u8]) -> Reading
     ensures { IsPrefixLen result.length room.new }
 {
     let mut done: usize = 0;
+    // Kept: each turn goes on by as many bytes as the input gives, until it ends.
     while done < room.len() {
-        let reading = read_once(source, &mut room[done..]);
-        if reading.length == 0 {
-            return Reading {
-                length: done,
-                failed: reading.failed,
-            };
+        match source.read(&mut room[done..]) {
+            Ok(0) => break,
+            Ok(length) => done += length,
+            Err(error) => {
+                return Reading {
+                    length: done,
+                    failed: Some(error),
+                };
+            }
         }
-        done += reading.length;
     }
     Reading {
         length: done,
@@ -111,46 +99,18 @@ fn read_behind<S: Source>(
     }
 }
 
-// The name is read again, for a failure to be told by.
-fn read_named_behind(
-    rt: &HostRuntime,
-    program: &[u8],
-    file: &mut File,
-    room: &mut [u8],
-    count: usize,
-) -> Read
-    requires { count ≤ length room.old }
-    ensures prefix_len { IsPrefixLen result.length room.new }
-    ensures length_value { result.length ≡ where_ready result.ready result.length }
-    ensures count_bound { where_ready result.ready count ≤ result.length }
-    ensures room_unchanged { take count room.new ≡ take count room.old }
-    ensures room_len_unchanged { length room.new ≡ length room.old }
-{
-    let mut name = io::buffer();
-    let long = match rt.arg(1, &mut name) {
-        Ok(long) => long,
-        Err(_) => 0,
-    };
-    read_behind(rt, program, file, &name[..long], room, count)
-}
-
-fn at_most(count: usize, most: usize) -> usize
-    ensures { result ≡ min count most }
-{
-    if count < most { count } else { most }
-}
-
 // The bytes at the front of the room, as many of them as it has room for; the answer counts them.
 fn copy_start(start: &[u8], room: &mut [u8]) -> usize
     ensures value { result ≡ fitting start.now room.new }
     ensures begins { Begins start.now room.new }
 {
-    let count = at_most(start.len(), room.len());
-    append(&start[..count], room, 0)
+    let count = start.len().min(room.len());
+    room[..count].copy_from_slice(&start[..count]);
+    count
 }
 
 // An input that filled the room in which it was begun, in a larger one: the bytes that were read come to its front, and what is left of
-// the input behind them. It is standard input where there is no file.
+// the input behind them. It is standard input where there is no file; a file's name is read again, for a failure to be told by.
 pub fn read_on(
     rt: &HostRuntime,
     program: &[u8],
@@ -165,7 +125,11 @@ pub fn read_on(
 {
     let count = copy_start(start, room);
     match file {
-        Some(mut named) => read_named_behind(rt, program, &mut named, room, count),
+        Some(mut named) => {
+            let mut name = io::buffer();
+            let long = rt.arg(1, &mut name).unwrap_or(0);
+            read_behind(rt, program, &mut named, &name[..long], room, count)
+        }
         None => read_behind(rt, program, &mut rt.stdin(), b"standard input", room, count),
     }
 }

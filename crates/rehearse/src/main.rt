@@ -67,11 +67,9 @@ fn rehearse(rt: &HostRuntime, bytes: &[u8]) {
     if !print_line(rt, 0, ledger, script.party, &mut view[..], &mut line[..]) {
         return;
     }
-    let mut k: u8 = 0;
-    while k < script.calls {
+    for k in 0..script.calls {
         let called = call_at(bytes, k, ledger);
-        let after = called.ledger;
-        ledger = after;
+        ledger = called.ledger;
         if !print_line(
             rt,
             called.number,
@@ -82,7 +80,6 @@ fn rehearse(rt: &HostRuntime, bytes: &[u8]) {
         ) {
             return;
         }
-        k += 1;
     }
 }
 

@@ -33,10 +33,8 @@ fn append_hex(bytes: &[u8], out: &mut [u8], from: usize) -> usize
     ensures { Appended out.old out.new from (hex_text bytes.now) result }
 {
     let mut at = from;
-    let mut i: usize = 0;
-    while i < bytes.len() {
-        at = append_hex_byte(bytes[i], out, at);
-        i += 1;
+    for byte in bytes {
+        at = append_hex_byte(*byte, out, at);
     }
     at
 }

@@ -1,4 +1,4 @@
--- Calls one after another, and arguments one after another.
+-- Calls one after another, and numbers one after another.
 use Rattle.std.specs.Prelude.{◌≡◌, ◌∷◌, ◌++◌, ◌+◌, ◌-◌, ◌<◌, ◌≤◌}
 use Rattle.kit.specs.Names.{ap, sym, ◌∙◌, true, List, append-nil, ℕ, zero, suc, arith, add-one, length}
 use Rattle.kit.specs.Names.{set, take, take-suc-set, append_snoc, eqb-true}
@@ -37,7 +37,7 @@ parts_inside s h =
     let above = calls_above (call_count s) s (calls_at s) in
     omega arith
 
--- One argument more is read.
+-- One number more is read.
 module _ (s : List ℕ) (count at i : ℕ) (made goal : List ℕ) where
   numbers_step : i < count → numbers_at (count - i) s at ≡ four_bytes_at s at ∷ numbers_at (count - (i + 1)) s (at + 4)
   unfolding numbers_at

@@ -1,5 +1,5 @@
 -- Parts that are read one after another are those of the script.
-use Rattle.std.specs.Prelude.{◌≡◌, ◌+◌, ◌*◌, ◌-◌, ◌≤◌}
+use Rattle.std.specs.Prelude.{◌≡◌, ◌+◌, ◌*◌, ◌≤◌}
 use Rattle.kit.specs.Names.{ap, sym, ◌∙◌, Bool, true, false, List, [], ℕ, arith, eqb, length}
 use Rattle.definitions.specs.ContractFile.{byte_at, two_bytes_at}
 use Rattle.rehearse_scripts.specs.declared.Script.{Script}
@@ -53,10 +53,9 @@ pub argument_is : (s : List ℕ) (k j : ℕ) (r : Call) (v : ℕ) → IsCall s k
 argument_is s k j r v is e = e ∙ ap (λ (m : ℕ). four_bytes_at s (m + 4 * j)) is.arguments_start
 
 pub arguments_start_law : (s : List ℕ) (k : ℕ) (r : Call) → IsCall s k r
-    → numbers_at (r.arguments - 0) s r.arguments_at ≡ arguments_of s k
+    → numbers_at r.arguments s r.arguments_at ≡ arguments_of s k
 arguments_start_law s k r is =
-    let none : r.arguments - 0 ≡ r.arguments = omega arith in
-    ap (λ (n : ℕ). numbers_at n s r.arguments_at) (none ∙ is.arguments) ∙ ap (numbers_at (byte_at s (call_at s k + 2)) s) is.arguments_start
+    ap (λ (n : ℕ). numbers_at n s r.arguments_at) is.arguments ∙ ap (numbers_at (byte_at s (call_at s k + 2)) s) is.arguments_start
 
 -- The parts that a script lends.
 module _ (s : List ℕ) (test : Bool) (same : test ≡ is_script s) where

@@ -2,8 +2,9 @@
 #![tactic(auto)]
 
 ghost use Rattle.std.specs.Prelude.{◌≡◌, ◌+◌, ◌*◌, ◌≤◌};
+ghost use Rattle.kit.specs.Names.{length, take};
 ghost use Rattle.definitions.specs.ContractFile.{two_bytes_at};
-ghost use Rattle.rehearse_scripts.specs.Scripts.{four_bytes_at, calls_end, is_script, file_of, addresses_of, argument_at};
+ghost use Rattle.rehearse_scripts.specs.Scripts.{four_bytes_at, calls_end, is_script, file_of, addresses_of, argument_at, numbers_at};
 ghost use Rattle.rehearse_scripts.specs.Parts.{IsScriptParts, IsCall, ArgumentsStand};
 
 use file_bytes::{byte_at, two_bytes_at};
@@ -57,10 +58,8 @@ fn calls_end(bytes: &[u8], from: usize, count: usize) -> usize
     ensures upper_bound { result ≤ from + 1023 * count }
 {
     let mut at = from;
-    let mut left = count;
-    while 0 < left {
-        at = at + 3 + 4 * byte_at(bytes, at + 2);
-        left -= 1;
+    for _ in 0..count {
+        at += 3 + 4 * byte_at(bytes, at + 2);
     }
     at
 }
@@ -74,8 +73,8 @@ pub fn read_script(bytes: &[u8]) -> Script
     let party = byte_at(bytes, addresses_end);
     let calls = byte_at(bytes, addresses_end + 1);
     Script {
-        file_end: file_end,
-        addresses_end: addresses_end,
+        file_end,
+        addresses_end,
         party: party as u8,
         calls: calls as u8,
         calls_at: addresses_end + 2,
@@ -142,19 +141,22 @@ pub fn argument(bytes: &[u8], k: u8, j: u8) -> u32
     four_bytes_at(bytes, call.arguments_at + 4 * j as usize)
 }
 
+// Numbers of four bytes, as many as told, from a place on, at the front of an array that has room for the most that a call can have.
+pub fn numbers_at(bytes: &[u8], at: usize, count: usize) -> [u32; 255]
+    requires { (at ≤ 400000) × (count ≤ 255) }
+    ensures { (255 ≡ length result) × (take count result ≡ numbers_at count bytes.now at) }
+{
+    let mut made = [0u32; 255];
+    for i in 0..count {
+        made[i] = four_bytes_at(bytes, at + 4 * i);
+    }
+    made
+}
+
 // The arguments of call k at the front of an array.
 pub fn arguments(bytes: &[u8], k: u8) -> [u32; 255]
     ensures { ArgumentsStand bytes.now k result }
 {
     let call = read_call(bytes, k);
-    let count = call.arguments as usize;
-    let mut made = [0u32; 255];
-    let mut at = call.arguments_at;
-    let mut i: usize = 0;
-    while i < count {
-        made[i] = four_bytes_at(bytes, at);
-        at += 4;
-        i += 1;
-    }
-    made
+    numbers_at(bytes, call.arguments_at, call.arguments as usize)
 }

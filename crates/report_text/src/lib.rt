@@ -73,11 +73,8 @@ fn append_tallies(counts: &[u16], order: &[u8], out: &mut [u8], from: usize) -> 
         (flat_map tally_line (ordered_tallies counts.now (length counts.now) order.now)) result }
 {
     let mut at = from;
-    let mut i = 0;
-    while i < counts.len() {
-        let function = order[i];
-        at = append_tally(function, count_of(counts, function as usize), out, at);
-        i += 1;
+    for function in &order[..counts.len()] {
+        at = append_tally(*function, count_of(counts, *function as usize), out, at);
     }
     at
 }

@@ -14,10 +14,8 @@ pub fn total_of(counts: &[u16], order: &[u8], lines: usize) -> usize
     ensures { result ≡ total_of (ordered_tallies counts.now lines order.now) }
 {
     let mut total: usize = 0;
-    let mut i = 0;
-    while i < lines {
-        total += count_of(counts, order[i] as usize) as usize;
-        i += 1;
+    for function in &order[..lines] {
+        total += count_of(counts, *function as usize) as usize;
     }
     total
 }

@@ -20,7 +20,7 @@ and-false : (b : Bool) → b && false ≡ false
 and-false true = refl
 and-false false = refl
 
-module _ (file : List ℕ) (function_start : ℕ) (source : List ℕ) (guard n code : ℕ) where
+module _ (file : List ℕ) (function_start guard n code : ℕ) where
   open_place : code ≡ 0 → (o : Owner) → owner_code o ≡ code → place_of file function_start guard n o ≡ body_of file function_start guard n
   open_place z o is =
       place_is (scope_in file function_start) (guard_of guard) o (node_expression file n)
@@ -38,20 +38,20 @@ module _ (file : List ℕ) (function_start : ℕ) (source : List ℕ) (guard n c
   private_value private o is =
       place_is (scope_in file function_start) (guard_of guard) o (node_expression file n) ∙ pick_false _ _ _ (ap (λ (b : Bool). b && not (is_everyone o)) private)
 
-  module _ (before : List ℕ) (p : Position) (ready : ReadyToPlace file function_start source n guard code before p) where
-    pub open_ready : code ≡ 0 → Ready file function_start source n before p (body_of file function_start guard n)
-    open_ready z = ready_same file function_start source n before p _ _ (open_place z ready.owner ready.is) ready.ready
+  module _ (before : List ℕ) (p : Position) (ready : ReadyToPlace file function_start n guard code before p) where
+    pub open_ready : code ≡ 0 → Ready file n before p (body_of file function_start guard n)
+    open_ready z = ready_same file n before p _ _ (open_place z ready.owner ready.is) ready.ready
 
-    pub value_ready : is_public (scope_in file function_start) (node_expression file n) ≡ false → Ready file function_start source n before p (body_of file function_start guard n)
-    value_ready private = ready_same file function_start source n before p _ _ (private_value private ready.owner ready.is) ready.ready
+    pub value_ready : is_public (scope_in file function_start) (node_expression file n) ≡ false → Ready file n before p (body_of file function_start guard n)
+    value_ready private = ready_same file n before p _ _ (private_value private ready.owner ready.is) ready.ready
 
-    pub public_ready : (code ≡ 0 → ⊥) → is_public (scope_in file function_start) (node_expression file n) ≡ true → ReadyToSupply file function_start source n guard code before p
+    pub public_ready : (code ≡ 0 → ⊥) → is_public (scope_in file function_start) (node_expression file n) ≡ true → ReadyToSupply file function_start n guard code before p
     public_ready z public =
         record {
           owner = ready.owner;
           is = ready.is;
           small = ready.small;
-          ready = ready_same file function_start source n before p _ _ (private_place z public ready.owner ready.is) ready.ready;
+          ready = ready_same file n before p _ _ (private_place z public ready.owner ready.is) ready.ready;
         }
 
   module _ (before after : List ℕ) (p r : Position) where
@@ -67,12 +67,12 @@ module _ (file : List ℕ) (function_start : ℕ) (source : List ℕ) (guard n c
     public_placed z public h = record { for = λ o is. logged_same file before after p r _ _ (sym (private_place z public o is)) (h.for o is) }
 
 -- Assignments: the owner of the place, from the codes that are read of the file.
-module _ (file : List ℕ) (function_start : ℕ) (source : List ℕ) (guard f : ℕ) (declared : ℕ) (read : declared ≡ field_owner_code (field_at (fields_in file) f).owner) (code : ℕ) (small : code < 256) where
+module _ (file : List ℕ) (function_start guard f : ℕ) (declared : ℕ) (read : declared ≡ field_owner_code (field_at (fields_in file) f).owner) (code : ℕ) (small : code < 256) where
   module _ (n : ℕ) (is : code ≡ place_code declared 0) (before : List ℕ) (p : Position) where
     field_code : owner_code (place_owner (field_at (fields_in file) f).owner none) ≡ code
     field_code = place_code_law (field_at (fields_in file) f).owner none ∙ ap (λ (x : ℕ). place_code x 0) (sym read) ∙ sym is
 
-    pub field_ready : Ready file function_start source n before p (assign_field_of file function_start guard f n) → ReadyToPlace file function_start source n guard code before p
+    pub field_ready : Ready file n before p (assign_field_of file function_start guard f n) → ReadyToPlace file function_start n guard code before p
     field_ready h = record { owner = place_owner (field_at (fields_in file) f).owner none; is = field_code; small = small; ready = h }
 
     pub field_logged : (after : List ℕ) (r : Position) → Placed file function_start guard n code before after p r
@@ -80,7 +80,7 @@ module _ (file : List ℕ) (function_start : ℕ) (source : List ℕ) (guard f :
     field_logged after r h = h.for (place_owner (field_at (fields_in file) f).owner none) field_code
 
   module _ (key value name : ℕ) (named : name ≡ name_code (name_of (scope_in file function_start) (node_expression file key))) (is : code ≡ place_code declared name)
-      (inside : value < node_count file) (before : List ℕ) (p : Position) (ready : Ready file function_start source key before p (assign_entry_of file function_start guard f key value)) where
+      (inside : value < node_count file) (before : List ℕ) (p : Position) (ready : Ready file key before p (assign_entry_of file function_start guard f key value)) where
     abbrev entry_owner : Owner
     entry_owner = place_owner (field_at (fields_in file) f).owner (name_of (scope_in file function_start) (node_expression file key))
 
@@ -89,18 +89,18 @@ module _ (file : List ℕ) (function_start : ℕ) (source : List ℕ) (guard f :
         place_code_law (field_at (fields_in file) f).owner (name_of (scope_in file function_start) (node_expression file key))
         ∙ ap₂ (λ (x y : ℕ). place_code x y) (sym read) (sym named) ∙ sym is
 
-    pub key_ready : Ready file function_start source key before p (body_of file function_start guard key)
+    pub key_ready : Ready file key before p (body_of file function_start guard key)
     key_ready =
-        record { inside = ready.inside; context = ready.context; room = turn_first (nodes_in file) before before p p (body_of file function_start guard key) (place_of file function_start guard value entry_owner) ready.room }
+        record { inside = ready.inside; room = turn_first (nodes_in file) before before p p (body_of file function_start guard key) (place_of file function_start guard value entry_owner) ready.room }
 
     module _ (middle : List ℕ) (q : Position) (logged : Logged (nodes_in file) before middle p q (body_of file function_start guard key p.variable)) where
-      pub entry_ready : ReadyToPlace file function_start source value guard code middle q
+      pub entry_ready : ReadyToPlace file function_start value guard code middle q
       entry_ready =
           record {
             owner = entry_owner;
             is = entry_code;
             small = small;
-            ready = record { inside = inside; context = ready.context; room = turn_second (nodes_in file) before middle p q (body_of file function_start guard key) (place_of file function_start guard value entry_owner) ready.room logged };
+            ready = record { inside = inside; room = turn_second (nodes_in file) before middle p q (body_of file function_start guard key) (place_of file function_start guard value entry_owner) ready.room logged };
           }
 
       pub entry_logged : (after : List ℕ) (r : Position) → Placed file function_start guard value code middle after q r

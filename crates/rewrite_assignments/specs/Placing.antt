@@ -28,11 +28,11 @@ abbrev pub branch_of : List ℕ → ℕ → ℕ → Events
 branch_of file function_start n = branch_events (statement_events (scope_in file function_start) (statement_in (nodes_in file) n))
 
 -- A value that is put into a place, of whose owner the code alone is known.
-pub record ReadyToPlace (file : List ℕ) (function_start : ℕ) (source : List ℕ) (n guard code : ℕ) (log : List ℕ) (p : Position) : Type 0 where
+pub record ReadyToPlace (file : List ℕ) (function_start n guard code : ℕ) (log : List ℕ) (p : Position) : Type 0 where
   pub owner : Owner
   pub is : owner_code owner ≡ code
   pub small : code < 256
-  pub ready : Ready file function_start source n log p (place_of file function_start guard n owner)
+  pub ready : Ready file n log p (place_of file function_start guard n owner)
 
 pub record Placed (file : List ℕ) (function_start guard n code : ℕ) (before after : List ℕ) (p r : Position) : Type 0 where
   pub for : (o : Owner) → owner_code o ≡ code → Logged (nodes_in file) before after p r (place_of file function_start guard n o p.variable)

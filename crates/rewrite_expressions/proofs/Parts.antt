@@ -13,8 +13,8 @@ use Rattle.rewrite_plans.specs.declared.Parts.{Parts}
 use Rattle.rewrite_plans.specs.Plans.{node_expression, PartsOf}
 use Rattle.rewrite_expressions.specs.Translations.{Ready}
 
-module _ (rule : Expression → Events) (file : List ℕ) (function_start : ℕ) (source : List ℕ) (n : ℕ) (parts : Parts) (found : PartsOf file n parts) (before : List ℕ) (p : Position)
-    (ready : Ready file function_start source n before p (each_part rule (node_expression file n))) where
+module _ (rule : Expression → Events) (file : List ℕ) (n : ℕ) (parts : Parts) (found : PartsOf file n parts) (before : List ℕ) (p : Position)
+    (ready : Ready file n before p (each_part rule (node_expression file n))) where
   abbrev whole : Events
   whole = each_part rule (node_expression file n)
 
@@ -46,10 +46,10 @@ module _ (rule : Expression → Events) (file : List ℕ) (function_start : ℕ)
     pub first_below : parts.first < n
     first_below = found.first (omega arith)
 
-    pub first_ready : Ready file function_start source parts.first before p first_of
+    pub first_ready : Ready file parts.first before p first_of
     first_ready =
         let less = first_below in
-        record { inside = omega (arith, ready.inside); context = ready.context; room = first_room (eqb parts.count 1) refl }
+        record { inside = omega (arith, ready.inside); room = first_room (eqb parts.count 1) refl }
 
     module _ (middle : List ℕ) (q : Position) (logged : Logged (nodes_in file) before middle p q (first_of p.variable)) where
       pub one_logged : parts.count ≡ 1 → Logged (nodes_in file) before middle p q (whole p.variable)
@@ -65,12 +65,11 @@ module _ (rule : Expression → Events) (file : List ℕ) (function_start : ℕ)
         pub second_below : parts.second < n
         second_below = found.second two_parts_law
 
-        pub second_ready : Ready file function_start source parts.second middle q second_of
+        pub second_ready : Ready file parts.second middle q second_of
         second_ready =
             let less = second_below in
             record {
               inside = omega (arith, ready.inside);
-              context = ready.context;
               room = turn_second (nodes_in file) before middle p q first_of second_of both logged;
             }
 

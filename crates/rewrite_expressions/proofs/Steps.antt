@@ -1,5 +1,5 @@
 -- One step of each translation: what a node's log needs and what it holds, from the logs of its parts.
-use Rattle.std.specs.Prelude.{◌≡◌, ◌-◌, ◌<◌}
+use Rattle.std.specs.Prelude.{◌≡◌, ◌-◌, ◌<◌, ◌≤◌}
 use Rattle.kit.specs.Names.{ap, sym, subst, ◌∙◌, Bool, true, false, cond, not, List, ℕ, arith, length, length-map, eq-eqb}
 use Rattle.kit.specs.Names.{ne_eqb}
 use Rattle.definitions.specs.ContractFile.{Owner, node_count, owner_code, sections_of, node_of}
@@ -26,16 +26,16 @@ pub node_known : (file : List ℕ) (n : ℕ) → n < node_count file → n < len
 unfolding nodes_in
 node_known file n h = omega (arith, length-map (sections_of file).nodes node_of, count_of_nodes file)
 
-module _ (file : List ℕ) (function_start : ℕ) (source : List ℕ) (n : ℕ) (log : List ℕ) (p : Position) where
-  pub ready_same : (a b : Events) → a ≡ b → Ready file function_start source n log p a → Ready file function_start source n log p b
-  ready_same a b e h = subst (λ (x : Events). Ready file function_start source n log p x) e h
+module _ (file : List ℕ) (n : ℕ) (log : List ℕ) (p : Position) where
+  pub ready_same : (a b : Events) → a ≡ b → Ready file n log p a → Ready file n log p b
+  ready_same a b e h = subst (λ (x : Events). Ready file n log p x) e h
 
 pub logged_same : (file before after : List ℕ) (p r : Position) (a b : Events) → a ≡ b → Logged (nodes_in file) before after p r (a p.variable)
     → Logged (nodes_in file) before after p r (b p.variable)
 logged_same file before after p r a b e h = subst (λ (x : Events). Logged (nodes_in file) before after p r (x p.variable)) e h
 
 -- In the body.
-module _ (file : List ℕ) (function_start : ℕ) (source : List ℕ) (guard n code : ℕ) (found : SuppliedCode (scope_in file function_start) (node_expression file n) code) where
+module _ (file : List ℕ) (function_start guard n code : ℕ) (found : SuppliedCode (scope_in file function_start) (node_expression file n) code) where
   body_kept : code ≡ 0 → body_of file function_start guard n ≡ body_parts_of file function_start guard n
   body_kept z =
       body_is (scope_in file function_start) (guard_of guard) (node_expression file n)
@@ -50,18 +50,18 @@ module _ (file : List ℕ) (function_start : ℕ) (source : List ℕ) (guard n c
   supplied_code z = let some : 0 < code = omega arith in omega (arith, found.owner some)
 
   module _ (before : List ℕ) (p : Position) where
-    pub kept_ready : code ≡ 0 → Ready file function_start source n before p (body_of file function_start guard n)
-        → Ready file function_start source n before p (body_parts_of file function_start guard n)
-    kept_ready z h = ready_same file function_start source n before p _ _ (body_kept z) h
+    pub kept_ready : code ≡ 0 → Ready file n before p (body_of file function_start guard n)
+        → Ready file n before p (body_parts_of file function_start guard n)
+    kept_ready z h = ready_same file n before p _ _ (body_kept z) h
 
-    pub supplied_ready : (code ≡ 0 → ⊥) → Ready file function_start source n before p (body_of file function_start guard n)
-        → ReadyToSupply file function_start source n guard (code - 1) before p
+    pub supplied_ready : (code ≡ 0 → ⊥) → Ready file n before p (body_of file function_start guard n)
+        → ReadyToSupply file function_start n guard (code - 1) before p
     supplied_ready z h =
         record {
           owner = supplied_for (node_expression file n);
           is = supplied_code z;
           small = omega (arith, found.small);
-          ready = ready_same file function_start source n before p _ _ (body_supplied z) h;
+          ready = ready_same file n before p _ _ (body_supplied z) h;
         }
 
     pub kept_logged : (after : List ℕ) (r : Position) → code ≡ 0 → Logged (nodes_in file) before after p r (body_parts_of file function_start guard n p.variable)
@@ -73,7 +73,7 @@ module _ (file : List ℕ) (function_start : ℕ) (source : List ℕ) (guard n c
     supplied_logged after r z h = logged_same file before after p r _ _ (sym (body_supplied z)) (h.for (supplied_for (node_expression file n)) (supplied_code z))
 
 -- In a circuit.
-module _ (file : List ℕ) (function_start : ℕ) (source : List ℕ) (guard n code : ℕ) (found : ReadCode (scope_in file function_start) (node_expression file n) code) where
+module _ (file : List ℕ) (function_start guard n code : ℕ) (found : ReadCode (scope_in file function_start) (node_expression file n) code) where
   abbrev owner : Owner
   owner = owner_of (scope_in file function_start) (node_expression file n)
 
@@ -91,23 +91,22 @@ module _ (file : List ℕ) (function_start : ℕ) (source : List ℕ) (guard n c
   read_code z = let some : 0 < code = omega arith in omega (arith, found.owner some)
 
   module _ (before : List ℕ) (p : Position) where
-    pub circuit_ready : code ≡ 0 → Ready file function_start source n before p (circuit_of file function_start guard n)
-        → Ready file function_start source n before p (circuit_parts_of file function_start guard n)
-    circuit_ready z h = ready_same file function_start source n before p _ _ (circuit_kept z) h
+    pub circuit_ready : code ≡ 0 → Ready file n before p (circuit_of file function_start guard n)
+        → Ready file n before p (circuit_parts_of file function_start guard n)
+    circuit_ready z h = ready_same file n before p _ _ (circuit_kept z) h
 
     pub circuit_logged : (after : List ℕ) (r : Position) → code ≡ 0 → Logged (nodes_in file) before after p r (circuit_parts_of file function_start guard n p.variable)
         → Logged (nodes_in file) before after p r (circuit_of file function_start guard n p.variable)
     circuit_logged after r z h = logged_same file before after p r _ _ (sym (circuit_kept z)) h
 
-    module _ (z : code ≡ 0 → ⊥) (ready : Ready file function_start source n before p (circuit_of file function_start guard n)) where
-      as_read : Ready file function_start source n before p (read_events owner (node_expression file n) (body_parts_of file function_start guard n))
-      as_read = ready_same file function_start source n before p _ _ (circuit_read z) ready
+    module _ (z : code ≡ 0 → ⊥) (ready : Ready file n before p (circuit_of file function_start guard n)) where
+      as_read : Ready file n before p (read_events owner (node_expression file n) (body_parts_of file function_start guard n))
+      as_read = ready_same file n before p _ _ (circuit_read z) ready
 
-      pub read_ready : Ready file function_start source n before p (body_parts_of file function_start guard n)
+      pub read_ready : Ready file n before p (body_parts_of file function_start guard n)
       read_ready =
           record {
             inside = ready.inside;
-            context = ready.context;
             room = read_parts (nodes_in file) n (code - 1) owner (read_code z) (node_known file n ready.inside) (body_parts_of file function_start guard n) before before p p as_read.room;
           }
 
@@ -115,13 +114,14 @@ module _ (file : List ℕ) (function_start : ℕ) (source : List ℕ) (guard n c
         pub read_room : Slot middle q 1
         read_room = read_slot (nodes_in file) n (code - 1) owner (read_code z) (node_known file n ready.inside) (body_parts_of file function_start guard n) before middle p q as_read.room parts
 
-        pub read_small : SmallEntry (record { tag = 2; variable = q.variable; owner = code - 1; node = n; last = p.variable })
-        read_small =
+        pub read_small : node_count file ≤ 512
+            → SmallEntry (record { tag = 2; variable = q.variable; owner = code - 1; node = n; last = p.variable })
+        read_small few =
             record {
               tag = omega arith;
               variable = omega (arith, read_room.few);
               owner = omega (arith, found.small);
-              node = omega (arith, ready.inside, ready.context.few_nodes);
+              node = omega (arith, ready.inside, few);
               last = omega (arith, ready.room.few);
             }
 

@@ -1,7 +1,7 @@
 -- The log of what is supplied: its variable, its circuit, its claim, for any owner of the code.
-use Rattle.std.specs.Prelude.{◌≡◌, ◌∷◌, ◌+◌, ◌<◌}
+use Rattle.std.specs.Prelude.{◌≡◌, ◌∷◌, ◌+◌, ◌<◌, ◌≤◌}
 use Rattle.kit.specs.Names.{ap, ◌∙◌, List, [], ℕ, suc, arith, length, length-append}
-use Rattle.definitions.specs.ContractFile.{Owner, Expression}
+use Rattle.definitions.specs.ContractFile.{Owner, Expression, node_count}
 use Rattle.definitions.specs.Rewriting.{Guard}
 use Rattle.file_accepted.specs.Context.{nodes_in}
 use Rattle.rewrite_events.specs.Events.{claimed_event, variables_of, variable_count, Events, supply_events}
@@ -33,8 +33,8 @@ supply_room log p g o other e circuit i room =
       few = omega (arith, room.few, supply_count g o e circuit i, supply_count g other e circuit i);
     }
 
-module _ (file : List ℕ) (function_start : ℕ) (source : List ℕ) (n guard code : ℕ) (small : guard < 65536) (before : List ℕ) (p : Position)
-    (ready : ReadyToSupply file function_start source n guard code before p) where
+module _ (file : List ℕ) (function_start n guard code : ℕ) (small : guard < 65536) (before : List ℕ) (p : Position)
+    (ready : ReadyToSupply file function_start n guard code before p) where
   any_room : (o : Owner) → Room before p (supply_of file function_start guard n o p.variable)
   any_room o = supply_room before p (guard_of guard) ready.owner o (node_expression file n) (circuit_of file function_start guard n) p.variable ready.ready.room
 
@@ -42,22 +42,21 @@ module _ (file : List ℕ) (function_start : ℕ) (source : List ℕ) (n guard c
   variable_slot =
       supply_slot (nodes_in file) guard n code ready.owner ready.is (node_known file n ready.ready.inside) (circuit_of file function_start guard n) before before p p (any_room ready.owner)
 
-  pub variable_small : SmallEntry (record { tag = 0; variable = p.variable; owner = code; node = n; last = 0 })
-  variable_small =
+  pub variable_small : node_count file ≤ 512 → SmallEntry (record { tag = 0; variable = p.variable; owner = code; node = n; last = 0 })
+  variable_small few =
       record {
         tag = omega arith;
         variable = omega (arith, variable_slot.few);
         owner = omega (arith, ready.small);
-        node = omega (arith, ready.ready.inside, ready.ready.context.few_nodes);
+        node = omega (arith, ready.ready.inside, few);
         last = omega arith;
       }
 
   module _ (first : List ℕ) (q : Position) (wrote : Wrote before first p q (five 0 p.variable code n 0) 1) where
-    pub inside_ready : Ready file function_start source n first q (circuit_of file function_start guard n)
+    pub inside_ready : Ready file n first q (circuit_of file function_start guard n)
     inside_ready =
         record {
           inside = ready.ready.inside;
-          context = ready.ready.context;
           room = supply_circuit (nodes_in file) guard n code ready.owner ready.is (node_known file n ready.ready.inside) (circuit_of file function_start guard n) before first p q (any_room ready.owner) wrote;
         }
 
@@ -66,13 +65,14 @@ module _ (file : List ℕ) (function_start : ℕ) (source : List ℕ) (n guard c
       claimed_slot =
           claim_slot (nodes_in file) guard n code ready.owner ready.is (node_known file n ready.ready.inside) (circuit_of file function_start guard n) before first p q (any_room ready.owner) wrote second r logged
 
-      pub claimed_small : SmallEntry (record { tag = 1; variable = p.variable; owner = code; node = n; last = guard })
-      claimed_small =
+      pub claimed_small : node_count file ≤ 512
+          → SmallEntry (record { tag = 1; variable = p.variable; owner = code; node = n; last = guard })
+      claimed_small few =
           record {
             tag = omega arith;
             variable = omega (arith, variable_slot.few);
             owner = omega (arith, ready.small);
-            node = omega (arith, ready.ready.inside, ready.ready.context.few_nodes);
+            node = omega (arith, ready.ready.inside, few);
             last = small;
           }
 

@@ -3,7 +3,7 @@ use Rattle.std.specs.Prelude.{◌≡◌, ◌<◌}
 use Rattle.kit.specs.Names.{List, ℕ}
 use Rattle.definitions.specs.ContractFile.{Owner, node_count, owner_code}
 use Rattle.theory_trees.specs.Trees.{statement_in}
-use Rattle.file_accepted.specs.Context.{Context, nodes_in, scope_in}
+use Rattle.file_accepted.specs.Context.{nodes_in, scope_in}
 use Rattle.rewrite_events.specs.Events.{Events, supply_events, body_events, circuit_events, statement_events}
 use Rattle.rewrite_events.specs.Parts.{each_part}
 use Rattle.rewrite_log.specs.declared.Position.{Position}
@@ -32,17 +32,16 @@ module _ (file : List ℕ) (function_start guard n : ℕ) where
   statement_of = statement_events (scope_in file function_start) (statement_in (nodes_in file) n) (guard_of guard)
 
 -- What a function that logs events of node n may rely on.
-pub record Ready (file : List ℕ) (function_start : ℕ) (source : List ℕ) (n : ℕ) (log : List ℕ) (p : Position) (events : Events) : Type 0 where
+pub record Ready (file : List ℕ) (n : ℕ) (log : List ℕ) (p : Position) (events : Events) : Type 0 where
   pub inside : n < node_count file
-  pub context : Context file function_start source
   pub room : Room log p (events p.variable)
 
 -- The same for what is supplied, for an owner of whom the code alone is known.
-pub record ReadyToSupply (file : List ℕ) (function_start : ℕ) (source : List ℕ) (n guard code : ℕ) (log : List ℕ) (p : Position) : Type 0 where
+pub record ReadyToSupply (file : List ℕ) (function_start n guard code : ℕ) (log : List ℕ) (p : Position) : Type 0 where
   pub owner : Owner
   pub is : owner_code owner ≡ code
   pub small : code < 256
-  pub ready : Ready file function_start source n log p (supply_of file function_start guard n owner)
+  pub ready : Ready file n log p (supply_of file function_start guard n owner)
 
 pub record Supplied (file : List ℕ) (function_start guard n code : ℕ) (before after : List ℕ) (p r : Position) : Type 0 where
   pub for : (o : Owner) → owner_code o ≡ code → Logged (nodes_in file) before after p r (supply_of file function_start guard n o p.variable)

@@ -3,13 +3,14 @@
 
 ghost use Rattle.std.specs.Prelude.{◌≡◌, ◌<◌, ◌≤◌};
 ghost use Rattle.kit.specs.Names.{cond, none, some};
-ghost use Rattle.definitions.specs.ContractFile.{final_name, parameter_name, field_at, parameter_at, is_final, byte_at, field_count, node_count};
-ghost use Rattle.definitions.specs.ContractFile.{owner_code, field_owner_code};
+ghost use Rattle.definitions.specs.ContractFile.{final_name, parameter_name, field_at, parameter_at, is_final, byte_at};
+ghost use Rattle.definitions.specs.ContractFile.{field_count, node_count, owner_code, field_owner_code};
 ghost use Rattle.definitions.specs.Owners.{name_of, owner_of, is_public_address, parameter_owner, is_public};
 ghost use Rattle.theory_trees.specs.Trees.{expression_in};
-ghost use Rattle.file_accepted.specs.Context.{Context, nodes_in, fields_in, parameters_in, scope_in};
+ghost use Rattle.file_accepted.specs.Context.{nodes_in, fields_in, parameters_in, scope_in};
 ghost use Rattle.rewrite_owners.specs.Codes.{name_code, parts_code, place_code, FieldsListed};
 
+use file_accepted::CheckedFunction;
 use file_bytes::byte_at;
 use file_decoded::node_at;
 use file_kinds::*;
@@ -109,17 +110,18 @@ pub fn place_code(owner: u8, key: u8) -> u8
 }
 
 // The name code of node n.
-pub fn name_code(file: &[u8], function_at: usize, source: &[u16], n: usize) -> u8
-    requires { (n < node_count file.now) × (Context file.now function_at source.now) }
-    ensures { result ≡ name_code (name_of (scope_in file.now function_at) (expression_in (nodes_in file.now) n)) }
+pub fn name_code(function: &CheckedFunction, n: usize) -> u8
+    requires { n < node_count function.now.file.now }
+    ensures { result ≡ name_code (name_of (scope_in function.now.file.now function.now.at)
+        (expression_in (nodes_in function.now.file.now) n)) }
 {
-    let node = node_at(source, n);
+    let node = node_at(function.source, n);
     let kind = node.kind;
     match kind {
         CONSTANT => NO_NAME,
-        FIELD => final_code(file, node.arg),
+        FIELD => final_code(function.file, node.arg),
         ENTRY => NO_NAME,
-        PARAMETER => address_code(file, function_at, node.arg),
+        PARAMETER => address_code(function.file, function.at, node.arg),
         OPERATOR => NO_NAME,
         NOT => NO_NAME,
         REVEAL => NO_NAME,
@@ -128,43 +130,38 @@ pub fn name_code(file: &[u8], function_at: usize, source: &[u16], n: usize) -> u
 }
 
 // The owner code of node n. An operator whose left operand is private is not gone through further.
-pub fn owner_code(file: &[u8], function_at: usize, source: &[u16], n: usize) -> u8
-    requires { (n < node_count file.now) × (Context file.now function_at source.now) }
-    ensures { result ≡ owner_code (owner_of (scope_in file.now function_at) (expression_in (nodes_in file.now) n)) }
+pub fn owner_code(function: &CheckedFunction, n: usize) -> u8
+    requires { n < node_count function.now.file.now }
+    ensures { result ≡ owner_code (owner_of (scope_in function.now.file.now function.now.at)
+        (expression_in (nodes_in function.now.file.now) n)) }
 {
-    let node = node_at(source, n);
+    let node = node_at(function.source, n);
     let kind = node.kind;
     match kind {
         CONSTANT => EVERYONE_BYTE,
-        FIELD => place_code(field_owner(file, node.arg), NO_NAME),
+        FIELD => place_code(field_owner(function.file, node.arg), NO_NAME),
         ENTRY => place_code(
-            field_owner(file, node.arg),
-            name_code(file, function_at, source, node.first),
+            field_owner(function.file, node.arg),
+            name_code(function, node.first),
         ),
-        PARAMETER => parameter_code(file, function_at, node.arg),
+        PARAMETER => parameter_code(function.file, function.at, node.arg),
         OPERATOR => {
-            if owner_code(file, function_at, source, node.first) == EVERYONE_BYTE {
-                parts_code(
-                    owner_code(file, function_at, source, node.second),
-                    EVERYONE_BYTE,
-                )
+            if owner_code(function, node.first) == EVERYONE_BYTE {
+                parts_code(owner_code(function, node.second), EVERYONE_BYTE)
             } else {
                 CALLER_BYTE
             }
         }
-        NOT => parts_code(
-            owner_code(file, function_at, source, node.first),
-            EVERYONE_BYTE,
-        ),
+        NOT => parts_code(owner_code(function, node.first), EVERYONE_BYTE),
         REVEAL => node.arg as u8,
         _ => EVERYONE_BYTE,
     }
 }
 
 // Whether node n belongs to all.
-pub fn is_public(file: &[u8], function_at: usize, source: &[u16], n: usize) -> bool
-    requires { (n < node_count file.now) × (Context file.now function_at source.now) }
-    ensures { result ≡ is_public (scope_in file.now function_at) (expression_in (nodes_in file.now) n) }
+pub fn is_public(function: &CheckedFunction, n: usize) -> bool
+    requires { n < node_count function.now.file.now }
+    ensures { result ≡ is_public (scope_in function.now.file.now function.now.at) (expression_in (nodes_in function.now.file.now) n) }
 {
-    owner_code(file, function_at, source, n) == EVERYONE_BYTE
+    owner_code(function, n) == EVERYONE_BYTE
 }

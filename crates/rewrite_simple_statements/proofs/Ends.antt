@@ -14,10 +14,10 @@ use Rattle.rewrite_expressions.specs.Translations.{statement_of, Ready}
 use Rattle.rewrite_simple_statements.specs.Simple.{simple_of}
 
 -- Node n's events, and then their end.
-module _ (file : List ℕ) (function_start : ℕ) (source : List ℕ) (n : ℕ) (before : List ℕ) (p : Position) (events : Events)
-    (ready : Ready file function_start source n before p (ended events)) where
-  pub parts_ready : Ready file function_start source n before p events
-  parts_ready = record { inside = ready.inside; context = ready.context; room = ended_parts (nodes_in file) events before before p p ready.room }
+module _ (file : List ℕ) (n : ℕ) (before : List ℕ) (p : Position) (events : Events)
+    (ready : Ready file n before p (ended events)) where
+  pub parts_ready : Ready file n before p events
+  parts_ready = record { inside = ready.inside; room = ended_parts (nodes_in file) events before before p p ready.room }
 
   module _ (first : List ℕ) (q : Position) (logged : Logged (nodes_in file) before first p q (events p.variable)) where
     pub end_ready : Slot first q 0
@@ -31,9 +31,9 @@ module _ (file : List ℕ) (function_start guard n : ℕ) (simple : is_simple (s
   whole_is : statement_of file function_start guard n ≡ ended (simple_of file function_start guard n)
   whole_is = simple_ended (scope_in file function_start) (statement_in (nodes_in file) n) (guard_of guard) simple
 
-  pub simple_ready : (source log : List ℕ) (p : Position) → Ready file function_start source n log p (statement_of file function_start guard n)
-      → Ready file function_start source n log p (ended (simple_of file function_start guard n))
-  simple_ready source log p h = subst (λ (x : Events). Ready file function_start source n log p x) whole_is h
+  pub simple_ready : (log : List ℕ) (p : Position) → Ready file n log p (statement_of file function_start guard n)
+      → Ready file n log p (ended (simple_of file function_start guard n))
+  simple_ready log p h = subst (λ (x : Events). Ready file n log p x) whole_is h
 
   pub simple_logged : (before after : List ℕ) (p r : Position) → Logged (nodes_in file) before after p r (ended (simple_of file function_start guard n) p.variable)
       → Logged (nodes_in file) before after p r (statement_of file function_start guard n p.variable)

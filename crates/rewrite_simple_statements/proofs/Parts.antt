@@ -4,7 +4,7 @@ use Rattle.kit.specs.Names.{ap, sym, subst, true, List, ℕ, arith}
 use Rattle.definitions.specs.ContractFile.{Statement, NodeRecord, node_count}
 use Rattle.theory_trees.specs.Trees.{statement_in}
 use Rattle.file_decoded.specs.Slices.{record_at}
-use Rattle.file_accepted.specs.Context.{nodes_in, scope_in}
+use Rattle.file_accepted.specs.Context.{Context, nodes_in, scope_in}
 use Rattle.theory_trees.proofs.ByKind.{still_is, assign_field_is, assign_entry_is, require_is, value_below, key_and_value_below, required_below}
 use Rattle.file_accepted.proofs.Nodes.{node_reads}
 use Rattle.rewrite_events.specs.Events.{Events, no_events}
@@ -18,8 +18,8 @@ use Rattle.rewrite_assignments.specs.Placing.{assign_field_of, assign_entry_of}
 use Rattle.rewrite_simple_statements.specs.Simple.{simple_of}
 use Rattle.rewrite_simple_statements.proofs.ByKind.{no_sequence, no_conditional}
 
-module _ (file : List ℕ) (function_start : ℕ) (source : List ℕ) (guard : ℕ) (n : ℕ) (before : List ℕ) (p : Position)
-    (ready : Ready file function_start source n before p (simple_of file function_start guard n)) (r : NodeRecord) (same : r ≡ record_at source n) where
+module _ (file : List ℕ) (function_start : ℕ) (source : List ℕ) (context : Context file function_start source) (guard : ℕ) (n : ℕ) (before : List ℕ) (p : Position)
+    (ready : Ready file n before p (simple_of file function_start guard n)) (r : NodeRecord) (same : r ≡ record_at source n) where
   abbrev whole : Events
   whole = simple_of file function_start guard n
 
@@ -27,11 +27,10 @@ module _ (file : List ℕ) (function_start : ℕ) (source : List ℕ) (guard : �
       → Logged (nodes_in file) before after p q (whole p.variable)
   logged_as after q events e h = subst (λ (x : Events). Logged (nodes_in file) before after p q (x p.variable)) (sym e) h
 
-  part : (m : ℕ) (events : Events) → m < n → whole ≡ events → Ready file function_start source m before p events
+  part : (m : ℕ) (events : Events) → m < n → whole ≡ events → Ready file m before p events
   part m events less e =
       record {
         inside = omega (arith, ready.inside);
-        context = ready.context;
         room = subst (λ (x : Events). Room before p (x p.variable)) e ready.room;
       }
 
@@ -42,22 +41,22 @@ module _ (file : List ℕ) (function_start : ℕ) (source : List ℕ) (guard : �
       → Logged (nodes_in file) before before p p (whole p.variable)
   unfolding simple_events no_events
   still_logged simple a b c =
-      logged_as before p no_events (statement_as _ (still_is (node_reads file function_start source ready.context n ready.inside r same)
+      logged_as before p no_events (statement_as _ (still_is (node_reads file function_start source context n ready.inside r same)
       (record {
-        sequence = no_sequence file function_start source ready.context n ready.inside r same simple;
+        sequence = no_sequence file function_start source context n ready.inside r same simple;
         assign_field = a;
         assign_entry = b;
         require = c;
-        conditional = no_conditional file function_start source ready.context n ready.inside r same simple;
+        conditional = no_conditional file function_start source context n ready.inside r same simple;
       }))) (nothing_logged (nodes_in file) before p)
 
   module _ (k : r.kind ≡ 18) where
     assign_field_events : whole ≡ assign_field_of file function_start guard r.arg r.first
     unfolding simple_events
-    assign_field_events = statement_as _ (assign_field_is (node_reads file function_start source ready.context n ready.inside r same) k)
+    assign_field_events = statement_as _ (assign_field_is (node_reads file function_start source context n ready.inside r same) k)
 
-    pub assign_field_ready : Ready file function_start source r.first before p (assign_field_of file function_start guard r.arg r.first)
-    assign_field_ready = part r.first _ (value_below (node_reads file function_start source ready.context n ready.inside r same) k) assign_field_events
+    pub assign_field_ready : Ready file r.first before p (assign_field_of file function_start guard r.arg r.first)
+    assign_field_ready = part r.first _ (value_below (node_reads file function_start source context n ready.inside r same) k) assign_field_events
 
     pub assign_field_logged : (after : List ℕ) (q : Position) → Logged (nodes_in file) before after p q (assign_field_of file function_start guard r.arg r.first p.variable)
         → Logged (nodes_in file) before after p q (whole p.variable)
@@ -66,13 +65,13 @@ module _ (file : List ℕ) (function_start : ℕ) (source : List ℕ) (guard : �
   module _ (k : r.kind ≡ 19) where
     assign_entry_events : whole ≡ assign_entry_of file function_start guard r.arg r.first r.second
     unfolding simple_events
-    assign_entry_events = statement_as _ (assign_entry_is (node_reads file function_start source ready.context n ready.inside r same) k)
+    assign_entry_events = statement_as _ (assign_entry_is (node_reads file function_start source context n ready.inside r same) k)
 
     pub entry_value_inside : r.second < node_count file
-    entry_value_inside = let less = (key_and_value_below (node_reads file function_start source ready.context n ready.inside r same) k).1 in omega (arith, ready.inside)
+    entry_value_inside = let less = (key_and_value_below (node_reads file function_start source context n ready.inside r same) k).1 in omega (arith, ready.inside)
 
-    pub assign_entry_ready : Ready file function_start source r.first before p (assign_entry_of file function_start guard r.arg r.first r.second)
-    assign_entry_ready = part r.first _ (key_and_value_below (node_reads file function_start source ready.context n ready.inside r same) k).0 assign_entry_events
+    pub assign_entry_ready : Ready file r.first before p (assign_entry_of file function_start guard r.arg r.first r.second)
+    assign_entry_ready = part r.first _ (key_and_value_below (node_reads file function_start source context n ready.inside r same) k).0 assign_entry_events
 
     pub assign_entry_logged : (after : List ℕ) (q : Position)
         → Logged (nodes_in file) before after p q (assign_entry_of file function_start guard r.arg r.first r.second p.variable)
@@ -82,10 +81,10 @@ module _ (file : List ℕ) (function_start : ℕ) (source : List ℕ) (guard : �
   module _ (k : r.kind ≡ 20) where
     require_events : whole ≡ body_of file function_start guard r.first
     unfolding simple_events
-    require_events = statement_as _ (require_is (node_reads file function_start source ready.context n ready.inside r same) k)
+    require_events = statement_as _ (require_is (node_reads file function_start source context n ready.inside r same) k)
 
-    pub require_ready : Ready file function_start source r.first before p (body_of file function_start guard r.first)
-    require_ready = part r.first _ (required_below (node_reads file function_start source ready.context n ready.inside r same) k) require_events
+    pub require_ready : Ready file r.first before p (body_of file function_start guard r.first)
+    require_ready = part r.first _ (required_below (node_reads file function_start source context n ready.inside r same) k) require_events
 
     pub require_logged : (after : List ℕ) (q : Position) → Logged (nodes_in file) before after p q (body_of file function_start guard r.first p.variable)
         → Logged (nodes_in file) before after p q (whole p.variable)

@@ -11,6 +11,7 @@ ghost use Rattle.rewrite_log.specs.Logs.{Slot, Wrote, Logged};
 ghost use Rattle.rewrite_expressions.specs.Translations.{Ready, statement_of};
 ghost use Rattle.rewrite_simple_statements.specs.Simple.{simple_of, condition_of};
 
+use file_accepted::CheckedFunction;
 use file_decoded::node_at;
 use file_kinds::*;
 use rewrite_assignments::{assign_entry_log, assign_field_log};
@@ -34,71 +35,56 @@ fn end_log(log: &mut [u16], p: Position) -> Position
 
 // The events of condition n under a guard, behind those that the log holds.
 pub fn condition_log(
-    file: &[u8],
-    function_at: usize,
-    source: &[u16],
+    function: &CheckedFunction,
     n: usize,
     guard: u16,
     log: &mut [u16],
     p: Position,
 ) -> Position
-    requires { Ready file.now function_at source.now n log.old p (condition_of file.now function_at guard n) }
-    ensures { Logged (nodes_in file.now) log.old log.new p result
-        (condition_of file.now function_at guard n p.variable) }
+    requires { Ready function.now.file.now n log.old p (condition_of function.now.file.now function.now.at guard n) }
+    ensures { Logged (nodes_in function.now.file.now) log.old log.new p result
+        (condition_of function.now.file.now function.now.at guard n p.variable) }
 {
-    let q = body_log(file, function_at, source, n, guard, log, p);
+    let q = body_log(function, n, guard, log, p);
     end_log(log, q)
 }
 
 // The events of statement n but for their end.
 fn parts_log(
-    file: &[u8],
-    function_at: usize,
-    source: &[u16],
+    function: &CheckedFunction,
     n: usize,
     guard: u16,
     log: &mut [u16],
     p: Position,
 ) -> Position
-    requires { (is_simple (statement_in (nodes_in file.now) n) ≡ true)
-        × (Ready file.now function_at source.now n log.old p (simple_of file.now function_at guard n)) }
-    ensures { Logged (nodes_in file.now) log.old log.new p result
-        (simple_of file.now function_at guard n p.variable) }
+    requires { (is_simple (statement_in (nodes_in function.now.file.now) n) ≡ true)
+        × (Ready function.now.file.now n log.old p (simple_of function.now.file.now function.now.at guard n)) }
+    ensures { Logged (nodes_in function.now.file.now) log.old log.new p result
+        (simple_of function.now.file.now function.now.at guard n p.variable) }
 {
-    let node = node_at(source, n);
+    let node = node_at(function.source, n);
     let kind = node.kind;
     match kind {
-        FIELD_TAKES => assign_field_log(
-            file,
-            function_at,
-            source,
-            node.arg,
-            node.first,
-            guard,
-            log,
-            p,
-        ),
-        ENTRY_TAKES => assign_entry_log(file, function_at, source, node, guard, log, p),
-        REQUIRE => body_log(file, function_at, source, node.first, guard, log, p),
+        FIELD_TAKES => assign_field_log(function, node.arg, node.first, guard, log, p),
+        ENTRY_TAKES => assign_entry_log(function, node, guard, log, p),
+        REQUIRE => body_log(function, node.first, guard, log, p),
         _ => p,
     }
 }
 
 // The events of statement n, which holds no other, under a guard, behind those that the log holds.
 pub fn simple_log(
-    file: &[u8],
-    function_at: usize,
-    source: &[u16],
+    function: &CheckedFunction,
     n: usize,
     guard: u16,
     log: &mut [u16],
     p: Position,
 ) -> Position
-    requires { (is_simple (statement_in (nodes_in file.now) n) ≡ true)
-        × (Ready file.now function_at source.now n log.old p (statement_of file.now function_at guard n)) }
-    ensures { Logged (nodes_in file.now) log.old log.new p result
-        (statement_of file.now function_at guard n p.variable) }
+    requires { (is_simple (statement_in (nodes_in function.now.file.now) n) ≡ true)
+        × (Ready function.now.file.now n log.old p (statement_of function.now.file.now function.now.at guard n)) }
+    ensures { Logged (nodes_in function.now.file.now) log.old log.new p result
+        (statement_of function.now.file.now function.now.at guard n p.variable) }
 {
-    let q = parts_log(file, function_at, source, n, guard, log, p);
+    let q = parts_log(function, n, guard, log, p);
     end_log(log, q)
 }

@@ -7,9 +7,7 @@ ghost use Rattle.kit.specs.Names.{min, length, take};
 ghost use Rattle.rules_links.specs.Classes.{Classed};
 ghost use Rattle.rules_meet.specs.Branches.{Behind};
 
-use file_children::either;
-use rules_faults::least;
-use rules_links::{class_room, copy_classes};
+use rules_links::class_room;
 use rules_meet::behind;
 
 // Least fault, 16 for none, and whether a link was added.
@@ -22,10 +20,7 @@ pub struct Checked {
 pub fn outcome(fault: u8, added: bool) -> Checked
     ensures { result ≡ record { fault = fault; added = added } }
 {
-    Checked {
-        fault: fault,
-        added: added,
-    }
+    Checked { fault, added }
 }
 
 // One statement, and another behind it.
@@ -33,8 +28,8 @@ pub fn in_turn(one: Checked, two: Checked) -> Checked
     ensures { (result.fault ≡ min one.fault two.fault) × (result.added ≡ (one.added || two.added)) }
 {
     Checked {
-        fault: least(one.fault, two.fault),
-        added: either(one.added, two.added),
+        fault: one.fault.min(two.fault),
+        added: one.added | two.added,
     }
 }
 
@@ -45,7 +40,7 @@ pub fn kept(classes: &[u16]) -> [u16; 74]
 {
     let all = classes.len();
     let mut room = class_room();
-    copy_classes(classes, &mut room[..all]);
+    room[..all].copy_from_slice(classes);
     room
 }
 
@@ -68,10 +63,10 @@ pub fn branched(
     ensures classes_len_unchanged { length classes.new ≡ length classes.old }
 {
     let all = classes.len();
-    let grown = either(condition.added, yes.added);
+    let grown = condition.added | yes.added;
     let added = behind(classes, &before[..all], &other[..all], grown, no.added);
     Checked {
-        fault: least(least(condition.fault, yes.fault), no.fault),
-        added: added,
+        fault: condition.fault.min(yes.fault).min(no.fault),
+        added,
     }
 }

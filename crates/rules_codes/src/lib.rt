@@ -11,9 +11,8 @@ ghost use Rattle.rules_owners.specs.Numbering.{owner_with};
 ghost use Rattle.rules_links.specs.Classes.{linked_by};
 ghost use Rattle.rules_codes.specs.Codes.{HasClass, fit_codes, place_number, parts_number};
 
-use file_children::either;
 use file_kinds::*;
-use rules_faults::{both, number_if};
+use rules_faults::number_if;
 use rules_links::same_class;
 use rules_owners::{CALLER, EVERYONE};
 use rules_scopes::Declared;
@@ -62,12 +61,12 @@ pub fn operands_fit(code: u16, left: u16, right: u16) -> bool
 {
     let operator = operator_number(code);
     if operator <= LESS_OR_EQUAL_SHORT {
-        return both(left == UINT_SHORT, right == UINT_SHORT);
+        return (left == UINT_SHORT) & (right == UINT_SHORT);
     }
     if operator <= NOT_EQUAL_SHORT {
         return left == right;
     }
-    both(left == BOOL_SHORT, right == BOOL_SHORT)
+    (left == BOOL_SHORT) & (right == BOOL_SHORT)
 }
 
 // The type of an operator's result.
@@ -86,7 +85,7 @@ pub fn is_division(code: u16) -> bool
     ensures { result ≡ is_division (operator_of code) }
 {
     let operator = operator_number(code);
-    either(operator == DIVIDED_SHORT, operator == REMAINDER_SHORT)
+    (operator == DIVIDED_SHORT) | (operator == REMAINDER_SHORT)
 }
 
 // The owner of a place, from its field and the name used as key.
@@ -103,7 +102,7 @@ pub fn place_owner(d: Declared, name: u16) -> u16
 pub fn parts_owner(left: u16, right: u16) -> u16
     ensures { result ≡ parts_number left right }
 {
-    if both(left == EVERYONE, right == EVERYONE) {
+    if (left == EVERYONE) & (right == EVERYONE) {
         EVERYONE
     } else {
         CALLER

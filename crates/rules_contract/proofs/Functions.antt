@@ -11,7 +11,7 @@ use Rattle.file_decoded.proofs.Records.{functions_step, functions_end_law}
 use Rattle.rules_faults.specs.Faults.{least_fault, number_of}
 use Rattle.rules_faults.proofs.Faults.{least_append, least_sentence}
 use Rattle.rules_scopes.specs.Trees.{nodes_in}
-use Rattle.rules_scopes.specs.Scopes.{ParametersReady}
+use Rattle.rules_scopes.specs.Scopes.{scope_from, ParametersReady}
 use Rattle.rules_marks.proofs.Marking.{marked_length}
 use Rattle.rules_fields.specs.Fields.{fields_in, all_fields_fault}
 use Rattle.rules_contract.specs.Sections.{functions_marked, contract_marked, FunctionJudged, FunctionsJudged}
@@ -96,7 +96,7 @@ module _ (fields functions parameters nodes : List ℕ) where
 
     pub functions_more : (own owners' : List ℕ) (r next : ℕ) → f < length functions / 3
         → parameters_from (length own / 2) own 0 ≡ here.parameters
-        → FunctionJudged fields own nodes here.root owners owners' r → next ≡ min fault r → FunctionsSo before (f + 1) next owners'
+        → FunctionJudged (scope_from fields own) (nodes_in nodes) here.root owners owners' r → next ≡ min fault r → FunctionsSo before (f + 1) next owners'
     unfolding functions_marked
     functions_more own owners' r next h same judged e =
         let step = ahead_step f h in

@@ -7,16 +7,16 @@ use Rattle.definitions.specs.Owners.{no_links}
 use Rattle.definitions.specs.Numbers.{function_faults, statement_faults, outside_tables, names_nothing}
 use Rattle.theory_trees.specs.Trees.{statement_in}
 use Rattle.file_decoded.specs.Slices.{functions_from, sections_from, ParametersInside, Shaped}
+use Rattle.file_decoded.specs.declared.DecodedSections.{DecodedSections}
 use Rattle.rules_faults.specs.Faults.{least_fault}
 use Rattle.rules_scopes.specs.Trees.{nodes_in}
-use Rattle.rules_scopes.specs.Scopes.{scope_from}
 use Rattle.rules_fields.specs.Fields.{fields_in}
 use Rattle.rules_marks.specs.Marks.{marked, owner_at, statements_under}
 
 -- One function: its least fault with no links at its start, and its expressions' owners.
-pub record FunctionJudged (fields parameters nodes : List ℕ) (root : ℕ) (before after : List ℕ) (r : ℕ) : Type 0 where
-  pub fault : least_fault (statement_faults (scope_from fields parameters) no_links (statement_in (nodes_in nodes) root)) ≡ r
-  pub column : after ≡ marked (owner_at (scope_from fields parameters) (nodes_in nodes)) (statements_under (nodes_in nodes) root) before
+pub record FunctionJudged (scope : Scope) (nodes : List Node) (root : ℕ) (before after : List ℕ) (r : ℕ) : Type 0 where
+  pub fault : least_fault (statement_faults scope no_links (statement_in nodes root)) ≡ r
+  pub column : after ≡ marked (owner_at scope nodes) (statements_under nodes root) before
 
 abbrev pub scope_of_record : List Field → FunctionRecord → Scope
 scope_of_record fields r = record { fields = fields; parameters = map parameter_of r.parameters }
@@ -44,3 +44,15 @@ pub record Passed (fields functions parameters nodes : List ℕ) : Type 0 where
   pub few_parameters : any (λ r. ltb 8 (length r.parameters)) (sections_from fields functions parameters nodes).functions ≡ false
   pub tables : outside_tables (sections_from fields functions parameters nodes) ≡ false
   pub numbers : names_nothing (sections_from fields functions parameters nodes) ≡ false
+
+-- The same of sections held in their slices.
+abbrev pub PassedIn : DecodedSections → Type 0
+PassedIn sections = Passed sections.fields.now sections.functions.now sections.parameters.now sections.nodes.now
+
+abbrev pub JudgedIn : DecodedSections → List ℕ → List ℕ → ℕ → Type 0
+JudgedIn sections before after r =
+    FunctionsJudged sections.fields.now sections.functions.now sections.parameters.now sections.nodes.now before after r
+
+abbrev pub marked_in : DecodedSections → List ℕ → List ℕ
+marked_in sections column =
+    contract_marked sections.fields.now sections.functions.now sections.parameters.now sections.nodes.now column

@@ -7,7 +7,7 @@ ghost use Rattle.rules_scopes.specs.Scopes.{FieldsReady};
 ghost use Rattle.rules_fields.specs.Fields.{owner_fault, all_fields_fault};
 
 use file_kinds::FINAL_SHORT;
-use rules_faults::{least, number_if};
+use rules_faults::number_if;
 use rules_owners::{EVERYONE, FINALS};
 use rules_scopes::field_from;
 
@@ -24,7 +24,7 @@ fn owner_fault(fields: &[u16], f: u16) -> u8
         return 16;
     }
     let named = field_from(fields, declared.owner - FINALS);
-    number_if(!(named.shape == FINAL_SHORT), 8)
+    number_if(named.shape != FINAL_SHORT, 8)
 }
 
 // The least fault of all fields.
@@ -32,12 +32,9 @@ pub fn fields_fault(fields: &[u16]) -> u8
     requires { FieldsReady fields.now }
     ensures { result ≡ all_fields_fault fields.now }
 {
-    let count = fields.len() / 3;
     let mut fault: u8 = 16;
-    let mut i: usize = 0;
-    while i < count {
-        fault = least(fault, owner_fault(fields, i as u16));
-        i += 1;
+    for f in 0..fields.len() / 3 {
+        fault = fault.min(owner_fault(fields, f as u16));
     }
     fault
 }

@@ -10,7 +10,7 @@ ghost use Rattle.rules_judgements.specs.Judging.{parameter_judged};
 
 use file_kinds::*;
 use rules_codes::{given_if, place_owner, unread};
-use rules_faults::{least, number_if};
+use rules_faults::number_if;
 use rules_owners::{CALLER, EVERYONE, FINALS, PARAMETERS};
 use rules_scopes::{Declared, Given};
 
@@ -67,12 +67,9 @@ pub fn field_judged(classes: &[u16], f: u16, d: Declared) -> Judged
     let owner = place_owner(d, 0);
     Judged {
         kind: d.kind,
-        owner: owner,
+        owner,
         name: final_name(f, d),
-        fault: least(
-            number_if(d.shape == MAPPING_SHORT, 8),
-            unread(classes, owner),
-        ),
+        fault: number_if(d.shape == MAPPING_SHORT, 8).min(unread(classes, owner)),
     }
 }
 
@@ -96,8 +93,8 @@ pub fn parameter_judged(classes: &[u16], k: u16, count: usize, p: Given) -> Judg
     let owner = given_if(!(p.owner == EVERYONE_CODE_SHORT), CALLER);
     Judged {
         kind: p.kind,
-        owner: owner,
+        owner,
         name: argument_name(k, p),
-        fault: least(number_if(count <= (k as usize), 8), unread(classes, owner)),
+        fault: number_if(count <= (k as usize), 8).min(unread(classes, owner)),
     }
 }

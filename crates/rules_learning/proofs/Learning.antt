@@ -38,8 +38,3 @@ module _ (scope : Scope) (linked : Links) (e left right : Expression) (code : �
 
   pub no_name_learnt : (code ≡ 7 → ⊥) → (code ≡ 9 → ⊥) → linked ≡ links_of_condition scope e linked
   no_name_learnt a b = rw (tree, other_links scope left right linked code a b)
-
--- Slices that are ready have as many classes as names.
-pub ready_names : (fields parameters nodes : List ℕ) (count : ℕ) → Ready fields parameters nodes count
-    → Ready fields parameters nodes (10 + length fields / 3)
-ready_names fields parameters nodes count ready = record { declared = ready.declared; given = ready.given; bodies = ready.bodies; numbered = refl }

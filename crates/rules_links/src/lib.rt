@@ -21,11 +21,8 @@ pub fn no_links(classes: &mut [u16])
     ensures { (linked_by classes.new ≡ no_links) × (Classed classes.new)
         × (length classes.new ≡ length classes.old) }
 {
-    let count = classes.len();
-    let mut i: usize = 0;
-    while i < count {
-        classes[i] = i as u16;
-        i += 1;
+    for (i, class) in classes.iter_mut().enumerate() {
+        *class = i as u16;
     }
 }
 
@@ -56,26 +53,10 @@ pub fn link(classes: &mut [u16], a: u16, b: u16) -> bool
     let j = b as usize;
     let old = classes[i];
     let new = classes[j];
-    let count = classes.len();
-    let mut k: usize = 0;
-    while k < count {
-        classes[k] = exchange(classes[k], old, new);
-        k += 1;
+    for class in classes.iter_mut() {
+        *class = exchange(*class, old, new);
     }
     true
-}
-
-// The classes of one moment, kept while others change.
-pub fn copy_classes(from: &[u16], to: &mut [u16])
-    requires { length from.now ≡ length to.old }
-    ensures { to.new ≡ from.now }
-{
-    let count = to.len();
-    let mut i: usize = 0;
-    while i < count {
-        to[i] = from[i];
-        i += 1;
-    }
 }
 
 // Room for the classes of a contract with as many fields as number 2 lets pass.

@@ -6,8 +6,6 @@ ghost use Rattle.kit.specs.Names.{length};
 ghost use Rattle.rules_links.specs.Classes.{Classed};
 ghost use Rattle.rules_meet.specs.Branches.{Met, Behind};
 
-use rules_links::copy_classes;
-
 // The place of a pair of classes, one of each branch, in a table of all such pairs.
 fn pair(one: u16, other: u16) -> usize
     ensures { result ≡ one * 74 + other }
@@ -22,18 +20,13 @@ fn meet(classes: &mut [u16], other: &[u16])
     ensures { Met classes.old other.now classes.new }
 {
     let mut last = [0u16; 5476];
-    let count = classes.len();
-    let mut i: usize = 0;
-    while i < count {
-        let place = pair(classes[i], other[i]);
+    for (i, class) in classes.iter().enumerate() {
+        let place = pair(*class, other[i]);
         last[place] = i as u16;
-        i += 1;
     }
-    i = 0;
-    while i < count {
-        let shared = pair(classes[i], other[i]);
-        classes[i] = last[shared];
-        i += 1;
+    for (i, class) in classes.iter_mut().enumerate() {
+        let shared = pair(*class, other[i]);
+        *class = last[shared];
     }
 }
 
@@ -56,7 +49,7 @@ pub fn behind(
             meet(classes, other);
             return true;
         }
-        copy_classes(before, classes);
+        classes.copy_from_slice(before);
     }
     false
 }

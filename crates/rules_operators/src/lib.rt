@@ -6,9 +6,8 @@ ghost use Rattle.rules_links.specs.Classes.{linked_by};
 ghost use Rattle.rules_codes.specs.Codes.{HasClass};
 ghost use Rattle.rules_operators.specs.Operating.{operator_judged};
 
-use file_children::either;
 use rules_codes::{is_division, operands_fit, parts_owner, result_type, unread};
-use rules_faults::{both, least, number_if};
+use rules_faults::number_if;
 use rules_judgements::Judged;
 use rules_owners::EVERYONE;
 
@@ -18,19 +17,18 @@ pub fn operator_judged(classes: &[u16], code: u16, left: Judged, right: Judged) 
     ensures { result ≡ operator_judged (linked_by classes.now) code left right }
 {
     let kind = number_if(!operands_fit(code, left.kind, right.kind), 9);
-    let private = either(!(left.owner == EVERYONE), !(right.owner == EVERYONE));
-    let divisor = number_if(both(is_division(code), private), 12);
-    let read = least(
-        least(
-            least(least(left.fault, right.fault), kind),
-            unread(classes, left.owner),
-        ),
-        unread(classes, right.owner),
-    );
+    let private = (left.owner != EVERYONE) | (right.owner != EVERYONE);
+    let divisor = number_if(is_division(code) & private, 12);
+    let read = left
+        .fault
+        .min(right.fault)
+        .min(kind)
+        .min(unread(classes, left.owner))
+        .min(unread(classes, right.owner));
     Judged {
         kind: result_type(code),
         owner: parts_owner(left.owner, right.owner),
         name: 0,
-        fault: least(read, divisor),
+        fault: read.min(divisor),
     }
 }

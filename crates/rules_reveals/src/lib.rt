@@ -8,7 +8,7 @@ ghost use Rattle.rules_operators.specs.Operating.{negation_judged, reveal_judged
 
 use file_kinds::BOOL_SHORT;
 use rules_codes::{parts_owner, unread};
-use rules_faults::{least, number_if};
+use rules_faults::number_if;
 use rules_judgements::Judged;
 use rules_owners::EVERYONE;
 
@@ -17,15 +17,15 @@ pub fn negation_judged(classes: &[u16], part: Judged) -> Judged
     requires { HasClass classes.now part.owner }
     ensures { result ≡ negation_judged (linked_by classes.now) part }
 {
-    let fault = least(
-        least(part.fault, number_if(!(part.kind == BOOL_SHORT), 9)),
-        unread(classes, part.owner),
-    );
+    let fault = part
+        .fault
+        .min(number_if(part.kind != BOOL_SHORT, 9))
+        .min(unread(classes, part.owner));
     Judged {
         kind: BOOL_SHORT,
         owner: parts_owner(part.owner, 0),
         name: 0,
-        fault: fault,
+        fault,
     }
 }
 
@@ -34,14 +34,14 @@ pub fn reveal_judged(classes: &[u16], target: u16, fits: bool, part: Judged) -> 
     requires { HasClass classes.now part.owner }
     ensures { result ≡ reveal_judged (linked_by classes.now) target fits part }
 {
-    let read = least(
-        least(part.fault, number_if(!fits, 8)),
-        unread(classes, part.owner),
-    );
+    let read = part
+        .fault
+        .min(number_if(!fits, 8))
+        .min(unread(classes, part.owner));
     Judged {
         kind: part.kind,
         owner: target,
         name: 0,
-        fault: least(read, number_if(part.owner == EVERYONE, 13)),
+        fault: read.min(number_if(part.owner == EVERYONE, 13)),
     }
 }

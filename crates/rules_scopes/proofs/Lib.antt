@@ -1,3 +1,4 @@
 pub mod Nodes
 pub mod Named
 pub mod Tables
+pub mod Slices

@@ -6,9 +6,9 @@ ghost use Rattle.kit.specs.Names.{length};
 ghost use Rattle.definitions.specs.Numbers.{owner_fits};
 ghost use Rattle.rules_owners.specs.Numbering.{owner_with};
 ghost use Rattle.rules_scopes.specs.Scopes.{field_on, parameter_on, scope_from, IsField, IsParameter, FieldsReady, ParametersReady};
+ghost use Rattle.rules_scopes.specs.Scopes.{Ready};
 
 use file_kinds::*;
-use rules_faults::both;
 use rules_owners::{FINALS, PARAMETERS, declared_number};
 
 // A field's shape, data type and owner: the number of the final that owns it, 0 for all; or the tag, "the mapping's key".
@@ -25,6 +25,15 @@ pub struct Declared {
 pub struct Given {
     pub kind: u16,
     pub owner: u16,
+}
+
+// Where a function's nodes are judged: the contract's fields, the function's own parameters and the contract's nodes.
+#[derive(Clone, Copy)]
+pub struct FunctionSlices<'a> {
+    pub fields: &'a [u16],
+    pub parameters: &'a [u16],
+    pub nodes: &'a [u16],
+    pub ghost ready: { Ready fields.now parameters.now nodes.now (10 + length fields.now / 3) },
 }
 
 // Field f, which is there.
@@ -71,10 +80,7 @@ pub fn target_fits(fields: &[u16], parameters: &[u16], target: u16) -> bool
     }
     if target < FINALS {
         let given = parameter_from(parameters, target - PARAMETERS);
-        return both(
-            given.kind == ADDRESS_SHORT,
-            given.owner == EVERYONE_CODE_SHORT,
-        );
+        return (given.kind == ADDRESS_SHORT) & (given.owner == EVERYONE_CODE_SHORT);
     }
     let declared = field_from(fields, target - FINALS);
     declared.shape == FINAL_SHORT

@@ -1,7 +1,7 @@
 -- What judging a statement's node of each kind answers, and leaves in the classes and the column, from what judging its parts did.
 use Rattle.std.specs.Prelude.{◌≡◌, ◌||◌, ◌++◌, ◌*◌, ◌/◌, ◌<◌, ◌≤◌}
 use Rattle.kit.specs.Names.{refl, ap, ap₂, sym, ◌∙◌, false, List, ℕ, min, arith, length, take, drop}
-use Rattle.definitions.specs.ContractFile.{Expression, Statement, Scope, NodeRecord}
+use Rattle.definitions.specs.ContractFile.{Node, Expression, Statement, Scope, NodeRecord}
 use Rattle.definitions.specs.Owners.{Links, linked_in_both, links_after, links_of_condition}
 use Rattle.definitions.specs.Numbers.{statement_faults, condition_faults}
 use Rattle.theory_laws.proofs.GrowingLinks.{within_chain, condition_grows, links_grow}
@@ -30,26 +30,22 @@ use Rattle.rules_statements.specs.Checking.{CheckedAs, JudgedCondition, JudgedSt
 use Rattle.rules_branches.proofs.Arrays.{array_long, array_front}
 use Rattle.rules_branches.specs.declared.Checked.{Checked}
 
-pub condition_long : {fields parameters nodes : List ℕ} {n : ℕ} {classes classes' owners owners' : List ℕ} {r : Checked}
-    → JudgedCondition fields parameters nodes n classes classes' owners owners' r → length owners' ≡ length owners
+pub condition_long : {scope : Scope} {nodes : List Node} {n : ℕ} {classes classes' owners owners' : List ℕ} {r : Checked}
+    → JudgedCondition scope nodes n classes classes' owners owners' r → length owners' ≡ length owners
 condition_long h = ap length h.column ∙ marked_length _ _ _
 
-pub column_long : {fields parameters nodes : List ℕ} {n : ℕ} {classes classes' owners owners' : List ℕ} {r : Checked}
-    → JudgedStatement fields parameters nodes n classes classes' owners owners' r → length owners' ≡ length owners
+pub column_long : {scope : Scope} {nodes : List Node} {n : ℕ} {classes classes' owners owners' : List ℕ} {r : Checked}
+    → JudgedStatement scope nodes n classes classes' owners owners' r → length owners' ≡ length owners
 column_long h = ap length h.column ∙ marked_length _ _ _
 
 pub classed_as : {given classes : List ℕ} → given ≡ classes → Classed classes → Classed given
 classed_as e h = rw e h
 
-pub ready_as : {fields parameters nodes given classes : List ℕ} → given ≡ classes → Ready fields parameters nodes (length classes)
-    → Ready fields parameters nodes (length given)
-ready_as e h = rw e h
-
 -- The arrays that hold the classes before an if and those at the end of its else-branch, as far as the classes go.
-pub branch_arrays : {fields parameters nodes : List ℕ} {k m n : ℕ} {classes learnt taken passed owners mid later owners' : List ℕ} {met one two : Checked}
+pub branch_arrays : {scope : Scope} {nodes : List Node} {k m n : ℕ} {classes learnt taken passed owners mid later owners' : List ℕ} {met one two : Checked}
     (room : List ℕ) → Classed classes → (74 ≡ length room) × (take (length classes) room ≡ classes)
-    → JudgedCondition fields parameters nodes k classes learnt owners mid met → JudgedStatement fields parameters nodes m learnt taken mid later one
-    → JudgedStatement fields parameters nodes n (take (length classes) room) passed later owners' two
+    → JudgedCondition scope nodes k classes learnt owners mid met → JudgedStatement scope nodes m learnt taken mid later one
+    → JudgedStatement scope nodes n (take (length classes) room) passed later owners' two
     → (take (length taken) room ≡ classes) × (take (length taken) (passed ++ drop (length classes) room) ≡ passed) × (length taken ≤ 74)
     × (74 ≡ length (passed ++ drop (length classes) room))
 branch_arrays {classes = classes} {passed = passed} room classed (roomy, front) met one two =
@@ -85,7 +81,7 @@ module _ (fields parameters nodes classes owners : List ℕ) (ready : Ready fiel
   statement m = statement_in (nodes_in nodes) m
 
   abbrev Judges : List ℕ → List ℕ → Type 0
-  Judges after owners' = JudgedStatement fields parameters nodes n classes after owners owners' q
+  Judges after owners' = JudgedStatement (scope_from fields parameters) (nodes_in nodes) n classes after owners owners' q
 
   -- A statement that gives no links.
   quiet : (s : Statement) → statement n ≡ s → Classed classes → links ≡ links_after scope s links → least_fault (statement_faults scope links s) ≡ q.fault
@@ -103,7 +99,7 @@ module _ (fields parameters nodes classes owners : List ℕ) (ready : Ready fiel
 
   module _ (owners' : List ℕ) (d : Declared) (value : Judged) (fault : ℕ) (classed : Classed classes)
       (i : IsField (length fields / 3) (field_on fields r.arg) d) (is : q ≡ record { fault = fault; added = false }) where
-    pub field_judged_law : r.kind ≡ 18 → MarkedAs fields parameters nodes classes r.first owners owners' value → fault ≡ field_fault links d value
+    pub field_judged_law : r.kind ≡ 18 → MarkedAs (scope_from fields parameters) (nodes_in nodes) classes r.first owners owners' value → fault ≡ field_fault links d value
         → Judges classes owners'
     unfolding links_after
     field_judged_law e m f =
@@ -113,8 +109,8 @@ module _ (fields parameters nodes classes owners : List ℕ) (ready : Ready fiel
           column = put_marked (nodes_in nodes) reads.falling owner n r reads.named owners owners' m.column e;
         }
 
-    pub entry_judged_law : (mid : List ℕ) (key : Judged) → r.kind ≡ 19 → MarkedAs fields parameters nodes classes r.first owners mid key
-        → MarkedAs fields parameters nodes classes r.second mid owners' value → fault ≡ entry_put_fault links d key value → Judges classes owners'
+    pub entry_judged_law : (mid : List ℕ) (key : Judged) → r.kind ≡ 19 → MarkedAs (scope_from fields parameters) (nodes_in nodes) classes r.first owners mid key
+        → MarkedAs (scope_from fields parameters) (nodes_in nodes) classes r.second mid owners' value → fault ≡ entry_put_fault links d key value → Judges classes owners'
     unfolding links_after
     entry_judged_law mid key e k m f =
         record {
@@ -124,7 +120,7 @@ module _ (fields parameters nodes classes owners : List ℕ) (ready : Ready fiel
           column = entry_put_marked (nodes_in nodes) reads.falling owner n r reads.named owners mid owners' e k.column m.column;
         }
 
-  pub require_judged : (after owners' : List ℕ) → r.kind ≡ 20 → JudgedCondition fields parameters nodes r.first classes after owners owners' q
+  pub require_judged : (after owners' : List ℕ) → r.kind ≡ 20 → JudgedCondition (scope_from fields parameters) (nodes_in nodes) r.first classes after owners owners' q
       → Judges after owners'
   unfolding statement_faults links_after
   require_judged after owners' e h =
@@ -134,8 +130,8 @@ module _ (fields parameters nodes classes owners : List ℕ) (ready : Ready fiel
       }
 
   pub sequence_judged : (between after mid owners' : List ℕ) (one two : Checked) → r.kind ≡ 17
-      → JudgedStatement fields parameters nodes r.first classes between owners mid one
-      → JudgedStatement fields parameters nodes r.second between after mid owners' two
+      → JudgedStatement (scope_from fields parameters) (nodes_in nodes) r.first classes between owners mid one
+      → JudgedStatement (scope_from fields parameters) (nodes_in nodes) r.second between after mid owners' two
       → q.fault ≡ min one.fault two.fault → q.added ≡ (one.added || two.added) → Judges after owners'
   unfolding statement_faults links_after
   sequence_judged between after mid owners' one two e h k f a =
@@ -152,9 +148,9 @@ module _ (fields parameters nodes classes owners : List ℕ) (ready : Ready fiel
   -- The then-branch begins with what the condition states, the else-branch with the links before the if. Those, and the links at the end of the
   -- else-branch, are read in slices of their own.
   module _ (before given other learnt taken passed after mid later owners' : List ℕ) (met one two : Checked) (b : before ≡ classes) (g : given ≡ classes)
-      (o : other ≡ passed) (condition : JudgedCondition fields parameters nodes r.first classes learnt owners mid met)
-      (in_then : JudgedStatement fields parameters nodes r.second learnt taken mid later one)
-      (in_else : JudgedStatement fields parameters nodes r.third given passed later owners' two) where
+      (o : other ≡ passed) (condition : JudgedCondition (scope_from fields parameters) (nodes_in nodes) r.first classes learnt owners mid met)
+      (in_then : JudgedStatement (scope_from fields parameters) (nodes_in nodes) r.second learnt taken mid later one)
+      (in_else : JudgedStatement (scope_from fields parameters) (nodes_in nodes) r.third given passed later owners' two) where
     abbrev known : Links
     known = links_of_condition scope (expression r.first) links
 

@@ -6,7 +6,7 @@ ghost use Rattle.kit.specs.Names.{length};
 ghost use Rattle.definitions.specs.ContractFile.{node};
 ghost use Rattle.file_decoded.specs.Slices.{node_from};
 ghost use Rattle.rules_links.specs.Classes.{Classed};
-ghost use Rattle.rules_scopes.specs.Scopes.{Ready};
+ghost use Rattle.rules_scopes.specs.Slices.{scope_of, nodes_of, node_count_of, owner_count_of};
 ghost use Rattle.rules_statements.specs.Checking.{JudgedCondition, JudgedStatement};
 
 use file_kinds::*;
@@ -15,59 +15,58 @@ use rules_branches::{Checked, branched, in_turn, kept, outcome};
 use rules_expressions::judge;
 use rules_learning::learn;
 use rules_nodes::{NodeNumbers, read_node};
-use rules_scopes::field_from;
+use rules_scopes::{FunctionSlices, field_from};
 
 // The condition of node `first`: its fault, and whether the names that it links were not linked before.
 fn condition_met(
-    fields: &[u16],
-    parameters: &[u16],
-    nodes: &[u16],
+    slices: &FunctionSlices,
     classes: &mut [u16],
     owners: &mut [u16],
     first: usize,
 ) -> Checked
-    requires { (first < length nodes.now / 5) × (Ready fields.now parameters.now nodes.now (length classes.old))
-        × (Classed classes.old) × (length nodes.now / 5 ≤ length owners.old) }
-    ensures { JudgedCondition fields.now parameters.now nodes.now first
+    requires { (first < node_count_of slices.now) × (length classes.old ≡ owner_count_of slices.now)
+        × (Classed classes.old) × (node_count_of slices.now ≤ length owners.old) }
+    ensures { JudgedCondition (scope_of slices.now) (nodes_of slices.now) first
         classes.old classes.new owners.old owners.new result }
 {
-    let fault = condition_fault(judge(fields, parameters, nodes, classes, owners, first));
-    outcome(fault, learn(fields, parameters, nodes, classes, first))
+    let fault = condition_fault(judge(slices, classes, owners, first));
+    outcome(fault, learn(slices, classes, first))
 }
 
 // Statement n, whose numbers are read, if it has no statements in it: an assignment, a require or a skip.
 fn judge_simple(
-    fields: &[u16],
-    parameters: &[u16],
-    nodes: &[u16],
+    slices: &FunctionSlices,
     classes: &mut [u16],
     owners: &mut [u16],
     n: usize,
     read: NodeNumbers,
 ) -> Checked
-    requires { (n < length nodes.now / 5) × (Ready fields.now parameters.now nodes.now (length classes.old))
-        × (Classed classes.old) × (length nodes.now / 5 ≤ length owners.old)
-        × (node read.kind read.arg read.first read.second read.third ≡ node_from nodes.now (5 * n))
+    requires { (n < node_count_of slices.now) × (length classes.old ≡ owner_count_of slices.now)
+        × (Classed classes.old) × (node_count_of slices.now ≤ length owners.old)
+        × (node read.kind read.arg read.first read.second read.third ≡ node_from slices.now.nodes.now (5 * n))
         × (read.kind ≡ 17 → ⊥) × (read.kind ≡ 21 → ⊥) }
-    ensures { JudgedStatement fields.now parameters.now nodes.now n
+    ensures { JudgedStatement (scope_of slices.now) (nodes_of slices.now) n
         classes.old classes.new owners.old owners.new result }
 {
     let kind = read.kind;
     let arg = read.arg;
     match kind {
         FIELD_TAKES_SHORT => {
-            let value = judge(fields, parameters, nodes, classes, owners, read.first);
-            outcome(field_fault(classes, field_from(fields, arg), value), false)
-        }
-        ENTRY_TAKES_SHORT => {
-            let key = judge(fields, parameters, nodes, classes, owners, read.first);
-            let value = judge(fields, parameters, nodes, classes, owners, read.second);
+            let value = judge(slices, classes, owners, read.first);
             outcome(
-                entry_put_fault(classes, field_from(fields, arg), key, value),
+                field_fault(classes, field_from(slices.fields, arg), value),
                 false,
             )
         }
-        REQUIRE_SHORT => condition_met(fields, parameters, nodes, classes, owners, read.first),
+        ENTRY_TAKES_SHORT => {
+            let key = judge(slices, classes, owners, read.first);
+            let value = judge(slices, classes, owners, read.second);
+            outcome(
+                entry_put_fault(classes, field_from(slices.fields, arg), key, value),
+                false,
+            )
+        }
+        REQUIRE_SHORT => condition_met(slices, classes, owners, read.first),
         _ => outcome(16, false),
     }
 }
@@ -75,36 +74,34 @@ fn judge_simple(
 // The least fault of statement n; the classes stand for the links behind it afterwards. An if keeps the links before it, for the
 // else-branch and for what is behind it.
 pub fn judge_statement(
-    fields: &[u16],
-    parameters: &[u16],
-    nodes: &[u16],
+    slices: &FunctionSlices,
     classes: &mut [u16],
     owners: &mut [u16],
     n: usize,
 ) -> Checked
-    requires { (n < length nodes.now / 5) × (Ready fields.now parameters.now nodes.now (length classes.old))
-        × (Classed classes.old) × (length nodes.now / 5 ≤ length owners.old) }
-    ensures { JudgedStatement fields.now parameters.now nodes.now n
+    requires { (n < node_count_of slices.now) × (length classes.old ≡ owner_count_of slices.now)
+        × (Classed classes.old) × (node_count_of slices.now ≤ length owners.old) }
+    ensures { JudgedStatement (scope_of slices.now) (nodes_of slices.now) n
         classes.old classes.new owners.old owners.new result }
 {
-    let node = read_node(nodes, n);
+    let node = read_node(slices.nodes, n);
     let kind = node.kind;
     match kind {
         SEQUENCE_SHORT => {
-            let one = judge_statement(fields, parameters, nodes, classes, owners, node.first);
-            let two = judge_statement(fields, parameters, nodes, classes, owners, node.second);
+            let one = judge_statement(slices, classes, owners, node.first);
+            let two = judge_statement(slices, classes, owners, node.second);
             in_turn(one, two)
         }
         IF_SHORT => {
             let all = classes.len();
             let before = kept(classes);
             let mut other = before;
-            let met = condition_met(fields, parameters, nodes, classes, owners, node.first);
-            let yes = judge_statement(fields, parameters, nodes, classes, owners, node.second);
+            let met = condition_met(slices, classes, owners, node.first);
+            let yes = judge_statement(slices, classes, owners, node.second);
             let passed = &mut other[..all];
-            let no = judge_statement(fields, parameters, nodes, passed, owners, node.third);
+            let no = judge_statement(slices, passed, owners, node.third);
             branched(classes, &before, &other, met, yes, no)
         }
-        _ => judge_simple(fields, parameters, nodes, classes, owners, n, node),
+        _ => judge_simple(slices, classes, owners, n, node),
     }
 }

@@ -25,10 +25,10 @@ fn cell(owner: u8, value: u32) -> Place
 {
     Place {
         content: Content::Cell(Cell {
-            owner: owner,
+            owner,
             call: 1,
             index: 0,
-            value: value,
+            value,
         }),
     }
 }
@@ -129,11 +129,7 @@ fn answers(l: Ledger, call_number: u8, view_number: u8) -> bool
     let called = call(l, 0, 3, &arguments[..]);
     let mut out = [0u8; 1024];
     let seen = view(l, 3, &mut out[..]);
-    if called.number == call_number {
-        seen.number == view_number
-    } else {
-        false
-    }
+    called.number == call_number && seen.number == view_number
 }
 
 fn wrong_answers(l: Ledger) -> usize
@@ -143,12 +139,10 @@ fn wrong_answers(l: Ledger) -> usize
     if !answers(l, 0, 0) {
         wrong += 1;
     }
-    let mut kind: u8 = 1;
-    while kind < 22 {
+    for kind in 1..22 {
         if !answers(damaged(l, kind), 18, 21) {
             wrong += 1;
         }
-        kind += 1;
     }
     wrong
 }

@@ -16,14 +16,10 @@ fn are_values(input: &[u8], from: usize, count: usize, values: &[u32]) -> bool
     if values.len() != count {
         return false;
     }
-    let mut at = from;
-    let mut i: usize = 0;
-    while i < values.len() {
-        if values[i] != four_bytes_at(input, at) {
+    for (i, value) in values.iter().enumerate() {
+        if *value != four_bytes_at(input, from + 4 * i) {
             return false;
         }
-        at += 4;
-        i += 1;
     }
     true
 }
@@ -71,7 +67,7 @@ fn told(bytes: &[u8], before: Run) -> Run
         left: after.left,
         party: after.party,
         same: same && after.same,
-        ledger: ledger,
+        ledger,
     }
 }
 
@@ -79,7 +75,7 @@ pub fn run(bytes: &[u8]) -> Run
     ensures { (0 < result.place) × (result.place ≤ 80000000) }
 {
     let mut run = begun(bytes);
-    while 0 < run.left {
+    for _ in 0..run.left {
         run = told(bytes, run);
     }
     run

@@ -50,6 +50,7 @@ fn compare_runs(place: usize, input: &[u8]) -> Tally
     requires { length input.now ≤ 700000 }
 {
     let mut tally = no_runs();
+    // Kept: each turn goes on by the length that its record has, until the input ends.
     while tally.place < input.len() {
         let rest = part(input, tally.place, input.len());
         tally = counted(tally, run(place, rest), rest.len());
@@ -71,13 +72,11 @@ fn compare(rt: &HostRuntime, place: usize, input: &[u8]) -> usize
 // A file that cannot be read has no line.
 fn main(rt: HostRuntime) {
     let mut input = test_shared::input_room();
-    let mut place: usize = 1;
-    while place <= 3 {
+    for place in 1..=3 {
         let read = test_shared::read_named(&rt, b"test_ledgers", place, &mut input);
         let length = read.length;
         if read.ready {
             compare(&rt, place, &input[..length]);
         }
-        place += 1;
     }
 }

@@ -2,15 +2,13 @@
 // addresses (1), the addresses, party (1), count of calls (1). Of each call it has function (1), caller (1), count of arguments (1), each
 // argument (4) and the call's number (1); what else it has is its module's. It serves document 01's "Runs and views".
 ghost use Rattle.std.specs.Prelude.{◌≡◌, ◌&&◌, ◌+◌, ◌<◌, ◌≤◌};
-ghost use Rattle.kit.specs.Names.{cond, length, take};
-ghost use Rattle.rehearse_scripts.specs.Scripts.{numbers_at};
+ghost use Rattle.kit.specs.Names.{cond, length};
 ghost use Rattle.test_shared.specs.Parts.{part_in};
 ghost use Rattle.test_ledgers.specs.Records.{IsBegun, IsRecordedCall, CalledIn};
 ghost use Rattle.test_ledgers.specs.Tallies.{no_runs, Counted};
 
 use file_bytes::byte_at;
 use ledger_struct::Ledger;
-use rehearse_scripts::four_bytes_at;
 use test_shared::part;
 
 // How far a run is: the place in its record, the calls that are left, its party, whether all was as recorded so far, and its ledger.
@@ -55,24 +53,8 @@ pub fn begun(bytes: &[u8]) -> Run
         left: script.calls as usize,
         party: script.party,
         same: deployment.number == 0,
-        ledger: ledger,
+        ledger,
     }
-}
-
-// The numbers of four bytes from place 3 on.
-fn arguments(bytes: &[u8], count: usize) -> [u32; 255]
-    requires { count ≤ 255 }
-    ensures { (255 ≡ length result) × (take count result ≡ numbers_at count bytes.now 3) }
-{
-    let mut made = [0u32; 255];
-    let mut at: usize = 3;
-    let mut i: usize = 0;
-    while i < count {
-        made[i] = four_bytes_at(bytes, at);
-        at += 4;
-        i += 1;
-    }
-    made
 }
 
 // The call with which some bytes begin.
@@ -82,12 +64,12 @@ pub fn read_call(bytes: &[u8]) -> RecordedCall
     let function = byte_at(bytes, 0);
     let caller = byte_at(bytes, 1);
     let count = byte_at(bytes, 2);
-    let made = arguments(bytes, count);
+    let arguments = rehearse_scripts::numbers_at(bytes, 3, count);
     RecordedCall {
         function: function as u8,
         caller: caller as u8,
-        count: count,
-        arguments: made,
+        count,
+        arguments,
         end: 3 + 4 * count,
     }
 }

@@ -28,7 +28,7 @@ fn viewed(bytes: &[u8], run: Run) -> Run
         left: run.left,
         party: run.party,
         same: run.same && same,
-        ledger: ledger,
+        ledger,
     }
 }
 
@@ -36,7 +36,7 @@ pub fn run(bytes: &[u8]) -> Run
     ensures { (0 < result.place) × (result.place ≤ 80000000) }
 {
     let mut run = viewed(bytes, begun(bytes));
-    while 0 < run.left {
+    for _ in 0..run.left {
         run = viewed(bytes, called(bytes, run));
     }
     run

@@ -1,11 +1,11 @@
 -- An output before and after something is written to its front, and how it is held against what is due.
 use Rattle.std.specs.Prelude.{◌≡◌, ◌&&◌, ◌∷◌, ◌++◌, ◌+◌, ◌-◌, ◌<◌, ◌≤◌}
-use Rattle.kit.specs.Names.{refl, ap, sym, ◌∙◌, Bool, true, false, cond, List, [], append_assoc, ℕ, zero, suc}
-use Rattle.kit.specs.Names.{arith, add-one, eqb, length, get_or, take, drop, set, length-append, length-replicate}
-use Rattle.kit.specs.Names.{get_or-replicate, replicate-append-replicate, get_or_append, take_all, take-suc-set, get_or-append-add, eqb-true}
+use Rattle.kit.specs.Names.{refl, ap, ap₂, sym, ◌∙◌, Bool, true, false, cond, List, [], append_assoc, ℕ, zero, suc}
+use Rattle.kit.specs.Names.{arith, add-one, eqb, length, get_or, take, drop, length-append, length-drop, length-replicate}
+use Rattle.kit.specs.Names.{replicate-append-replicate, drop-cons, drop_of_length-le, length-take-le, take-append-drop, eqb-true}
 use Rattle.kit.specs.Names.{eq-eqb, ne_eqb}
 use Rattle.test_shared.specs.Bytes.{same_bytes}
-use Rattle.test_shared.proofs.Bytes.{same_itself, lengths_differ, same_next, same_stops, same_ends}
+use Rattle.test_shared.proofs.Bytes.{same_itself, lengths_differ}
 use Rattle.test_programs.specs.Outputs.{unwritten, output_with, is_answer}
 
 pub unwritten_length : (n : ℕ) → length (unwritten n) ≡ n
@@ -28,21 +28,6 @@ take_unwritten zero n h = refl
 take_unwritten (suc k) zero h = absurd (omega arith)
 take_unwritten (suc k) (suc n) h = ap (λ (l : List ℕ). 170 ∷ l) (take_unwritten k n (omega arith))
 
--- Filling, byte by byte.
-pub fill_start : (out : List ℕ) → take 0 out ≡ unwritten 0
-unfolding unwritten
-fill_start out = refl
-
-pub fill_next : (out : List ℕ) (i : ℕ) → i < length out → take i out ≡ unwritten i → take (i + 1) (set out i 170) ≡ unwritten (i + 1)
-unfolding unwritten
-fill_next out i inside e =
-    ap (λ (n : ℕ). take n (set out i 170)) (add-one i) ∙ take-suc-set out i 170 inside ∙ ap (λ (l : List ℕ). l ++ (170 ∷ [])) e
-    ∙ unwritten_more i 1
-
-pub fill_done : (out : List ℕ) (i n : ℕ) → take i out ≡ unwritten i → length out ≡ n → n ≤ i → i ≤ n → out ≡ unwritten n
-fill_done out i n e long over within =
-    let here : i ≡ n = omega arith in sym (take_all i out (omega arith)) ∙ e ∙ ap unwritten here
-
 pub output_length : (bytes : List ℕ) (n : ℕ) → length (output_with bytes n) ≡ length bytes + (n - length bytes)
 unfolding output_with
 output_length bytes n =
@@ -61,39 +46,63 @@ output_more bytes room n fits inside =
     append_assoc bytes (unwritten (room - length bytes)) (unwritten (n - room))
     ∙ ap (λ (l : List ℕ). bytes ++ l) (unwritten_more (room - length bytes) (n - room) ∙ ap unwritten all)
 
--- Holding an output against bytes at its front, byte by byte.
+-- Whether nothing was written from a place on.
+module _ (bytes : List ℕ) (i : ℕ) where
+  abbrev pub left_unwritten : Bool
+  left_unwritten = same_bytes (drop i bytes) (unwritten (length bytes - i))
+
+  module _ (inside : i < length bytes) where
+    unwritten_step : left_unwritten ≡ (eqb (get_or bytes i 0) 170 && same_bytes (drop (i + 1) bytes) (unwritten (length bytes - (i + 1))))
+    unfolding same_bytes unwritten
+    unwritten_step =
+        let more : length bytes - i ≡ suc (length bytes - (i + 1)) = omega arith in
+        rw (drop-cons bytes i 0 inside, more, add-one i)
+
+    pub unwritten_next : get_or bytes i 0 ≡ 170 → same_bytes (drop (i + 1) bytes) (unwritten (length bytes - (i + 1))) ≡ left_unwritten
+    unwritten_next e = rw (unwritten_step, eq-eqb (get_or bytes i 0) 170 e)
+
+    pub unwritten_stops : (get_or bytes i 0 ≡ 170 → ⊥) → false ≡ left_unwritten
+    unwritten_stops h = rw (unwritten_step, ne_eqb (get_or bytes i 0) 170 h)
+
+  pub unwritten_ends : length bytes ≤ i → true ≡ left_unwritten
+  unfolding unwritten
+  unwritten_ends over =
+      let none : length bytes - i ≡ 0 = omega arith in
+      rw (none, drop_of_length-le bytes over) (sym (same_itself []))
+
+and_assoc : (s t u : Bool) → ((s && t) && u) ≡ (s && (t && u))
+and_assoc true t u = refl
+and_assoc false t u = refl
+
+-- Two parts, each held against its own.
+same_parts : (a b c d : List ℕ) → length a ≡ length c → same_bytes (a ++ b) (c ++ d) ≡ (same_bytes a c && same_bytes b d)
+unfolding same_bytes
+same_parts [] b [] d e = refl
+same_parts [] b (n ∷ ns) d e = absurd (omega arith)
+same_parts (m ∷ ms) b [] d e = absurd (omega arith)
+same_parts (m ∷ ms) b (n ∷ ns) d e =
+    ap (λ (t : Bool). eqb m n && t) (same_parts ms b ns d (omega arith)) ∙ sym (and_assoc (eqb m n) (same_bytes ms ns) (same_bytes b d))
+
 module _ (out bytes : List ℕ) where
-  abbrev pub due : List ℕ
-  due = output_with bytes (length out)
+  pub holds_short : length out < length bytes → false ≡ same_bytes out (output_with bytes (length out))
+  holds_short h = lengths_differ out (output_with bytes (length out)) (λ e. omega (arith, output_length bytes (length out)))
 
-  pub holds_short : length out < length bytes → false ≡ same_bytes out due
-  holds_short h = lengths_differ out due (λ e. omega (arith, output_length bytes (length out)))
+  -- The front against the bytes, and what is behind it against what stood there before.
+  pub holds_parts : length bytes ≤ length out
+      → same_bytes out (output_with bytes (length out)) ≡ (same_bytes (take (length bytes) out) bytes && same_bytes (drop (length bytes) out) (unwritten (length out - length bytes)))
+  unfolding output_with
+  holds_parts fits =
+      ap (λ (l : List ℕ). same_bytes l (output_with bytes (length out))) (sym (take-append-drop (length bytes) out))
+      ∙ same_parts (take (length bytes) out) (drop (length bytes) out) bytes (unwritten (length out - length bytes)) (length-take-le (length bytes) out fits)
 
-  module _ (fits : length bytes ≤ length out) (i : ℕ) where
-    pub due_front : i < length bytes → get_or due i 0 ≡ get_or bytes i 0
-    unfolding output_with
-    due_front h = get_or_append bytes (unwritten (length out - length bytes)) 0 i h
-
-    pub due_behind : length bytes ≤ i → i < length out → get_or due i 0 ≡ 170
-    unfolding output_with unwritten
-    due_behind h inside =
-        let apart : i ≡ length bytes + (i - length bytes) = omega arith in
-        ap (λ (k : ℕ). get_or due k 0) apart
-        ∙ get_or-append-add bytes (unwritten (length out - length bytes)) (i - length bytes) 0
-        ∙ get_or-replicate (length out - length bytes) (i - length bytes) 170 0 (omega arith)
-
-    in_due : i < length out → i < length due
-    in_due h = omega (arith, output_length bytes (length out))
-
-    pub holds_next : (b : ℕ) → i < length out → get_or due i 0 ≡ b → get_or out i 0 ≡ b
-        → same_bytes (drop (i + 1) out) (drop (i + 1) due) ≡ same_bytes (drop i out) (drop i due)
-    holds_next b h e f = same_next out due i h (in_due h) (f ∙ sym e)
-
-    pub holds_stops : (b : ℕ) → i < length out → get_or due i 0 ≡ b → (get_or out i 0 ≡ b → ⊥) → false ≡ same_bytes (drop i out) (drop i due)
-    holds_stops b h e differs = same_stops out due i h (in_due h) (λ f. differs (f ∙ e))
-
-    pub holds_ends : length out ≤ i → i ≤ length out → true ≡ same_bytes (drop i out) (drop i due)
-    holds_ends over within = same_ends out due i over within (omega (arith, output_length bytes (length out)))
+  pub holds_both : (front rest : List ℕ) (a b : Bool) → length bytes ≤ length out → front ≡ take (length bytes) out → rest ≡ drop (length bytes) out
+      → a ≡ same_bytes front bytes → b ≡ same_bytes rest (unwritten (length rest)) → (a && b) ≡ same_bytes out (output_with bytes (length out))
+  holds_both front rest a b fits f r e h =
+      let long : length rest ≡ length out - length bytes = ap length r ∙ length-drop (length bytes) out in
+      ap₂ (λ (s t : Bool). s && t)
+      (e ∙ ap (λ (l : List ℕ). same_bytes l bytes) f)
+      (h ∙ ap₂ (λ (l : List ℕ) (n : ℕ). same_bytes l (unwritten n)) r long)
+      ∙ sym (holds_parts fits)
 
 -- What stands behind both does not matter where they are as long.
 same_front : (a b rest : List ℕ) → length a ≡ length b → same_bytes (a ++ rest) (b ++ rest) ≡ same_bytes a b

@@ -1,8 +1,8 @@
 -- What a program shows, held against what is expected.
 use Rattle.std.specs.Prelude.{◌≡◌, ◌&&◌, ◌∷◌, ◌++◌, ◌+◌, ◌<◌, ◌≤◌}
 use Rattle.kit.specs.Names.{refl, ap, ap₂, sym, subst, ◌∙◌, Bool, true, false, cond, List, [], ℕ, zero, suc}
-use Rattle.kit.specs.Names.{min, arith, eqb, ltb, leb, length, take, drop, get_or, length-take, length-drop, length-take-le, take_all}
-use Rattle.kit.specs.Names.{take_at, get_or-take, get_or-drop, eq-eqb, ne_eqb, lt-ltb, le-ltb, le-leb, lt-leb, leb-true, leb-false}
+use Rattle.kit.specs.Names.{min, arith, eqb, ltb, leb, length, take, drop, length-take, length-drop, length-take-le, take_all}
+use Rattle.kit.specs.Names.{take_at, eq-eqb, ne_eqb, lt-ltb, le-ltb, le-leb, lt-leb, leb-true, leb-false}
 use Rattle.definitions.specs.Basics.{first_that_holds}
 use Rattle.definitions.specs.Numbers.{check_number, or_else}
 use Rattle.definitions.specs.Report.{report_text, report_number, report_length, output_after_report, refused_line}
@@ -12,7 +12,7 @@ use Rattle.memory_buffer.proofs.Storing.{front_stored}
 use Rattle.memory_append.specs.Append.{Appended}
 use Rattle.write_room.proofs.Room.{room_suffices}
 use Rattle.test_shared.specs.Bytes.{same_bytes}
-use Rattle.test_shared.proofs.Bytes.{same_next, same_stops, same_ends}
+use Rattle.test_shared.proofs.Bytes.{same_equal}
 use Rattle.test_programs.specs.ProgramRecords.{answer_text, accepted_line, printed_by, printed_for, rehearsed, is_expected, Shown, stands_at, behind_text}
 use Rattle.test_programs.specs.ProgramRecords.{verdict_name, compile_name, report_name, rehearse_name}
 use Rattle.report_room.proofs.Room.{text_few}
@@ -164,7 +164,7 @@ module _ (name input expected : List ℕ) (h : Bool) (is_h : h ≡ same_bytes re
   unfolding printed_for
   by_other e r f = f ∙ ap (λ (b : Bool). is_expected (cond b (rehearsed input) (printed_by name input)) expected) (sym e ∙ is_h)
 
--- A text at a place, byte by byte.
+-- A text at a place.
 module _ (text bytes : List ℕ) (at : ℕ) where
   abbrev pub window : List ℕ
   window = take (length text) (drop at bytes)
@@ -173,26 +173,17 @@ module _ (text bytes : List ℕ) (at : ℕ) where
   unfolding behind_text stands_at
   text_past h = rw (lt-leb (at + length text) (length bytes) h)
 
-  module _ (fits : at + length text ≤ length bytes) where
-    behind_by : (b : Bool) → same_bytes text window ≡ b → cond b (at + length text) 0 ≡ behind_text text bytes at
-    unfolding behind_text stands_at
-    behind_by b e = rw (le-leb (at + length text) (length bytes) fits, e)
+  pub text_stands : at ≤ length bytes → same_bytes text window ≡ true → at + length text ≡ behind_text text bytes at
+  unfolding behind_text stands_at
+  text_stands inside e =
+      let same : length text ≡ length window = ap length (same_equal text window e) in
+      let fits : at + length text ≤ length bytes = omega (arith, same, length-take (length text) (drop at bytes), length-drop at bytes) in
+      rw (le-leb (at + length text) (length bytes) fits, e)
 
-    window_long : length window ≡ length text
-    window_long = length-take-le (length text) (drop at bytes) (omega (arith, length-drop at bytes))
-
-    window_at : (i : ℕ) → i < length text → get_or window i 0 ≡ get_or bytes (at + i) 0
-    window_at i h = get_or-take (length text) (drop at bytes) i 0 h ∙ get_or-drop at bytes i 0
-
-    pub text_next : (i : ℕ) → i < length text → get_or bytes (at + i) 0 ≡ get_or text i 0
-        → same_bytes (drop (i + 1) text) (drop (i + 1) window) ≡ same_bytes (drop i text) (drop i window)
-    text_next i h e = same_next text window i h (omega (arith, window_long)) (sym e ∙ sym (window_at i h))
-
-    pub text_stops : (i : ℕ) → i < length text → (get_or bytes (at + i) 0 ≡ get_or text i 0 → ⊥)
-        → same_bytes (drop i text) (drop i window) ≡ same_bytes text window → 0 ≡ behind_text text bytes at
-    text_stops i h differs e =
-        behind_by false (sym e ∙ sym (same_stops text window i h (omega (arith, window_long)) (λ f. differs (sym (window_at i h) ∙ sym f))))
-
-    pub text_ends : (i : ℕ) → length text ≤ i → i ≤ length text → same_bytes (drop i text) (drop i window) ≡ same_bytes text window
-        → at + length text ≡ behind_text text bytes at
-    text_ends i over within e = behind_by true (sym e ∙ sym (same_ends text window i over within (sym window_long)))
+  pub text_differs : same_bytes text window ≡ false → 0 ≡ behind_text text bytes at
+  unfolding behind_text stands_at
+  text_differs e = go (leb (at + length text) (length bytes))
+    where
+      go : (b : Bool) → 0 ≡ cond (b && same_bytes text window) (at + length text) 0
+      go true = rw e
+      go false = refl

@@ -9,19 +9,28 @@ ghost use Rattle.test_programs.specs.FileRecords.{part_end, file_agrees, is_writ
 ghost use Rattle.test_programs.specs.Outputs.{unwritten, output_with, is_answer, writes_in};
 
 use file_bytes::two_bytes_at;
-use test_shared::Tally;
+use test_shared::{Tally, same_bytes};
 
 // What stands in the output before a file is written, and must stand there still where nothing is.
 const BEFORE: u8 = 170;
 
+#[tactic(auto, unfolding(crate::specs::Outputs::unwritten))]
 fn fill(out: &mut [u8])
     ensures { out.new ≡ unwritten (length out.old) }
 {
-    let mut i = 0;
-    while i < out.len() {
-        out[i] = BEFORE;
-        i += 1;
+    out.fill(BEFORE);
+}
+
+// Nothing was written over these bytes.
+fn is_unwritten(bytes: &[u8]) -> bool
+    ensures { result ≡ same_bytes bytes.now (unwritten (length bytes.now)) }
+{
+    for byte in bytes {
+        if *byte != BEFORE {
+            return false;
+        }
     }
+    true
 }
 
 // The bytes are at the front, and behind them nothing was written.
@@ -31,20 +40,8 @@ fn holds(out: &[u8], bytes: &[u8]) -> bool
     if out.len() < bytes.len() {
         return false;
     }
-    let mut i = 0;
-    while i < bytes.len() {
-        if out[i] != bytes[i] {
-            return false;
-        }
-        i += 1;
-    }
-    while i < out.len() {
-        if out[i] != BEFORE {
-            return false;
-        }
-        i += 1;
-    }
-    true
+    let (front, rest) = out.split_at(bytes.len());
+    same_bytes(front, bytes) && is_unwritten(rest)
 }
 
 // An answer is the number that is due, and the bytes that are due are what it gave.
@@ -144,13 +141,14 @@ pub fn compare(input: &[u8], out: &mut [u8]) -> Tally
     let mut records: usize = 0;
     let mut different: usize = 0;
     let mut at: usize = 0;
+    // Kept: each turn goes on by the length that its record has, until the input ends.
     while at < input.len() {
         let file_end = part_end(input, at);
         let written_end = part_end(input, file_end + 1);
         let end = part_end(input, written_end);
         if input.len() < end {
             return Tally {
-                records: records,
+                records,
                 different: different + 1,
             };
         }
@@ -166,8 +164,5 @@ pub fn compare(input: &[u8], out: &mut [u8]) -> Tally
         records += 1;
         at = end;
     }
-    Tally {
-        records: records,
-        different: different,
-    }
+    Tally { records, different }
 }

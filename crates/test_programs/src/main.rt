@@ -37,13 +37,11 @@ fn print(rt: &HostRuntime, tally: Tally) -> usize {
 fn main(rt: HostRuntime) {
     let mut input = test_shared::input_room();
     let mut out = test_shared::output_room();
-    let mut place: usize = 1;
-    while place <= 4 {
+    for place in 1..=4 {
         let read = test_shared::read_named(&rt, b"test_programs", place, &mut input);
         let length = read.length;
         if read.ready {
             print(&rt, compare(place, &input[..length], &mut out));
         }
-        place += 1;
     }
 }

@@ -30,23 +30,18 @@ struct Record {
 }
 
 // The place behind a text that stands at a place of some bytes; 0 where it does not stand there.
+// Kept: 0 stands for none in the definition that the contract cites, `behind_text`.
 fn behind(text: &[u8], bytes: &[u8], at: usize) -> usize
     ensures { result ≡ behind_text text.now bytes.now at }
 {
     if bytes.len() < at {
         return 0;
     }
-    if bytes.len() - at < text.len() {
-        return 0;
+    if bytes[at..].starts_with(text) {
+        at + text.len()
+    } else {
+        0
     }
-    let mut i: usize = 0;
-    while i < text.len() {
-        if bytes[at + i] != text[i] {
-            return 0;
-        }
-        i += 1;
-    }
-    at + text.len()
 }
 
 // The length of what a program prints: of the answer, which stands at the front of the output already, or of the line that takes its place
@@ -152,16 +147,13 @@ fn runs(script: &[u8], deployed: Ledger, expected: &[u8], out: &mut [u8]) -> boo
     let parts = rehearse_scripts::read_script(script);
     let mut ledger = deployed;
     let mut at = line_end(0, ledger, parts.party, expected, 0, out);
-    let mut k: u8 = 0;
-    while k < parts.calls {
+    for k in 0..parts.calls {
         if at == 0 {
             return false;
         }
         let called = call_at(script, k, ledger);
-        let after = called.ledger;
-        ledger = after;
+        ledger = called.ledger;
         at = line_end(called.number, ledger, parts.party, expected, at, out);
-        k += 1;
     }
     0 < at && at == expected.len()
 }
@@ -207,10 +199,10 @@ fn read_record(bytes: &[u8]) -> Record
     let input_end = options_end + 4 + four_bytes_at(bytes, options_end) as usize;
     let end = input_end + 4 + four_bytes_at(bytes, input_end) as usize;
     Record {
-        name_end: name_end,
-        options_end: options_end,
-        input_end: input_end,
-        end: end,
+        name_end,
+        options_end,
+        input_end,
+        end,
     }
 }
 
@@ -239,6 +231,7 @@ pub fn compare(input: &[u8], out: &mut [u8]) -> Tally
     let mut records: usize = 0;
     let mut different: usize = 0;
     let mut at: usize = 0;
+    // Kept: each turn goes on by the length that its record has, until the input ends.
     while at < input.len() {
         let rest = part(input, at, input.len());
         let record = read_record(rest);
@@ -248,8 +241,5 @@ pub fn compare(input: &[u8], out: &mut [u8]) -> Tally
         records += 1;
         at += record.end;
     }
-    Tally {
-        records: records,
-        different: different,
-    }
+    Tally { records, different }
 }

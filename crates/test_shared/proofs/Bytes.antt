@@ -1,7 +1,8 @@
--- Bytes are the same exactly where the lists are equal; and how a comparison from the front goes on.
+-- Bytes are the same exactly where the lists are equal, and as `==` compares them; and how a comparison from the front goes on.
 use Rattle.std.specs.Prelude.{◌≡◌, ◌&&◌, ◌∷◌, ◌+◌, ◌<◌, ◌≤◌}
 use Rattle.kit.specs.Names.{refl, ap, ap₂, sym, ◌∙◌, Bool, true, false, false≢true, List, [], ℕ, suc, arith}
 use Rattle.kit.specs.Names.{add-one, eqb, length, get_or, drop, drop-cons, drop-length, eqb-true, eq-eqb, ne_eqb}
+use Rattle.std.specs.Cmp.Lexicographic.{pointwise}
 use Rattle.theory_laws.proofs.TruthValues.{and_parts, and_both}
 use Rattle.test_shared.specs.Bytes.{same_bytes}
 
@@ -18,6 +19,13 @@ pub same_itself : (a : List ℕ) → same_bytes a a ≡ true
 unfolding same_bytes
 same_itself [] = refl
 same_itself (m ∷ ms) = and_both (eqb m m) (same_bytes ms ms) (eq-eqb m m refl) (same_itself ms)
+
+pub same_as_compared : (a b : List ℕ) → pointwise eqb a b ≡ same_bytes a b
+unfolding same_bytes
+same_as_compared [] [] = refl
+same_as_compared [] (n ∷ ns) = refl
+same_as_compared (m ∷ ms) [] = refl
+same_as_compared (m ∷ ms) (n ∷ ns) = ap (λ (t : Bool). eqb m n && t) (same_as_compared ms ns)
 
 not-true : (t : Bool) → (t ≡ true → ⊥) → false ≡ t
 not-true true h = absurd (h refl)

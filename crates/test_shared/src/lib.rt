@@ -46,17 +46,7 @@ pub fn part<'a>(input: &'a [u8], start: usize, end: usize) -> &'a [u8]
 pub fn same_bytes(left: &[u8], right: &[u8]) -> bool
     ensures { result ≡ same_bytes left.now right.now }
 {
-    if left.len() != right.len() {
-        return false;
-    }
-    let mut i: usize = 0;
-    while i < left.len() {
-        if left[i] != right[i] {
-            return false;
-        }
-        i += 1;
-    }
-    true
+    left == right
 }
 
 // Room for the longest of the recorded files: a program reads them into it one after another, so that its stack holds one room.

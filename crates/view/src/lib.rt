@@ -37,10 +37,7 @@ pub fn view_apart(
     }
     if is_well_formed(file, last, parameters, variables, places) {
         view_bytes(last, parameters, variables, places, party, out);
-        Answer {
-            number: 0,
-            length: length,
-        }
+        Answer { number: 0, length }
     } else {
         refused
     }

@@ -38,7 +38,7 @@ pub fn put_content(out: &mut [u8], at: usize, party: u8, content: Content)
                 owner: 0,
                 call: 0,
                 index: 0,
-                value: value,
+                value,
             },
         ),
         Content::Cell(cell) => put_cell(out, at, party, cell),

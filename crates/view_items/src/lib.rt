@@ -15,10 +15,8 @@ pub fn put_items(flat: &[u32], party: u8, out: &mut [u8], at: usize)
     requires { at + 10 * (length flat.now / 5) ≤ length out.old }
     ensures { out.new ≡ stored out.old at (shown party (contents_of flat.now)) }
 {
-    let mut i: usize = 0;
-    while i < flat.len() / 5 {
+    for i in 0..flat.len() / 5 {
         let content = content_at(flat, i);
         put_content(out, at + 10 * i, party, content);
-        i += 1;
     }
 }

@@ -63,6 +63,7 @@ pub fn run(
         (state_of places.new variables.new) result }
 {
     let mut at = n;
+    // Kept: a walk down a tree to the node that is a step of its own; no range or slice tells its turns beforehand.
     while hands_on(nodes, at) {
         let node = read_node(nodes, 8 * at);
         let first = node.first;

@@ -35,7 +35,7 @@ fn given_item(items: &[u32], i: usize) -> Walked
     let content = content_at(items, i);
     Walked {
         walked: true,
-        content: content,
+        content,
     }
 }
 
@@ -45,10 +45,7 @@ fn given_place(file: &[u8], places: &[u32], f: usize, key: u32, walked: bool) ->
     ensures { Gives walked (content_at (contents_of places.now) (position (fields_in file.now) f key)) result }
 {
     let content = content_at(places, position(file, f, key as usize));
-    Walked {
-        walked: walked,
-        content: content,
-    }
+    Walked { walked, content }
 }
 
 // "A zero divisor fails the call."

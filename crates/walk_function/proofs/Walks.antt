@@ -6,9 +6,8 @@ use Rattle.definitions.specs.Ledger as ledger
 use Rattle.memory_buffer.proofs.Storing.{front_stored}
 use Rattle.theory_laws.proofs.Written.{nodes_length}
 use Rattle.memory_buffer.proofs.Storing.{stored_length}
-use Rattle.file_accepted.specs.Context.{Context, nodes_in, fields_in}
+use Rattle.file_accepted.specs.Context.{nodes_in, fields_in}
 use Rattle.file_accepted.specs.Functions.{root_at}
-use Rattle.file_accepted.proofs.Sources.{context_with}
 use Rattle.ledger_contents.specs.Contents.{contents_of}
 use Rattle.write_nodes.proofs.TreeNodes.{size_positive}
 use Rattle.rewrite_log.specs.declared.Position.{Position}
@@ -31,17 +30,13 @@ use Rattle.walk_function_nodes.proofs.Parts.{sizes_are, constraints_by_nodes}
 use Rattle.walk_function.specs.Walks.{LastReady, WalkReady}
 use Rattle.write_trees.proofs.Numbers.{constraint_numbers_length}
 
-module _ (file : List ℕ) (at : ℕ) (source : List ℕ) (log numbers roots nodes : List ℕ) (ready : WalkReady file at source log numbers roots nodes) where
-  context_here : Context file at source
-  context_here = context_with file at source ready.room.context ready.held
-
+module _ (file : List ℕ) (at : ℕ) (log numbers roots nodes : List ℕ) (ready : WalkReady file at log numbers roots nodes) where
   module _ (private : ℕ) (counted : private ≡ private_in file at) where
-    pub log_ready : Ready file at source (root_at file at) log (starting_at private) (statement_of file at 0 (root_at file at))
+    pub log_ready : Ready file (root_at file at) log (starting_at private) (statement_of file at 0 (root_at file at))
     log_ready =
         rw counted
         (record {
           inside = ready.room.root;
-          context = context_here;
           room = record { space = omega (arith, ready.room.events_by_nodes, ready.log_space); few = omega (arith, ready.room.variables) };
         })
 
@@ -52,14 +47,13 @@ module _ (file : List ℕ) (at : ℕ) (source : List ℕ) (log numbers roots nod
       entries_are : end.at / 5 ≡ length (events_in file at)
       entries_are = omega (arith, events_logged.next)
 
-      pub function_ready : FunctionReady file at source log_after (end.at / 5) private numbers roots nodes
+      pub function_ready : FunctionReady file at log_after (end.at / 5) private numbers roots nodes
       function_ready =
           record {
             constraints =
                 record {
                   logged =
                       record {
-                        decoded = ready.held;
                         room = ready.room;
                         private_is = counted;
                         held =
@@ -110,7 +104,7 @@ module _ (file : List ℕ) (at : ℕ) (source : List ℕ) (log numbers roots nod
           bytes = omega (arith, nodes_kept, put.nodes, ready.room.nodes_by_parts, ready.nodes_space);
           space = omega (arith, numbers_kept, put.constraints, constraints_by_nodes file at ready.room, ready.numbers_space);
           readable = rw nodes_front back.readable;
-          few_fields = context_here.few_fields;
+          few_fields = ready.room.context.few_fields;
         }
 
     constraints_are : constraints_from (table_of (take (8 * r.nodes) nodes_after)) (take (4 * r.constraints) numbers_after) ≡ function.constraints

@@ -8,7 +8,7 @@ use Rattle.theory_laws.proofs.Written.{opening_count, sizes_append}
 use Rattle.theory_trees.specs.Trees.{statement_in}
 use Rattle.memory_buffer.specs.Buffer.{stored}
 use Rattle.memory_buffer.proofs.Storing.{stored_length}
-use Rattle.file_accepted.specs.Context.{Context, nodes_in, fields_in, parameters_in, scope_in, Source}
+use Rattle.file_accepted.specs.Context.{nodes_in, fields_in, parameters_in, scope_in}
 use Rattle.file_accepted.specs.Functions.{root_at}
 use Rattle.write_nodes.proofs.TreeNodes.{run_then}
 use Rattle.rewrite_events.specs.Events.{constraints_of, statement_events}
@@ -25,7 +25,6 @@ use Rattle.walk_function_nodes.specs.Functions.{opening_numbers, circuit_trees, 
 use Rattle.walk_function_nodes.proofs.Openings.{numbers_length, opening_numbers_law, opening_trees, opening_claims_law}
 use Rattle.file_accepted.proofs.Declarations.{parameters_count}
 use Rattle.file_accepted.proofs.Nodes.{nodes_counted_law}
-use Rattle.file_accepted.proofs.Sources.{context_with}
 
 private_few : (k : ℕ) (ps : List Parameter) → length (private_parameters k ps) ≤ length ps
 unfolding private_parameters
@@ -82,10 +81,7 @@ module _ (file : List ℕ) (at : ℕ) where
   pub constraints_bound : FunctionRoom file at 0 0 → length written.constraints ≤ 520
   constraints_bound room = omega (arith, constraints_by_nodes room, room.context.few_nodes)
 
-  pub room_context : (source : List ℕ) → Source file source → FunctionRoom file at 0 0 → Context file at source
-  room_context source held room = context_with file at source room.context held
-
-  module _ (source : List ℕ) (log : List ℕ) (entries private : ℕ) (logged : FunctionLogged file at source log entries private) where
+  module _ (log : List ℕ) (entries private : ℕ) (logged : FunctionLogged file at log entries private) where
     claims_logged_are : (base : ℕ) → fours_of base (claims_in file at log 0 entries) ≡ constraint_numbers base claims
     claims_logged_are base =
         rw logged.count (claims_logged (scope_in file at) (nodes_in file) log (events_in file at) logged.held.numbers logged.held.entries 0 logged.held.holds base)
@@ -109,7 +105,7 @@ module _ (file : List ℕ) (at : ℕ) where
         let few = few_private logged.room in
         (omega (arith, logged.private_is), omega (arith, logged.private_is))
 
-    module _ (numbers between out : List ℕ) (ready : ConstraintsReady file at source log entries private numbers out)
+    module _ (numbers between out : List ℕ) (ready : ConstraintsReady file at log entries private numbers out)
         (opened : between ≡ stored numbers 0 (opening_numbers 0 private)) where
       opened_length : length between ≡ length numbers
       opened_length =

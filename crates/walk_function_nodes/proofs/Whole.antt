@@ -14,7 +14,7 @@ use Rattle.write_function_room.specs.Functions.{written_in, FunctionRoom}
 use Rattle.write_circuits.specs.declared.Circuits.{Circuits}
 use Rattle.write_bodies.specs.Bodies.{BodyReady}
 use Rattle.walk_function_nodes.specs.Functions.{circuit_trees, ConstraintsPut, FunctionReady, FunctionPut}
-use Rattle.walk_function_nodes.proofs.Parts.{sizes_are, room_context, constraints_bound}
+use Rattle.walk_function_nodes.proofs.Parts.{sizes_are, constraints_bound}
 
 circuit_bytes : (w : WrittenFunction) → length (flat_map node_bytes (numbered_all 0 (circuit_trees w))) ≡ 8 * sizes (circuit_trees w)
 circuit_bytes w = nodes_length (numbered_all 0 (circuit_trees w)) ∙ ap (λ (n : ℕ). 8 * n) (all_length (circuit_trees w) 0)
@@ -29,8 +29,8 @@ function_bytes_law w =
     (ap (flat_map node_bytes) split ∙ nodes_append (numbered_all 0 circuits) (numbered_all (sizes circuits) (t ∷ []))
     ∙ ap (λ (l : List ℕ). flat_map node_bytes (numbered_all 0 circuits) ++ l) (one_tree (sizes circuits) t))
 
-module _ (file : List ℕ) (at : ℕ) (source : List ℕ) (log : List ℕ) (entries private : ℕ) (numbers roots out : List ℕ)
-    (ready : FunctionReady file at source log entries private numbers roots out) where
+module _ (file : List ℕ) (at : ℕ) (log : List ℕ) (entries private : ℕ) (numbers roots out : List ℕ)
+    (ready : FunctionReady file at log entries private numbers roots out) where
   abbrev written : WrittenFunction
   written = written_in file at
 
@@ -48,10 +48,9 @@ module _ (file : List ℕ) (at : ℕ) (source : List ℕ) (log : List ℕ) (entr
     circuits_few = (omega (arith, put.nodes, sizes_are file at, room.nodes), omega (arith, put.count, constraints_bound file at room))
 
     pub body_ready : (verified : Bool) → verified ≡ ltb 0 (private + r.count)
-        → BodyReady file at source private verified log roots between (8 * r.nodes) r.nodes
+        → BodyReady file at private verified log roots between (8 * r.nodes) r.nodes
     body_ready verified h =
         record {
-          context = room_context file at source ready.constraints.logged.decoded room;
           root = room.root;
           private_is = ready.constraints.logged.private_is;
           verifies = h ∙ ap (ltb 0) put.count;

@@ -5,7 +5,7 @@ use Rattle.definitions.specs.Basics.{flat_map}
 use Rattle.definitions.specs.ContractFile.{node_count}
 use Rattle.definitions.specs.Rewriting.{WrittenFunction, Tree, sizes, numbered_all, node_bytes, claim_trees, function_trees}
 use Rattle.memory_buffer.specs.Buffer.{stored}
-use Rattle.file_accepted.specs.Context.{nodes_in, Source}
+use Rattle.file_accepted.specs.Context.{nodes_in}
 use Rattle.write_logged_steps.specs.Held.{HoldsEvents}
 use Rattle.write_function_room.specs.Functions.{written_in, private_in, events_in, FunctionRoom}
 use Rattle.write_circuits.specs.declared.Circuits.{Circuits}
@@ -23,16 +23,15 @@ abbrev pub circuit_trees : WrittenFunction → List Tree
 circuit_trees w = flat_map (λ c. claim_trees c.claim) w.constraints
 
 -- The log holds the events of a function's body from its start on.
-pub record FunctionLogged (file : List ℕ) (function_start : ℕ) (source : List ℕ) (log : List ℕ) (entries private : ℕ) : Type 0 where
-  pub decoded : Source file source
+pub record FunctionLogged (file : List ℕ) (function_start : ℕ) (log : List ℕ) (entries private : ℕ) : Type 0 where
   pub room : FunctionRoom file function_start 0 0
   pub private_is : private ≡ private_in file function_start
   pub held : HoldsEvents (nodes_in file) log 0 (events_in file function_start)
   pub count : entries ≡ length (events_in file function_start)
 
-pub record ConstraintsReady (file : List ℕ) (function_start : ℕ) (source : List ℕ) (log : List ℕ) (entries private : ℕ)
+pub record ConstraintsReady (file : List ℕ) (function_start : ℕ) (log : List ℕ) (entries private : ℕ)
     (numbers out : List ℕ) : Type 0 where
-  pub logged : FunctionLogged file function_start source log entries private
+  pub logged : FunctionLogged file function_start log entries private
   pub space : 4 * node_count file + 32 ≤ length numbers
   pub bytes : 8 * sizes (function_trees (written_in file function_start)) ≤ length out
 
@@ -43,9 +42,9 @@ pub record ConstraintsPut (w : WrittenFunction) (private : ℕ) (numbers numbers
   pub nodes : r.nodes ≡ sizes (circuit_trees w)
   pub count : private + r.count ≡ length w.constraints
 
-pub record FunctionReady (file : List ℕ) (function_start : ℕ) (source : List ℕ) (log : List ℕ) (entries private : ℕ)
+pub record FunctionReady (file : List ℕ) (function_start : ℕ) (log : List ℕ) (entries private : ℕ)
     (numbers roots out : List ℕ) : Type 0 where
-  pub constraints : ConstraintsReady file function_start source log entries private numbers out
+  pub constraints : ConstraintsReady file function_start log entries private numbers out
   pub roots_space : 3 * node_count file + 16 ≤ 2 * length roots
 
 -- A function's nodes, numbered from 0, and its constraints' numbers, and how many they are.

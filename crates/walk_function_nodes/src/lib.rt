@@ -7,6 +7,7 @@ ghost use Rattle.memory_buffer.specs.Buffer.{stored};
 ghost use Rattle.write_function_room.specs.Functions.{written_in};
 ghost use Rattle.walk_function_nodes.specs.Functions.{opening_numbers, ConstraintsReady, ConstraintsPut, FunctionReady, FunctionPut};
 
+use file_accepted::CheckedFunction;
 use file_kinds::{CALLER_CODE_SHORT, OPENS_SHORT};
 use write_circuits::{Circuits, put_circuits, put_four};
 use write_function_bodies::{Plan, write_function_body};
@@ -19,10 +20,9 @@ pub struct Extent {
     pub constraints: usize,
 }
 
-// The function that begins at a place: how many entries the log of its body has, and how many of its parameters are private.
+// Of one function: how many entries the log of its body has, and how many of its parameters are private.
 #[derive(Clone, Copy)]
 pub struct Logged {
-    pub function_at: usize,
     pub entries: usize,
     pub private: usize,
 }
@@ -33,37 +33,31 @@ fn put_openings(numbers: &mut [u16], private: usize)
     requires { (private ≤ 8) × (4 * private ≤ length numbers.old) }
     ensures { numbers.new ≡ stored numbers.old 0 (opening_numbers 0 private) }
 {
-    let mut i: usize = 0;
-    while i < private {
+    for i in 0..private {
         put_four(numbers, 4 * i, 0, i as u16, CALLER_CODE_SHORT, OPENS_SHORT);
-        i += 1;
     }
 }
 
 // A function's constraints: those of its private parameters, then those that the log of its body's events claims, with their circuits.
 fn put_constraints(
-    file: &[u8],
-    source: &[u16],
+    function: &CheckedFunction,
     log: &[u16],
     logged: Logged,
     numbers: &mut [u16],
     out: &mut [u8],
 ) -> Circuits
-    requires { ConstraintsReady file.now logged.function_at source.now log.now logged.entries logged.private
+    requires { ConstraintsReady function.now.file.now function.now.at log.now logged.entries logged.private
         numbers.old out.old }
-    ensures { ConstraintsPut (written_in file.now logged.function_at) logged.private
+    ensures { ConstraintsPut (written_in function.now.file.now function.now.at) logged.private
         numbers.old numbers.new out.old out.new result }
 {
-    let function_at = logged.function_at;
     let entries = logged.entries;
     let private = logged.private;
     put_openings(numbers, private);
     put_circuits(
-        file,
-        source,
+        function,
         log,
         Run {
-            function_at: function_at,
             from: 0,
             left: entries,
             noted: 4 * private,
@@ -75,33 +69,28 @@ fn put_constraints(
     )
 }
 
-// The nodes of the function that begins at a place, and its constraints; `roots` is scratch space.
+// The nodes of a function, and its constraints; `roots` is scratch space.
 pub fn put_function(
-    file: &[u8],
-    source: &[u16],
+    function: &CheckedFunction,
     log: &[u16],
     logged: Logged,
     numbers: &mut [u16],
     roots: &mut [u16],
     out: &mut [u8],
 ) -> Extent
-    requires { FunctionReady file.now logged.function_at source.now log.now logged.entries logged.private
+    requires { FunctionReady function.now.file.now function.now.at log.now logged.entries logged.private
         numbers.old roots.old out.old }
-    ensures { FunctionPut (written_in file.now logged.function_at) numbers.old numbers.new
+    ensures { FunctionPut (written_in function.now.file.now function.now.at) numbers.old numbers.new
         out.old out.new result }
 {
-    let function_at = logged.function_at;
-    let entries = logged.entries;
     let private = logged.private;
-    let circuits = put_constraints(file, source, log, logged, numbers, out);
+    let circuits = put_constraints(function, log, logged, numbers, out);
     let nodes = circuits.nodes;
     let count = private + circuits.count;
     let body = write_function_body(
-        file,
-        source,
+        function,
         Plan {
-            function_at: function_at,
-            private: private,
+            private,
             verified: 0 < count,
             at: 8 * nodes,
             base: nodes,

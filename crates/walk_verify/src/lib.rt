@@ -13,14 +13,10 @@ pub fn verify(nodes: &[u8], constraints: &[u16], addresses: &[u32], variables: &
     ensures { result ≡ all_hold addresses.now variables.now
         (constraints_from (table_of nodes.now) constraints.now) }
 {
-    let mut left = constraints.len() / 4;
-    let mut at = 0;
-    while 0 < left {
-        if !constraint_holds(nodes, constraints, addresses, variables, at) {
+    for i in 0..constraints.len() / 4 {
+        if !constraint_holds(nodes, constraints, addresses, variables, 4 * i) {
             return false;
         }
-        at += 4;
-        left -= 1;
     }
     true
 }

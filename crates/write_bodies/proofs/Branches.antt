@@ -5,7 +5,7 @@ use Rattle.definitions.specs.ContractFile.{boolean, NodeRecord, node}
 use Rattle.definitions.specs.Rewriting.{BodyExpression, Command, always, under, Tree, two_children, size, node_bytes, body_tree, command_tree}
 use Rattle.theory_trees.specs.Trees.{statement_in}
 use Rattle.memory_buffer.specs.Buffer.{stored}
-use Rattle.file_accepted.specs.Context.{nodes_in, scope_in}
+use Rattle.file_accepted.specs.Context.{Context, nodes_in, scope_in}
 use Rattle.theory_trees.proofs.ByKind.{branches_below}
 use Rattle.file_accepted.proofs.Nodes.{node_reads}
 use Rattle.rewrite_events.specs.Events.{Event, guard_event, variables_of, variable_count, steps_of, Events, branch_events, statement_events}
@@ -23,7 +23,7 @@ use Rattle.write_bodies.specs.Bodies.{Behind, StatementReady, StatementWritten, 
 use Rattle.write_bodies.proofs.Guards.{statement_alike}
 use Rattle.write_bodies.proofs.Positions.{steps_both, behind_both}
 
-module _ (file : List ℕ) (function_start : ℕ) (source : List ℕ) (n : ℕ) (log : List ℕ) (p : Position) (roots out : List ℕ) (at base : ℕ) (ready : BranchReady file function_start source n log p roots out at base) where
+module _ (file : List ℕ) (function_start : ℕ) (n : ℕ) (log : List ℕ) (p : Position) (roots out : List ℕ) (at base : ℕ) (ready : BranchReady file function_start n log p roots out at base) where
   abbrev j : ℕ
   j = p.variable
 
@@ -83,13 +83,12 @@ module _ (file : List ℕ) (function_start : ℕ) (source : List ℕ) (n : ℕ) 
     unfolding command_tree body_tree size
     two = record { contents = put.contents; nodes = refl }
 
-    pub inside_ready : StatementReady file function_start source n log inside roots second (at + 16) (base + 2)
+    pub inside_ready : StatementReady file function_start n log inside roots second (at + 16) (base + 2)
     inside_ready =
         let lengths = branch_length in
         let variables = branch_variables in
         record {
           inside = ready.inside;
-          context = ready.context;
           guard = under j;
           logged = inside_logged;
           steps = omega (arith, ready.steps, branch_steps);
@@ -113,16 +112,17 @@ module _ (file : List ℕ) (function_start : ℕ) (source : List ℕ) (n : ℕ) 
             };
           }
 
-module _ (file : List ℕ) (function_start : ℕ) (source : List ℕ) (n form : ℕ) (log : List ℕ) (p : Position) (roots out : List ℕ) (at base : ℕ) (r : NodeRecord) (same : r ≡ record_at source n)
-    (given : BranchesReady file function_start source n (record_at source n) form log p roots out at base) where
-  ready : BranchesReady file function_start source n r form log p roots out at base
-  ready = subst (λ (x : NodeRecord). BranchesReady file function_start source n x form log p roots out at base) (sym same) given
+module _ (file : List ℕ) (function_start : ℕ) (source : List ℕ) (context : Context file function_start source)
+    (n form : ℕ) (log : List ℕ) (p : Position) (roots out : List ℕ) (at base : ℕ) (r : NodeRecord) (same : r ≡ record_at source n)
+    (given : BranchesReady file function_start n (record_at source n) form log p roots out at base) where
+  ready : BranchesReady file function_start n r form log p roots out at base
+  ready = subst (λ (x : NodeRecord). BranchesReady file function_start n x form log p roots out at base) (sym same) given
 
   abbrev guard : ℕ
   guard = p.variable
 
   pub branches_less : (r.second < n) × (r.third < n)
-  branches_less = (branches_below (node_reads file function_start source ready.context n ready.inside r same) ready.kind).1
+  branches_less = (branches_below (node_reads file function_start source context n ready.inside r same) ready.kind).1
 
   abbrev other : ℕ
   other = else_guard file function_start r guard
@@ -133,13 +133,12 @@ module _ (file : List ℕ) (function_start : ℕ) (source : List ℕ) (n form : 
   abbrev else : List Event
   else = branch_at file function_start r.third other
 
-  pub then_ready : BranchReady file function_start source r.second log p roots out (at + 8 * form) (base + form)
+  pub then_ready : BranchReady file function_start r.second log p roots out (at + 8 * form) (base + form)
   then_ready =
       let less = branches_less.0 in
       let variables = variable_count_append then else in
       record {
         inside = omega (arith, ready.inside);
-        context = ready.context;
         logged = holds_first (nodes_in file) log p.at then else ready.logged;
         steps = omega (arith, ready.steps, steps_both (scope_in file function_start) then else);
         few = omega (arith, ready.few);
@@ -151,13 +150,12 @@ module _ (file : List ℕ) (function_start : ℕ) (source : List ℕ) (n form : 
     else_room = room_third ready.held at base 21 _ _ _ ready.room out form ready.written between first.nodes w.written
 
     pub else_ready : (roots_now : List ℕ) → length roots_now ≡ length roots
-        → BranchReady file function_start source r.third log first.next roots_now between (at + 8 * form + 8 * first.nodes) (base + form + first.nodes)
+        → BranchReady file function_start r.third log first.next roots_now between (at + 8 * form + 8 * first.nodes) (base + form + first.nodes)
     else_ready roots_now b =
         let less = branches_less.1 in
         let variables = variable_count_append then else in
         record {
           inside = omega (arith, ready.inside);
-          context = ready.context;
           logged = rw (w.next.place, w.next.variable) (holds_second (nodes_in file) log p.at then else ready.logged);
           steps = rw w.next.variable (omega (arith, ready.steps, steps_both (scope_in file function_start) then else));
           few = rw w.next.variable (omega (arith, ready.few));

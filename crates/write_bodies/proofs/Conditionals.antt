@@ -8,7 +8,7 @@ use Rattle.definitions.specs.Rewriting.{Command, Guard, always, Step, in_body, s
 use Rattle.theory_laws.proofs.Records.{kind_as}
 use Rattle.theory_trees.specs.Trees.{expression_in, statement_in}
 use Rattle.memory_buffer.specs.Buffer.{stored}
-use Rattle.file_accepted.specs.Context.{nodes_in, scope_in}
+use Rattle.file_accepted.specs.Context.{Context, nodes_in, scope_in}
 use Rattle.theory_trees.proofs.ByKind.{conditional_is, branches_below}
 use Rattle.file_accepted.proofs.Nodes.{node_reads}
 use Rattle.rewrite_events.specs.Events.{Event, steps_of, variable_count, Events, in_turn, ended, body_events, branch_events, statement_events}
@@ -31,14 +31,15 @@ use Rattle.write_bodies.proofs.Guards.{condition_alike}
 use Rattle.write_bodies.proofs.Commands.{branching_command}
 use Rattle.write_bodies.proofs.Positions.{turn_first, turn_second, steps_both, turn_steps, behind_both}
 
-module _ (file : List ℕ) (function_start : ℕ) (source : List ℕ) (n : ℕ) (log : List ℕ) (p : Position) (roots out : List ℕ) (at base : ℕ) (ready : StatementReady file function_start source n log p roots out at base)
+module _ (file : List ℕ) (function_start : ℕ) (source : List ℕ) (context : Context file function_start source)
+    (n : ℕ) (log : List ℕ) (p : Position) (roots out : List ℕ) (at base : ℕ) (ready : StatementReady file function_start n log p roots out at base)
     (r : NodeRecord) (same : r ≡ record_at source n) (kind : (record_at source n).kind ≡ 21) where
   own_kind : r.kind ≡ 21
   own_kind = kind_as (record_at source n) r 21 (sym same) kind
 
   is : statement_in (nodes_in file) n
       ≡ Statement.conditional (expression_in (nodes_in file) r.first) (statement_in (nodes_in file) r.second) (statement_in (nodes_in file) r.third)
-  is = conditional_is (node_reads file function_start source ready.context n ready.inside r same) own_kind
+  is = conditional_is (node_reads file function_start source context n ready.inside r same) own_kind
 
   abbrev i : ℕ
   i = p.variable
@@ -100,13 +101,12 @@ module _ (file : List ℕ) (function_start : ℕ) (source : List ℕ) (n : ℕ) 
       let same = steps_made in
       omega (arith, steps_both (scope_in file function_start) (condition ready.guard i) (branches (i + variable_count (condition ready.guard i))))
 
-  pub condition_ready : ConditionReady file function_start source r.first log p roots out at base
+  pub condition_ready : ConditionReady file function_start r.first log p roots out at base
   condition_ready =
-      let less = (branches_below (node_reads file function_start source ready.context n ready.inside r same) own_kind).0 in
+      let less = (branches_below (node_reads file function_start source context n ready.inside r same) own_kind).0 in
       let variables = variables_are in
       record {
         inside = omega (arith, ready.inside);
-        context = ready.context;
         guard = ready.guard;
         logged = turn_first (nodes_in file) log p.at (condition ready.guard) branches i logged;
         few = omega (arith, ready.few);
@@ -132,7 +132,7 @@ module _ (file : List ℕ) (function_start : ℕ) (source : List ℕ) (n : ℕ) 
         (omega (arith, w.put.count, enough), (omega (arith, w.put.nodes, room_own.bytes), omega (arith, w.put.nodes, w.put.count, room_own.numbers)))
 
     pub branches_ready : (roots_now : List ℕ) → length roots_now ≡ length roots_after - c.count → length roots_after ≡ length roots
-        → BranchesReady file function_start source n (record_at source n) c.form log c.next roots_now after place number
+        → BranchesReady file function_start n (record_at source n) c.form log c.next roots_now after place number
     unfolding command_tree in_turn
     branches_ready roots_now b d =
         let all = own_steps in
@@ -142,10 +142,9 @@ module _ (file : List ℕ) (function_start : ℕ) (source : List ℕ) (n : ℕ) 
         let variables = variables_are in
         let alike = condition_alike (scope_in file function_start) (expression_in (nodes_in file) r.first) ready.guard always in
         let next = w.next.variable in
-        subst (λ (x : NodeRecord). BranchesReady file function_start source n x c.form log c.next roots_now after place number) same
+        subst (λ (x : NodeRecord). BranchesReady file function_start n x c.form log c.next roots_now after place number) same
         (record {
           inside = ready.inside;
-          context = ready.context;
           kind = own_kind;
           logged = turn_second (nodes_in file) log p c.next (condition ready.guard) branches (condition always) alike w.next logged;
           steps = omega (arith, turn_steps (scope_in file function_start) p c.next (condition ready.guard) branches (condition always) alike w.next);

@@ -4,7 +4,7 @@ use Rattle.kit.specs.Names.{refl, ap, sym, subst, ◌∙◌, true, false≢true,
 use Rattle.definitions.specs.ContractFile.{Statement, Scope, node_count}
 use Rattle.definitions.specs.Rewriting.{Guard, always, single, rewrite_statement, command_tree}
 use Rattle.theory_trees.specs.Trees.{expression_in, statement_in}
-use Rattle.file_accepted.specs.Context.{Context, nodes_in, scope_in}
+use Rattle.file_accepted.specs.Context.{nodes_in, scope_in}
 use Rattle.file_accepted.proofs.Nodes.{nodes_counted_law}
 use Rattle.rewrite_events.specs.Events.{variable_count, steps_of, Events, ended, body_events, statement_events}
 use Rattle.rewrite_events.specs.Ends.{is_simple, simple_events, Unended}
@@ -78,8 +78,8 @@ module _ (file : List ℕ) (function_start : ℕ) (log : List ℕ) (p : Position
         rw entries_are (readable file function_start (nodes_counted_law file) log (ended events p.variable) held.numbers held.entries p.at held.holds
         (reads_few (scope_in file function_start) (ended events) p.variable within (omega arith)))
 
-module _ (file : List ℕ) (function_start : ℕ) (source : List ℕ) (n : ℕ) (log : List ℕ) (p : Position) (roots out : List ℕ) (at base : ℕ)
-    (ready : StatementReady file function_start source n log p roots out at base) (plain : is_simple (statement_in (nodes_in file) n) ≡ true) where
+module _ (file : List ℕ) (function_start : ℕ) (n : ℕ) (log : List ℕ) (p : Position) (roots out : List ℕ) (at base : ℕ)
+    (ready : StatementReady file function_start n log p roots out at base) (plain : is_simple (statement_in (nodes_in file) n) ≡ true) where
   abbrev scope : Scope
   scope = scope_in file function_start
 
@@ -116,9 +116,9 @@ module _ (file : List ℕ) (function_start : ℕ) (source : List ℕ) (n : ℕ) 
         ∙ single_rewritten file function_start log n p.variable ready.guard ready.logged.numbers p.at plain ready.logged.entries ready.logged.holds
         ∙ ap command_tree (command_same scope s ready.guard always p.variable)
 
-    pub single_ready : (n < node_count file) × ((Context file function_start source) × ((p.variable + simple_count (scope_in file function_start) (statement_in (nodes_in file) n) ≤ 65535)
+    pub single_ready : (n < node_count file) × ((p.variable + simple_count (scope_in file function_start) (statement_in (nodes_in file) n) ≤ 65535)
         × ((Readable file function_start log p.at left) × ((length (steps_in file function_start log p.at left) ≤ length roots)
-        × (Room out at base (single_tree file function_start log p.at left n p.variable))))))
+        × (Room out at base (single_tree file function_start log p.at left n p.variable)))))
     single_ready =
         let made = ap length ((statement_made scope s always p.variable).variables ∙ simple_variables scope s always p.variable plain) ∙ simple_makes scope s p.variable in
         let same = ap length (steps_are file function_start log p parts (simple_unended scope ready.guard s p.variable) held e found
@@ -129,13 +129,10 @@ module _ (file : List ℕ) (function_start : ℕ) (source : List ℕ) (n : ℕ) 
         let within = subst (λ (x : Events). Within scope x) whole_is (statement_within scope s ready.guard) in (
           ready.inside,
           (
-            ready.context,
+            omega (arith, ready.few),
             (
-              omega (arith, ready.few),
-              (
-                read_back file function_start log p parts (simple_unended scope ready.guard s p.variable) held e found within (omega (arith, ready.few)),
-                (omega (arith, ready.steps), room_as out at base _ _ (sym tree_is) ready.room),
-              ),
+              read_back file function_start log p parts (simple_unended scope ready.guard s p.variable) held e found within (omega (arith, ready.few)),
+              (omega (arith, ready.steps), room_as out at base _ _ (sym tree_is) ready.room),
             ),
           ),
         )
@@ -153,8 +150,8 @@ module _ (file : List ℕ) (function_start : ℕ) (source : List ℕ) (n : ℕ) 
           };
         }
 
-module _ (file : List ℕ) (function_start : ℕ) (source : List ℕ) (n : ℕ) (log : List ℕ) (p : Position) (roots out : List ℕ) (at base : ℕ)
-    (ready : ConditionReady file function_start source n log p roots out at base) where
+module _ (file : List ℕ) (function_start : ℕ) (n : ℕ) (log : List ℕ) (p : Position) (roots out : List ℕ) (at base : ℕ)
+    (ready : ConditionReady file function_start n log p roots out at base) where
   abbrev own : Events
   own = body_events (scope_in file function_start) ready.guard (expression_in (nodes_in file) n)
 
@@ -177,24 +174,21 @@ module _ (file : List ℕ) (function_start : ℕ) (source : List ℕ) (n : ℕ) 
         ∙ (ended_made (scope_in file function_start) ready.guard _ own p.variable
         (body_made (scope_in file function_start) ready.guard (expression_in (nodes_in file) n) p.variable)).steps
 
-    pub steps_ready : (Context file function_start source) × ((Readable file function_start log p.at entries) × (StepsRoom out roots at base 0 (steps_in file function_start log p.at entries)))
+    pub steps_ready : (Readable file function_start log p.at entries) × (StepsRoom out roots at base 0 (steps_in file function_start log p.at entries))
     steps_ready =
         let scope = scope_in file function_start in
         let alike = (condition_alike scope (expression_in (nodes_in file) n) ready.guard always).variables p.variable p.variable in (
-          ready.context,
-          (
-            read_back file function_start log p own own_unended ready.logged e found (ended_within scope own (body_within scope ready.guard (expression_in (nodes_in file) n)))
-                (omega (arith, ready.few)),
-            room_same out roots at base 0 _ _ (sym same_steps) (nested_steps_room out roots at base _ _ ready.room ready.enough),
-          ),
+          read_back file function_start log p own own_unended ready.logged e found (ended_within scope own (body_within scope ready.guard (expression_in (nodes_in file) n)))
+              (omega (arith, ready.few)),
+          room_same out roots at base 0 _ _ (sym same_steps) (nested_steps_room out roots at base _ _ ready.room ready.enough),
         )
 
     module _ (between roots_after : List ℕ) (r : Steps) (put : StepsPut out between roots roots_after at base 0 (steps_in file function_start log p.at entries) r) where
       own_put : StepsPut out between roots roots_after at base 0 (condition_steps file function_start n p.variable) r
       own_put = put_same out roots at base 0 between roots_after _ _ r (sym same_steps) put
 
-      pub form_ready : (n < node_count file) × ((Context file function_start source) × ((p.variable + body_count (scope_in file function_start) (expression_in (nodes_in file) n) ≤ 65535)
-          × (Room between (at + 8 * r.nodes) (base + r.nodes) (body_form (scope_in file function_start) (expression_in (nodes_in file) n) p.variable))))
+      pub form_ready : (n < node_count file) × ((p.variable + body_count (scope_in file function_start) (expression_in (nodes_in file) n) ≤ 65535)
+          × (Room between (at + 8 * r.nodes) (base + r.nodes) (body_form (scope_in file function_start) (expression_in (nodes_in file) n) p.variable)))
       unfolding command_tree
       form_ready =
           let scope = scope_in file function_start in
@@ -202,11 +196,8 @@ module _ (file : List ℕ) (function_start : ℕ) (source : List ℕ) (n : ℕ) 
           let made = ap length (ended_made scope always _ (body_events scope always x) p.variable (body_made scope always x p.variable)).variables ∙ (body_makes scope x).length p.variable in (
             ready.inside,
             (
-              ready.context,
-              (
-                omega (arith, ready.few),
-                room_first between (at + 8 * r.nodes) (base + r.nodes) 21 _ _ _ (nested_rest_room out roots at base _ _ ready.room ready.enough between roots_after r own_put),
-              ),
+              omega (arith, ready.few),
+              room_first between (at + 8 * r.nodes) (base + r.nodes) 21 _ _ _ (nested_rest_room out roots at base _ _ ready.room ready.enough between roots_after r own_put),
             ),
           )
 

@@ -6,7 +6,7 @@ use Rattle.definitions.specs.Rewriting.{always, two_children, node_bytes, comman
 use Rattle.theory_laws.proofs.Records.{kind_as}
 use Rattle.theory_trees.specs.Trees.{statement_in}
 use Rattle.memory_buffer.specs.Buffer.{stored}
-use Rattle.file_accepted.specs.Context.{nodes_in, scope_in}
+use Rattle.file_accepted.specs.Context.{Context, nodes_in, scope_in}
 use Rattle.theory_trees.proofs.ByKind.{sequence_is, steps_below}
 use Rattle.file_accepted.proofs.Nodes.{node_reads}
 use Rattle.rewrite_events.specs.Events.{Event, variable_count, steps_of, Events, in_turn, statement_events}
@@ -23,16 +23,17 @@ use Rattle.write_bodies.proofs.Guards.{statement_alike}
 use Rattle.write_bodies.proofs.Commands.{sequence_command}
 use Rattle.write_bodies.proofs.Positions.{turn_first, turn_second, steps_both, turn_steps, behind_both}
 
-module _ (file : List ℕ) (function_start : ℕ) (source : List ℕ) (n : ℕ) (log : List ℕ) (p : Position) (roots out : List ℕ) (at base : ℕ) (ready : StatementReady file function_start source n log p roots out at base)
+module _ (file : List ℕ) (function_start : ℕ) (source : List ℕ) (context : Context file function_start source)
+    (n : ℕ) (log : List ℕ) (p : Position) (roots out : List ℕ) (at base : ℕ) (ready : StatementReady file function_start n log p roots out at base)
     (r : NodeRecord) (same : r ≡ record_at source n) (kind : (record_at source n).kind ≡ 17) where
   own_kind : r.kind ≡ 17
   own_kind = kind_as (record_at source n) r 17 (sym same) kind
 
   pub parts_less : (r.first < n) × (r.second < n)
-  parts_less = steps_below (node_reads file function_start source ready.context n ready.inside r same) own_kind
+  parts_less = steps_below (node_reads file function_start source context n ready.inside r same) own_kind
 
   is : statement_in (nodes_in file) n ≡ Statement.sequence (statement_in (nodes_in file) r.first) (statement_in (nodes_in file) r.second)
-  is = sequence_is (node_reads file function_start source ready.context n ready.inside r same) own_kind
+  is = sequence_is (node_reads file function_start source context n ready.inside r same) own_kind
 
   abbrev i : ℕ
   i = p.variable
@@ -71,7 +72,7 @@ module _ (file : List ℕ) (function_start : ℕ) (source : List ℕ) (n : ℕ) 
   own_steps =
       subst (λ (x : Statement). length (steps_of (scope_in file function_start) (statement_events (scope_in file function_start) x ready.guard i)) ≤ length roots) is ready.steps
 
-  pub first_ready : StatementReady file function_start source r.first log p roots out at base
+  pub first_ready : StatementReady file function_start r.first log p roots out at base
   unfolding in_turn
   first_ready =
       let less = parts_less.0 in
@@ -79,7 +80,6 @@ module _ (file : List ℕ) (function_start : ℕ) (source : List ℕ) (n : ℕ) 
       let variables = variables_are in
       record {
         inside = omega (arith, ready.inside);
-        context = ready.context;
         guard = ready.guard;
         logged = turn_first (nodes_in file) log p.at first_events second_events i logged;
         steps = omega (arith, steps_both (scope_in file function_start) (first_events i) (second_events (i + variable_count (first_events i))));
@@ -92,7 +92,7 @@ module _ (file : List ℕ) (function_start : ℕ) (source : List ℕ) (n : ℕ) 
     second_room = room_right out at base 17 0 _ _ room_own between first.nodes w.written
 
     pub second_ready : (roots_now : List ℕ) → length roots_now ≡ length roots
-        → StatementReady file function_start source r.second log first.next roots_now between (at + 8 * first.nodes) (base + first.nodes)
+        → StatementReady file function_start r.second log first.next roots_now between (at + 8 * first.nodes) (base + first.nodes)
     second_ready roots_now b =
         let less = parts_less.1 in
         let all = own_steps in
@@ -100,7 +100,6 @@ module _ (file : List ℕ) (function_start : ℕ) (source : List ℕ) (n : ℕ) 
         let alike = statement_alike (scope_in file function_start) (statement_in (nodes_in file) r.first) ready.guard always in
         record {
           inside = omega (arith, ready.inside);
-          context = ready.context;
           guard = ready.guard;
           logged = turn_second (nodes_in file) log p first.next first_events second_events (statement_events (scope_in file function_start) (statement_in (nodes_in file) r.first) always) alike w.next logged;
           steps = omega (arith, turn_steps (scope_in file function_start) p first.next first_events second_events (statement_events (scope_in file function_start) (statement_in (nodes_in file) r.first) always) alike w.next);

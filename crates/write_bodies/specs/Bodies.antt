@@ -6,7 +6,7 @@ use Rattle.definitions.specs.ContractFile.{NodeRecord, node_count}
 use Rattle.definitions.specs.Owners.{owner_of}
 use Rattle.definitions.specs.Rewriting.{Command, Guard, in_body, steps_before, Tree, three_children, command_tree}
 use Rattle.theory_trees.specs.Trees.{expression_in, statement_in}
-use Rattle.file_accepted.specs.Context.{Context, nodes_in, scope_in}
+use Rattle.file_accepted.specs.Context.{nodes_in, scope_in}
 use Rattle.file_accepted.specs.Functions.{root_at}
 use Rattle.rewrite_events.specs.Events.{Event, variable_count, steps_of, ended, body_events, statement_events}
 use Rattle.rewrite_log.specs.declared.Position.{Position}
@@ -25,10 +25,9 @@ pub record Behind (p : Position) (events : List Event) (q : Position) : Type 0 w
   pub variable : q.variable ≡ p.variable + variable_count events
 
 -- A statement: node n, whose events stand from a position on.
-pub record StatementReady (file : List ℕ) (function_start : ℕ) (source : List ℕ) (n : ℕ) (log : List ℕ) (p : Position) (roots out : List ℕ)
+pub record StatementReady (file : List ℕ) (function_start : ℕ) (n : ℕ) (log : List ℕ) (p : Position) (roots out : List ℕ)
     (at base : ℕ) : Type 0 where
   pub inside : n < node_count file
-  pub context : Context file function_start source
   pub guard : Guard
   pub logged : HoldsEvents (nodes_in file) log p.at
       (statement_events (scope_in file function_start) (statement_in (nodes_in file) n) guard p.variable)
@@ -42,10 +41,9 @@ pub record StatementWritten (file : List ℕ) (function_start n : ℕ) (p : Posi
   pub next : Behind p (events_at file function_start n p.variable) r.next
 
 -- A branch: node n behind its guard, which is the first variable.
-pub record BranchReady (file : List ℕ) (function_start : ℕ) (source : List ℕ) (n : ℕ) (log : List ℕ) (p : Position) (roots out : List ℕ)
+pub record BranchReady (file : List ℕ) (function_start : ℕ) (n : ℕ) (log : List ℕ) (p : Position) (roots out : List ℕ)
     (at base : ℕ) : Type 0 where
   pub inside : n < node_count file
-  pub context : Context file function_start source
   pub logged : HoldsEvents (nodes_in file) log p.at (branch_at file function_start n p.variable)
   pub steps : length (steps_of (scope_in file function_start) (branch_at file function_start n p.variable)) ≤ length roots
   pub few : p.variable + variable_count (branch_at file function_start n p.variable) < 65535
@@ -56,10 +54,9 @@ pub record BranchWritten (file : List ℕ) (function_start n : ℕ) (p : Positio
   pub next : Behind p (branch_at file function_start n p.variable) r.next
 
 -- A condition's steps and its form, where a conditional follows.
-pub record ConditionReady (file : List ℕ) (function_start : ℕ) (source : List ℕ) (n : ℕ) (log : List ℕ) (p : Position) (roots out : List ℕ)
+pub record ConditionReady (file : List ℕ) (function_start : ℕ) (n : ℕ) (log : List ℕ) (p : Position) (roots out : List ℕ)
     (at base : ℕ) : Type 0 where
   pub inside : n < node_count file
-  pub context : Context file function_start source
   pub guard : Guard
   pub logged : HoldsEvents (nodes_in file) log p.at
       (ended (body_events (scope_in file function_start) guard (expression_in (nodes_in file) n)) p.variable)
@@ -92,10 +89,9 @@ module _ (file : List ℕ) (function_start : ℕ) (own : NodeRecord) (j : ℕ) w
       three_children 21 condition (branch_tree file function_start own.second j)
       (branch_tree file function_start own.third else_guard)
 
-pub record BranchesReady (file : List ℕ) (function_start : ℕ) (source : List ℕ) (n : ℕ) (own : NodeRecord) (form : ℕ) (log : List ℕ)
+pub record BranchesReady (file : List ℕ) (function_start : ℕ) (n : ℕ) (own : NodeRecord) (form : ℕ) (log : List ℕ)
     (p : Position) (roots out : List ℕ) (at base : ℕ) : Type 0 where
   pub inside : n < node_count file
-  pub context : Context file function_start source
   pub kind : own.kind ≡ 21
   pub logged : HoldsEvents (nodes_in file) log p.at (branches_at file function_start own p.variable)
   pub steps : length (steps_of (scope_in file function_start) (branches_at file function_start own p.variable)) ≤ length roots
@@ -113,9 +109,8 @@ pub record BranchesWritten (file : List ℕ) (function_start : ℕ) (own : NodeR
   pub next : Behind p (branches_at file function_start own p.variable) r.next
 
 -- A function's root statement and its verify.
-pub record PassageReady (file : List ℕ) (function_start : ℕ) (source : List ℕ) (private : ℕ) (verified : Bool) (log roots out : List ℕ)
+pub record PassageReady (file : List ℕ) (function_start : ℕ) (private : ℕ) (verified : Bool) (log roots out : List ℕ)
     (at base : ℕ) : Type 0 where
-  pub context : Context file function_start source
   pub root : root_at file function_start < node_count file
   pub logged : HoldsEvents (nodes_in file) log 0 (events_at file function_start (root_at file function_start) private)
   pub steps : length (steps_of (scope_in file function_start) (events_at file function_start (root_at file function_start) private)) ≤ length roots
@@ -123,9 +118,8 @@ pub record PassageReady (file : List ℕ) (function_start : ℕ) (source : List 
   pub room : Room out at base (passage_tree file function_start private verified)
 
 -- A function's whole body.
-pub record BodyReady (file : List ℕ) (function_start : ℕ) (source : List ℕ) (private : ℕ) (verified : Bool) (log roots out : List ℕ)
+pub record BodyReady (file : List ℕ) (function_start : ℕ) (private : ℕ) (verified : Bool) (log roots out : List ℕ)
     (at base : ℕ) : Type 0 where
-  pub context : Context file function_start source
   pub root : root_at file function_start < node_count file
   pub private_is : private ≡ private_in file function_start
   pub verifies : verified ≡ ltb 0 (length (written_in file function_start).constraints)

@@ -10,6 +10,7 @@ ghost use Rattle.write_bodies.specs.Bodies.{StatementReady, StatementWritten, Br
 ghost use Rattle.write_bodies.specs.Bodies.{ConditionWritten, BranchesReady, BranchesWritten};
 ghost use Rattle.file_decoded.specs.Slices.{record_at};
 
+use file_accepted::CheckedFunction;
 use file_decoded::node_at;
 use file_kinds::*;
 use rewrite_log::Position;
@@ -39,50 +40,43 @@ pub struct Condition {
 
 // A statement that holds no other, behind its steps.
 fn write_simple(
-    file: &[u8],
-    source: &[u16],
+    function: &CheckedFunction,
     n: usize,
     log: &[u16],
     spot: Spot,
     roots: &mut [u16],
     out: &mut [u8],
 ) -> Extent
-    requires { (is_simple (statement_in (nodes_in file.now) n) ≡ true)
-        × (StatementReady file.now spot.function_at source.now n log.now spot.p
+    requires { (is_simple (statement_in (nodes_in function.now.file.now) n) ≡ true)
+        × (StatementReady function.now.file.now function.now.at n log.now spot.p
         roots.old out.old spot.at spot.base) }
-    ensures { StatementWritten file.now spot.function_at n spot.p
+    ensures { StatementWritten function.now.file.now function.now.at n spot.p
         out.old out.new spot.at spot.base result }
 {
-    let function_at = spot.function_at;
     let p = spot.p;
     let at = spot.at;
     let base = spot.base;
     let from = p.at;
     let end = find_end(log, from);
     let entries = (end.at - from) / 5;
-    let nodes = write_single(file, source, log, entries, n, spot, roots, out);
-    Extent {
-        nodes: nodes,
-        next: end,
-    }
+    let nodes = write_single(function, log, entries, n, spot, roots, out);
+    Extent { nodes, next: end }
 }
 
 // The steps before a condition, and its form.
 fn write_condition(
-    file: &[u8],
-    source: &[u16],
+    function: &CheckedFunction,
     n: usize,
     log: &[u16],
     spot: Spot,
     roots: &mut [u16],
     out: &mut [u8],
 ) -> Condition
-    requires { ConditionReady file.now spot.function_at source.now n log.now spot.p
+    requires { ConditionReady function.now.file.now function.now.at n log.now spot.p
         roots.old out.old spot.at spot.base }
-    ensures { ConditionWritten file.now spot.function_at n spot.p roots.old roots.new
+    ensures { ConditionWritten function.now.file.now function.now.at n spot.p roots.old roots.new
         out.old out.new spot.at spot.base result }
 {
-    let function_at = spot.function_at;
     let p = spot.p;
     let at = spot.at;
     let base = spot.base;
@@ -90,27 +84,25 @@ fn write_condition(
     let end = find_end(log, from);
     let entries = (end.at - from) / 5;
     let steps = put_steps(
-        file,
-        source,
+        function,
         log,
         Run {
-            function_at: function_at,
-            from: from,
+            from,
             left: entries,
             noted: 0,
-            at: at,
-            base: base,
+            at,
+            base,
         },
         roots,
         out,
     );
     let place = at + 8 * steps.nodes;
     let first = base + steps.nodes;
-    let form = write_body_form(file, function_at, source, n, p.variable, out, place, first);
+    let form = write_body_form(function, n, p.variable, out, place, first);
     Condition {
         count: steps.count,
         nodes: steps.nodes,
-        form: form,
+        form,
         next: end,
     }
 }
@@ -118,20 +110,18 @@ fn write_condition(
 // "Each branch begins by setting a guard variable of its own to true": node n behind its guard.
 #[cycle(write_branch_write_branches_write_conditional_write_sequence_write_statement)]
 fn write_branch(
-    file: &[u8],
-    source: &[u16],
+    function: &CheckedFunction,
     n: usize,
     log: &[u16],
     spot: Spot,
     roots: &mut [u16],
     out: &mut [u8],
 ) -> Extent
-    requires { BranchReady file.now spot.function_at source.now n log.now spot.p
+    requires { BranchReady function.now.file.now function.now.at n log.now spot.p
         roots.old out.old spot.at spot.base }
-    ensures { BranchWritten file.now spot.function_at n spot.p
+    ensures { BranchWritten function.now.file.now function.now.at n spot.p
         out.old out.new spot.at spot.base result }
 {
-    let function_at = spot.function_at;
     let p = spot.p;
     let at = spot.at;
     let base = spot.base;
@@ -142,12 +132,10 @@ fn write_branch(
         variable: guard + 1,
     };
     let inside = write_statement(
-        file,
-        source,
+        function,
         n,
         log,
         Spot {
-            function_at: function_at,
             p: q,
             at: at + 16,
             base: base + 2,
@@ -157,17 +145,13 @@ fn write_branch(
     );
     let nodes = put_above_two(SEQUENCE_BYTE, 0, 2, inside.nodes, out, at, base);
     let next = inside.next;
-    Extent {
-        nodes: nodes,
-        next: next,
-    }
+    Extent { nodes, next }
 }
 
 // The two branches of conditional n and its own node, behind a condition of so many nodes.
 #[cycle(write_branch_write_branches_write_conditional_write_sequence_write_statement)]
 fn write_branches(
-    file: &[u8],
-    source: &[u16],
+    function: &CheckedFunction,
     n: usize,
     form: usize,
     log: &[u16],
@@ -175,29 +159,22 @@ fn write_branches(
     roots: &mut [u16],
     out: &mut [u8],
 ) -> Extent
-    requires { BranchesReady file.now spot.function_at source.now n (record_at source.now n) form log.now spot.p
+    requires { BranchesReady function.now.file.now function.now.at n (record_at function.now.source.now n) form log.now spot.p
         roots.old out.old spot.at spot.base }
-    ensures { BranchesWritten file.now spot.function_at (record_at source.now n) form spot.p
+    ensures { BranchesWritten function.now.file.now function.now.at (record_at function.now.source.now n) form spot.p
         out.old out.new spot.at spot.base result }
 {
-    let function_at = spot.function_at;
     let p = spot.p;
     let at = spot.at;
     let base = spot.base;
-    let node = node_at(source, n);
+    let node = node_at(function.source, n);
     let a = at + 8 * form;
     let b = base + form;
     let then = write_branch(
-        file,
-        source,
+        function,
         node.second,
         log,
-        Spot {
-            function_at: function_at,
-            p: p,
-            at: a,
-            base: b,
-        },
+        Spot { p, at: a, base: b },
         roots,
         out,
     );
@@ -205,12 +182,10 @@ fn write_branches(
     let d = b + then.nodes;
     let q = then.next;
     let last = write_branch(
-        file,
-        source,
+        function,
         node.third,
         log,
         Spot {
-            function_at: function_at,
             p: q,
             at: c,
             base: d,
@@ -220,47 +195,39 @@ fn write_branches(
     );
     let nodes = put_above_three(IF_BYTE, form, then.nodes, last.nodes, out, at, base);
     let next = last.next;
-    Extent {
-        nodes: nodes,
-        next: next,
-    }
+    Extent { nodes, next }
 }
 
 // A conditional behind the steps of its condition. The steps' roots stay before those of the branches.
 #[cycle(write_branch_write_branches_write_conditional_write_sequence_write_statement)]
 fn write_conditional(
-    file: &[u8],
-    source: &[u16],
+    function: &CheckedFunction,
     n: usize,
     log: &[u16],
     spot: Spot,
     roots: &mut [u16],
     out: &mut [u8],
 ) -> Extent
-    requires { ((record_at source.now n).kind ≡ 21)
-        × (StatementReady file.now spot.function_at source.now n log.now spot.p
+    requires { ((record_at function.now.source.now n).kind ≡ 21) × (StatementReady function.now.file.now function.now.at n log.now spot.p
         roots.old out.old spot.at spot.base) }
-    ensures { StatementWritten file.now spot.function_at n spot.p
+    ensures { StatementWritten function.now.file.now function.now.at n spot.p
         out.old out.new spot.at spot.base result }
 {
-    let function_at = spot.function_at;
     let p = spot.p;
     let at = spot.at;
     let base = spot.base;
-    let first = node_at(source, n).first;
-    let c = write_condition(file, source, first, log, spot, roots, out);
+    let first = node_at(function.source, n).first;
+    let c = write_condition(function, first, log, spot, roots, out);
     let count = c.count;
     let q = c.next;
     let place = at + 8 * c.nodes;
     let number = base + c.nodes;
     let rest = write_branches(
-        file,
-        source,
+        function,
         n,
         c.form,
         log,
         Spot {
-            function_at: function_at,
             p: q,
             at: place,
             base: number,
@@ -273,72 +240,65 @@ fn write_conditional(
     let next = rest.next;
     Extent {
         nodes: c.nodes + rest.nodes + count,
-        next: next,
+        next,
     }
 }
 
 // Statement n, whose events the log holds from a position on; `roots` is scratch space.
 #[cycle(write_branch_write_branches_write_conditional_write_sequence_write_statement)]
 pub fn write_statement(
-    file: &[u8],
-    source: &[u16],
+    function: &CheckedFunction,
     n: usize,
     log: &[u16],
     spot: Spot,
     roots: &mut [u16],
     out: &mut [u8],
 ) -> Extent
-    requires { StatementReady file.now spot.function_at source.now n log.now spot.p
+    requires { StatementReady function.now.file.now function.now.at n log.now spot.p
         roots.old out.old spot.at spot.base }
-    ensures { StatementWritten file.now spot.function_at n spot.p
+    ensures { StatementWritten function.now.file.now function.now.at n spot.p
         out.old out.new spot.at spot.base result }
 {
-    let function_at = spot.function_at;
     let p = spot.p;
     let at = spot.at;
     let base = spot.base;
-    let node = node_at(source, n);
+    let node = node_at(function.source, n);
     let kind = node.kind;
     match kind {
-        SEQUENCE => write_sequence(file, source, n, log, spot, roots, out),
-        IF => write_conditional(file, source, n, log, spot, roots, out),
-        _ => write_simple(file, source, n, log, spot, roots, out),
+        SEQUENCE => write_sequence(function, n, log, spot, roots, out),
+        IF => write_conditional(function, n, log, spot, roots, out),
+        _ => write_simple(function, n, log, spot, roots, out),
     }
 }
 
 // Two statements and the sequence above them.
 #[cycle(write_branch_write_branches_write_conditional_write_sequence_write_statement)]
 fn write_sequence(
-    file: &[u8],
-    source: &[u16],
+    function: &CheckedFunction,
     n: usize,
     log: &[u16],
     spot: Spot,
     roots: &mut [u16],
     out: &mut [u8],
 ) -> Extent
-    requires { ((record_at source.now n).kind ≡ 17)
-        × (StatementReady file.now spot.function_at source.now n log.now spot.p
+    requires { ((record_at function.now.source.now n).kind ≡ 17) × (StatementReady function.now.file.now function.now.at n log.now spot.p
         roots.old out.old spot.at spot.base) }
-    ensures { StatementWritten file.now spot.function_at n spot.p
+    ensures { StatementWritten function.now.file.now function.now.at n spot.p
         out.old out.new spot.at spot.base result }
 {
-    let function_at = spot.function_at;
     let p = spot.p;
     let at = spot.at;
     let base = spot.base;
-    let node = node_at(source, n);
-    let first = write_statement(file, source, node.first, log, spot, roots, out);
+    let node = node_at(function.source, n);
+    let first = write_statement(function, node.first, log, spot, roots, out);
     let q = first.next;
     let a = at + 8 * first.nodes;
     let b = base + first.nodes;
     let second = write_statement(
-        file,
-        source,
+        function,
         node.second,
         log,
         Spot {
-            function_at: function_at,
             p: q,
             at: a,
             base: b,
@@ -348,8 +308,5 @@ fn write_sequence(
     );
     let nodes = put_above_two(SEQUENCE_BYTE, 0, first.nodes, second.nodes, out, at, base);
     let next = second.next;
-    Extent {
-        nodes: nodes,
-        next: next,
-    }
+    Extent { nodes, next }
 }

@@ -4,11 +4,12 @@
 ghost use Rattle.std.specs.Prelude.{◌≡◌, ◌+◌, ◌<◌, ◌≤◌};
 ghost use Rattle.definitions.specs.ContractFile.{node_count, node};
 ghost use Rattle.theory_trees.specs.Trees.{expression_in};
-ghost use Rattle.file_accepted.specs.Context.{Context, nodes_in, scope_in};
+ghost use Rattle.file_accepted.specs.Context.{nodes_in, scope_in};
 ghost use Rattle.write_nodes.specs.Numbering.{Room, Numbered};
 ghost use Rattle.write_variable_counts.specs.Counts.{body_count};
 ghost use Rattle.write_reads.specs.Forms.{body_form, kind_at};
 
+use file_accepted::CheckedFunction;
 use file_decoded::node_at;
 use file_kinds::*;
 use rewrite_owners::is_public;
@@ -18,35 +19,33 @@ use write_variable_counts::body_count;
 // The body's form of node n, whose first variable is number i; the answer is how many nodes it has.
 #[cycle(write_body_form_write_body_negation_write_body_operator)]
 pub fn write_body_form(
-    file: &[u8],
-    function_at: usize,
-    source: &[u16],
+    function: &CheckedFunction,
     n: usize,
     i: usize,
     out: &mut [u8],
     at: usize,
     base: usize,
 ) -> usize
-    requires { (n < node_count file.now)
-        × ((Context file.now function_at source.now)
-        × ((i + body_count (scope_in file.now function_at) (expression_in (nodes_in file.now) n) ≤ 65535)
-        × (Room out.old at base (body_form (scope_in file.now function_at) (expression_in (nodes_in file.now) n) i)))) }
+    requires { (n < node_count function.now.file.now)
+        × ((i + body_count (scope_in function.now.file.now function.now.at) (expression_in (nodes_in function.now.file.now) n) ≤ 65535)
+        × (Room out.old at base (body_form (scope_in function.now.file.now function.now.at)
+        (expression_in (nodes_in function.now.file.now) n) i))) }
     ensures { Numbered out.old out.new at base
-        (body_form (scope_in file.now function_at) (expression_in (nodes_in file.now) n) i) result }
+        (body_form (scope_in function.now.file.now function.now.at) (expression_in (nodes_in function.now.file.now) n) i) result }
 {
-    let node = node_at(source, n);
+    let node = node_at(function.source, n);
     let kind = node.kind;
     let arg = node.arg as u8;
     match kind {
         CONSTANT => put_leaf(CONSTANT_BYTE, arg, node.first, node.second, out, at),
         FIELD => put_leaf(FIELD_BYTE, arg, 0, 0, out, at),
         ENTRY => {
-            let key = write_body_form(file, function_at, source, node.first, i, out, at, base);
+            let key = write_body_form(function, node.first, i, out, at, base);
             put_above_one(ENTRY_BYTE, arg, key, out, at, base)
         }
         PARAMETER => put_leaf(PARAMETER_BYTE, arg, 0, 0, out, at),
-        OPERATOR => write_body_operator(file, function_at, source, n, i, out, at, base),
-        NOT => write_body_negation(file, function_at, source, n, i, out, at, base),
+        OPERATOR => write_body_operator(function, n, i, out, at, base),
+        NOT => write_body_negation(function, n, i, out, at, base),
         REVEAL => put_leaf(VARIABLE_BYTE, 0, i, 0, out, at),
         _ => put_leaf(ME_BYTE, 0, 0, 0, out, at),
     }
@@ -55,31 +54,29 @@ pub fn write_body_form(
 // An operator on public operands is kept above them; any other is a variable.
 #[cycle(write_body_form_write_body_negation_write_body_operator)]
 pub fn write_body_operator(
-    file: &[u8],
-    function_at: usize,
-    source: &[u16],
+    function: &CheckedFunction,
     n: usize,
     i: usize,
     out: &mut [u8],
     at: usize,
     base: usize,
 ) -> usize
-    requires { (kind_at source.now n ≡ 6)
-        × ((n < node_count file.now)
-        × ((Context file.now function_at source.now)
-        × ((i + body_count (scope_in file.now function_at) (expression_in (nodes_in file.now) n) ≤ 65535)
-        × (Room out.old at base (body_form (scope_in file.now function_at) (expression_in (nodes_in file.now) n) i))))) }
+    requires { (kind_at function.now.source.now n ≡ 6)
+        × ((n < node_count function.now.file.now)
+        × ((i + body_count (scope_in function.now.file.now function.now.at) (expression_in (nodes_in function.now.file.now) n) ≤ 65535)
+        × (Room out.old at base (body_form (scope_in function.now.file.now function.now.at)
+        (expression_in (nodes_in function.now.file.now) n) i)))) }
     ensures { Numbered out.old out.new at base
-        (body_form (scope_in file.now function_at) (expression_in (nodes_in file.now) n) i) result }
+        (body_form (scope_in function.now.file.now function.now.at) (expression_in (nodes_in function.now.file.now) n) i) result }
 {
-    let node = node_at(source, n);
+    let node = node_at(function.source, n);
     let arg = node.arg as u8;
-    if is_public(file, function_at, source, n) {
-        let j = i + body_count(file, function_at, source, node.first);
-        let left = write_body_form(file, function_at, source, node.first, i, out, at, base);
+    if is_public(function, n) {
+        let j = i + body_count(function, node.first);
+        let left = write_body_form(function, node.first, i, out, at, base);
         let a = at + 8 * left;
         let b = base + left;
-        let right = write_body_form(file, function_at, source, node.second, j, out, a, b);
+        let right = write_body_form(function, node.second, j, out, a, b);
         put_above_two(OPERATOR_BYTE, arg, left, right, out, at, base)
     } else {
         put_leaf(VARIABLE_BYTE, 0, i, 0, out, at)
@@ -89,26 +86,24 @@ pub fn write_body_operator(
 // A negation of a public part is kept above it; any other is a variable.
 #[cycle(write_body_form_write_body_negation_write_body_operator)]
 pub fn write_body_negation(
-    file: &[u8],
-    function_at: usize,
-    source: &[u16],
+    function: &CheckedFunction,
     n: usize,
     i: usize,
     out: &mut [u8],
     at: usize,
     base: usize,
 ) -> usize
-    requires { (kind_at source.now n ≡ 7)
-        × ((n < node_count file.now)
-        × ((Context file.now function_at source.now)
-        × ((i + body_count (scope_in file.now function_at) (expression_in (nodes_in file.now) n) ≤ 65535)
-        × (Room out.old at base (body_form (scope_in file.now function_at) (expression_in (nodes_in file.now) n) i))))) }
+    requires { (kind_at function.now.source.now n ≡ 7)
+        × ((n < node_count function.now.file.now)
+        × ((i + body_count (scope_in function.now.file.now function.now.at) (expression_in (nodes_in function.now.file.now) n) ≤ 65535)
+        × (Room out.old at base (body_form (scope_in function.now.file.now function.now.at)
+        (expression_in (nodes_in function.now.file.now) n) i)))) }
     ensures { Numbered out.old out.new at base
-        (body_form (scope_in file.now function_at) (expression_in (nodes_in file.now) n) i) result }
+        (body_form (scope_in function.now.file.now function.now.at) (expression_in (nodes_in function.now.file.now) n) i) result }
 {
-    let node = node_at(source, n);
-    if is_public(file, function_at, source, n) {
-        let part = write_body_form(file, function_at, source, node.first, i, out, at, base);
+    let node = node_at(function.source, n);
+    if is_public(function, n) {
+        let part = write_body_form(function, node.first, i, out, at, base);
         put_above_one(NOT_BYTE, 0, part, out, at, base)
     } else {
         put_leaf(VARIABLE_BYTE, 0, i, 0, out, at)

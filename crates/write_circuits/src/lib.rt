@@ -4,10 +4,11 @@
 ghost use Rattle.std.specs.Prelude.{◌≡◌, ◌+◌, ◌*◌, ◌≤◌};
 ghost use Rattle.kit.specs.Names.{length, get_or};
 ghost use Rattle.memory_buffer.specs.Buffer.{stored};
-ghost use Rattle.file_accepted.specs.Context.{Context, nodes_in, scope_in};
+ghost use Rattle.file_accepted.specs.Context.{nodes_in, scope_in};
 ghost use Rattle.write_nodes.specs.Numbering.{Room, Numbered};
 ghost use Rattle.write_circuits.specs.Circuits.{four, circuit_at, claims_in, Claimable, EntryClaimable, CircuitsRoom, CircuitsPut};
 
+use file_accepted::CheckedFunction;
 use memory_buffer::put_number;
 use rewrite_log::CLAIM_LOGGED;
 use write_circuit_expressions::write_circuit_form;
@@ -33,24 +34,22 @@ pub fn put_four(numbers: &mut [u16], noted: usize, guard: u16, variable: u16, ow
 
 // The circuit of one claim, whose first variable is the one behind the claim's own.
 fn put_circuit(
-    file: &[u8],
-    function_at: usize,
-    source: &[u16],
+    function: &CheckedFunction,
     log: &[u16],
     from: usize,
     out: &mut [u8],
     at: usize,
     base: usize,
 ) -> usize
-    requires { (Context file.now function_at source.now)
-        × ((EntryClaimable file.now function_at log.now from)
-        × (Room out.old at base (circuit_at (scope_in file.now function_at) (nodes_in file.now) log.now from))) }
+    requires { (EntryClaimable function.now.file.now function.now.at log.now from)
+        × (Room out.old at base (circuit_at (scope_in function.now.file.now function.now.at)
+        (nodes_in function.now.file.now) log.now from)) }
     ensures { Numbered out.old out.new at base
-        (circuit_at (scope_in file.now function_at) (nodes_in file.now) log.now from) result }
+        (circuit_at (scope_in function.now.file.now function.now.at) (nodes_in function.now.file.now) log.now from) result }
 {
     let first = log[from + 1] as usize + 1;
     let n = log[from + 3] as usize;
-    let form = write_circuit_form(file, function_at, source, n, first, out, at, base);
+    let form = write_circuit_form(function, n, first, out, at, base);
     form.nodes
 }
 
@@ -72,43 +71,43 @@ fn put_claim(log: &[u16], from: usize, root: u16, numbers: &mut [u16], noted: us
 
 // The circuits of the claims among `left` entries of a log, with the claims' numbers noted from place `noted` on.
 pub fn put_circuits(
-    file: &[u8],
-    source: &[u16],
+    function: &CheckedFunction,
     log: &[u16],
     run: Run,
     numbers: &mut [u16],
     out: &mut [u8],
 ) -> Circuits
-    requires { (Context file.now run.function_at source.now)
-        × ((Claimable file.now run.function_at log.now run.from run.left)
+    requires { (Claimable function.now.file.now function.now.at log.now run.from run.left)
         × (CircuitsRoom out.old numbers.old run.at run.base run.noted
-        (claims_in file.now run.function_at log.now run.from run.left))) }
+        (claims_in function.now.file.now function.now.at log.now run.from run.left)) }
     ensures { CircuitsPut out.old out.new numbers.old numbers.new
         run.at run.base run.noted
-        (claims_in file.now run.function_at log.now run.from run.left) result }
+        (claims_in function.now.file.now function.now.at log.now run.from run.left) result }
 {
-    let function_at = run.function_at;
     let from = run.from;
     let left = run.left;
     let noted = run.noted;
     let at = run.at;
     let base = run.base;
     if left == 0 {
-        Circuits { count: 0, nodes: 0 }
-    } else if log[from] == CLAIM_LOGGED {
-        let nodes = put_circuit(file, function_at, source, log, from, out, at, base);
+        return Circuits { count: 0, nodes: 0 };
+    }
+    let rest = Run {
+        from: from + 5,
+        left: left - 1,
+        ..run
+    };
+    if log[from] == CLAIM_LOGGED {
+        let nodes = put_circuit(function, log, from, out, at, base);
         put_claim(log, from, (base + nodes - 1) as u16, numbers, noted);
         let later = put_circuits(
-            file,
-            source,
+            function,
             log,
             Run {
-                function_at: function_at,
-                from: from + 5,
-                left: left - 1,
                 noted: noted + 4,
                 at: at + 8 * nodes,
                 base: base + nodes,
+                ..rest
             },
             numbers,
             out,
@@ -118,20 +117,6 @@ pub fn put_circuits(
             nodes: nodes + later.nodes,
         }
     } else {
-        put_circuits(
-            file,
-            source,
-            log,
-            Run {
-                function_at: function_at,
-                from: from + 5,
-                left: left - 1,
-                noted: noted,
-                at: at,
-                base: base,
-            },
-            numbers,
-            out,
-        )
+        put_circuits(function, log, rest, numbers, out)
     }
 }

@@ -24,12 +24,14 @@ pub fn append_claims(numbers: &[u16], count: usize, out: &mut [u8], from: usize)
     ensures { Appended out.old out.new from (sixes_from numbers.now 0 count) result }
 {
     let mut at = from;
-    let mut i = 0;
-    let mut left = count;
-    while 0 < left {
-        at = append_claim(numbers[i], numbers[i + 1], numbers[i + 3], out, at);
-        i += 4;
-        left -= 1;
+    for i in 0..count {
+        at = append_claim(
+            numbers[4 * i],
+            numbers[4 * i + 1],
+            numbers[4 * i + 3],
+            out,
+            at,
+        );
     }
     at
 }

@@ -15,6 +15,9 @@ ghost use Rattle.write_output.specs.Answers.{Promised};
 use check_contract::check_in;
 use check_refusals::is_refused;
 use file_bytes::{Layout, read_layout};
+use file_decoded::{
+    COLUMN_NUMBERS, NODE_NUMBERS, SHORT_COLUMN_NUMBERS, SHORT_NODE_NUMBERS, numbers_room,
+};
 use write_crossings::no_counts;
 use write_extents::{is_short, is_tiny};
 use write_output::{Answer, hand_out};
@@ -129,12 +132,12 @@ fn write_short(file: &[u8], l: Layout, out: &mut [u8]) -> Answer
     ensures { Promised file.now out.old out.new result.number result.length
         result.counts.crossings }
 {
-    let mut source = file_decoded::short_node_room();
-    let mut owners = file_decoded::short_column_room();
+    let mut source = numbers_room::<SHORT_NODE_NUMBERS>();
+    let mut owners = numbers_room::<SHORT_COLUMN_NUMBERS>();
     let number = check_in(file, l, &mut source[..], &mut owners[..]);
     if is_refused(number) {
         return Answer {
-            number: number,
+            number,
             length: 0,
             counts: no_counts(),
         };
@@ -148,12 +151,12 @@ fn write_long(file: &[u8], l: Layout, out: &mut [u8]) -> Answer
     ensures { Promised file.now out.old out.new result.number result.length
         result.counts.crossings }
 {
-    let mut source = file_decoded::node_room();
-    let mut owners = file_decoded::column_room();
+    let mut source = numbers_room::<NODE_NUMBERS>();
+    let mut owners = numbers_room::<COLUMN_NUMBERS>();
     let number = check_in(file, l, &mut source[..], &mut owners[..]);
     if is_refused(number) {
         return Answer {
-            number: number,
+            number,
             length: 0,
             counts: no_counts(),
         };

@@ -12,15 +12,15 @@ pub fn find_end(log: &[u16], from: usize) -> Position
     requires { from ≤ length log.now }
     ensures { EndFound log.now from result }
 {
-    let mut i = from;
-    while i + 4 < log.len() {
-        if log[i] == END_LOGGED {
-            return Position {
-                at: i + 5,
-                variable: log[i + 1] as usize,
-            };
-        }
-        i += 5;
+    let (entries, _) = log[from..].as_chunks::<5>();
+    match entries.iter().position(|entry| entry[0] == END_LOGGED) {
+        Some(i) => Position {
+            at: from + 5 * i + 5,
+            variable: entries[i][1] as usize,
+        },
+        None => Position {
+            at: from + 5 * entries.len(),
+            variable: 0,
+        },
     }
-    Position { at: i, variable: 0 }
 }

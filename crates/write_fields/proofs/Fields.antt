@@ -80,12 +80,11 @@ module _ (file : List ℕ) where
   three_bytes zero at = refl
   three_bytes (suc n) at = let e = three_bytes n (at + 3) in omega arith
 
-  -- The field at a place that the loop has come to.
-  pub field_listed_law : (count left place shape type owner : ℕ) → FieldsListed file count → 0 < left → left ≤ count → place ≡ 1 + 3 * (count - left)
-      → shape ≡ byte_at file place → type ≡ byte_at file (place + 1) → owner ≡ byte_at file (place + 2) → field_in_tables (field_read shape type owner) ≡ true
-  field_listed_law count left place shape type owner l some most p s t o =
-      ap field_in_tables (λ k. field_read (s k) (t k) (o k)) ∙ ap (λ (n : ℕ). field_in_tables (field_read (byte_at file n) (byte_at file (n + 1)) (byte_at file (n + 2)))) p
-      ∙ l.listed (count - left) (omega arith)
+  -- The field that the loop has come to.
+  pub field_listed_law : (count i shape type owner : ℕ) → FieldsListed file count → i < count
+      → shape ≡ byte_at file (1 + 3 * i) → type ≡ byte_at file (1 + 3 * i + 1) → owner ≡ byte_at file (1 + 3 * i + 2)
+      → field_in_tables (field_read shape type owner) ≡ true
+  field_listed_law count i shape type owner l inside s t o = ap field_in_tables (λ k. field_read (s k) (t k) (o k)) ∙ l.listed i inside
 
   module _ (held : List ℕ) (from count : ℕ) (fits : from + 3 * count ≤ length held) where
     abbrev whole : List ℕ

@@ -35,10 +35,9 @@ fn append_fields(file: &[u8], count: usize, out: &mut [u8], from: usize) -> usiz
     requires { (FieldsListed file.now count) × (from + 3 * count ≤ length out.old) }
     ensures { Appended out.old out.new from (fields_from count file.now 1) result }
 {
-    let mut place = 1;
-    let mut left = count;
     let mut at = from;
-    while 0 < left {
+    for i in 0..count {
+        let place = 1 + 3 * i;
         at = append_field(
             byte_at(file, place),
             byte_at(file, place + 1),
@@ -46,8 +45,6 @@ fn append_fields(file: &[u8], count: usize, out: &mut [u8], from: usize) -> usiz
             out,
             at,
         );
-        place += 3;
-        left -= 1;
     }
     at
 }

@@ -9,7 +9,7 @@ use Rattle.theory_laws.proofs.Records.{parameters_length}
 use Rattle.theory_laws.proofs.Written.{opening_count}
 use Rattle.theory_trees.specs.Trees.{statement_in}
 use Rattle.memory_buffer.specs.Buffer.{stored}
-use Rattle.file_accepted.specs.Context.{nodes_in, parameters_in, scope_in}
+use Rattle.file_accepted.specs.Context.{Context, nodes_in, parameters_in, scope_in}
 use Rattle.file_accepted.specs.Functions.{root_at}
 use Rattle.write_nodes.specs.Numbering.{Room, Numbered}
 use Rattle.write_nodes.proofs.TreeNodes.{room_left, room_right, room_above_two, room_any, numbered_leaf, numbered_two, room_as, numbered_as}
@@ -23,8 +23,8 @@ use Rattle.write_bodies.specs.declared.Extent.{Extent}
 use Rattle.write_bodies.specs.Parts.{command_of, statement_tree, opening_steps, passage_tree}
 use Rattle.write_bodies.specs.Bodies.{StatementReady, StatementWritten, PassageReady, BodyReady}
 
-module _ (file : List ℕ) (function_start : ℕ) (source : List ℕ) (private : ℕ) (verified : Bool) (log roots out : List ℕ) (at base : ℕ)
-    (ready : PassageReady file function_start source private verified log roots out at base)
+module _ (file : List ℕ) (function_start : ℕ) (private : ℕ) (verified : Bool) (log roots out : List ℕ) (at base : ℕ)
+    (ready : PassageReady file function_start private verified log roots out at base)
     (end root : ℕ) (ends : end ≡ function_end file function_start) (read : root ≡ two_bytes_at file (end - 2)) where
   root_is : root ≡ root_at file function_start
   root_is = read ∙ ap (λ (x : ℕ). two_bytes_at file (x - 2)) ends
@@ -36,12 +36,11 @@ module _ (file : List ℕ) (function_start : ℕ) (source : List ℕ) (private :
   room_body true room = room_left out at base 17 0 _ _ room
   room_body false room = room
 
-  pub root_ready : StatementReady file function_start source root log (record { at = 0; variable = private }) roots out at base
+  pub root_ready : StatementReady file function_start root log (record { at = 0; variable = private }) roots out at base
   root_ready =
-      subst (λ (n : ℕ). StatementReady file function_start source n log (record { at = 0; variable = private }) roots out at base) (sym root_is)
+      subst (λ (n : ℕ). StatementReady file function_start n log (record { at = 0; variable = private }) roots out at base) (sym root_is)
       (record {
         inside = ready.root;
-        context = ready.context;
         guard = always;
         logged = ready.logged;
         steps = ready.steps;
@@ -100,8 +99,9 @@ verify_ends : (constraints : List Constraint) (command : Command) → with_verif
 verify_ends [] command = refl
 verify_ends (c ∷ cs) command = rw (lt-ltb 0 (suc (length cs)) (omega arith))
 
-module _ (file : List ℕ) (function_start : ℕ) (source : List ℕ) (private : ℕ) (verified : Bool) (log roots out : List ℕ) (at base : ℕ)
-    (ready : BodyReady file function_start source private verified log roots out at base) where
+module _ (file : List ℕ) (function_start : ℕ) (source : List ℕ) (context : Context file function_start source)
+    (private : ℕ) (verified : Bool) (log roots out : List ℕ) (at base : ℕ)
+    (ready : BodyReady file function_start private verified log roots out at base) where
   abbrev privates : List ℕ
   privates = private_parameters 0 (map parameter_of (parameter_records (byte_at file function_start) file (function_start + 1)))
 
@@ -139,7 +139,7 @@ module _ (file : List ℕ) (function_start : ℕ) (source : List ℕ) (private :
       let fewer = private_few 0 (map parameter_of (parameter_records (byte_at file function_start) file (function_start + 1))) in
       let same = length-map (parameter_records (byte_at file function_start) file (function_start + 1)) parameter_of in
       let long = parameters_length (byte_at file function_start) file (function_start + 1) in
-      omega (arith, ready.context.few_parameters)
+      omega (arith, context.few_parameters)
 
   enough : length steps ≤ length roots
   enough = let few = few_steps in omega (arith, ready.steps)
@@ -147,11 +147,11 @@ module _ (file : List ℕ) (function_start : ℕ) (source : List ℕ) (private :
   module _ (count : ℕ) (read : count ≡ byte_at file function_start) where
     pub openings_ready : (0 + count ≤ 8) × ((0 ≤ 0) × ((function_start + 1 + 2 * count ≤ 1000000) × (StepsRoom out roots at base 0 (opening_steps file (function_start + 1) count 0 0))))
     openings_ready = (
-      omega (arith, read, ready.context.few_parameters),
+      omega (arith, read, context.few_parameters),
       (
         omega arith,
         (
-          omega (arith, read, ready.context.few_parameters, ready.context.near_function),
+          omega (arith, read, context.few_parameters, context.near_function),
           subst (λ (n : ℕ). StepsRoom out roots at base 0 (opening_steps file (function_start + 1) n 0 0)) (sym read) (nested_steps_room out roots at base steps rest room_own enough),
         ),
       ),
@@ -170,14 +170,13 @@ module _ (file : List ℕ) (function_start : ℕ) (source : List ℕ) (private :
       rest_room = nested_rest_room out roots at base steps rest room_own enough between roots_after r put
 
       pub passage_ready : (roots_now : List ℕ) → length roots_now ≡ length roots_after - r.count → length roots_after ≡ length roots
-          → PassageReady file function_start source private verified log roots_now between (at + 8 * r.nodes) (base + r.nodes)
+          → PassageReady file function_start private verified log roots_now between (at + 8 * r.nodes) (base + r.nodes)
       passage_ready roots_now a b =
           let few = few_steps in
           let opened = put.count in
           let known = ready.private_is in
           rw ready.private_is
           (record {
-            context = ready.context;
             root = ready.root;
             logged = ready.logged;
             steps = omega (arith, ready.steps);

@@ -9,6 +9,7 @@ ghost use Rattle.write_function_room.specs.Functions.{written_in};
 ghost use Rattle.write_bodies.specs.Bodies.{PassageReady, BodyReady};
 ghost use Rattle.write_bodies.specs.Parts.{opening_steps, passage_tree};
 
+use file_accepted::CheckedFunction;
 use file_bytes::{byte_at, function_end, two_bytes_at};
 use file_kinds::*;
 use memory_buffer::put_number;
@@ -18,11 +19,10 @@ use write_nodes::{put_above_two, put_leaf, put_setting};
 use write_places::Spot;
 use write_steps::{Steps, close_steps};
 
-// The body of the function that begins at a place: how many of its parameters are private, whether a verify ends it, and the place and the
-// number of its first node.
+// The body of a function: how many of its parameters are private, whether a verify ends it, and the place and the number of its first
+// node.
 #[derive(Clone, Copy)]
 pub struct Plan {
-    pub function_at: usize,
     pub private: usize,
     pub verified: bool,
     pub at: usize,
@@ -70,9 +70,9 @@ pub fn put_openings(file: &[u8], rest: ParametersLeft, roots: &mut [u16], out: &
                 place: next,
                 left: left - 1,
                 k: k + 1,
-                i: i,
-                at: at,
-                base: base,
+                i,
+                at,
+                base,
             },
             roots,
             out,
@@ -102,42 +102,27 @@ pub fn put_openings(file: &[u8], rest: ParametersLeft, roots: &mut [u16], out: &
 
 // "A verify ends the body if any constraint exists." The log holds the events of the body.
 pub fn write_passage(
-    file: &[u8],
-    source: &[u16],
+    function: &CheckedFunction,
     plan: Plan,
     log: &[u16],
     roots: &mut [u16],
     out: &mut [u8],
 ) -> usize
-    requires { PassageReady file.now plan.function_at source.now plan.private plan.verified
+    requires { PassageReady function.now.file.now function.now.at plan.private plan.verified
         log.now roots.old out.old plan.at plan.base }
     ensures { Numbered out.old out.new plan.at plan.base
-        (passage_tree file.now plan.function_at plan.private plan.verified) result }
+        (passage_tree function.now.file.now function.now.at plan.private plan.verified) result }
 {
-    let function_at = plan.function_at;
     let private = plan.private;
     let verified = plan.verified;
     let at = plan.at;
     let base = plan.base;
-    let root = two_bytes_at(file, function_end(file, function_at) - 2);
+    let root = two_bytes_at(function.file, function_end(function.file, function.at) - 2);
     let start = Position {
         at: 0,
         variable: private,
     };
-    let body = write_statement(
-        file,
-        source,
-        root,
-        log,
-        Spot {
-            function_at: function_at,
-            p: start,
-            at: at,
-            base: base,
-        },
-        roots,
-        out,
-    );
+    let body = write_statement(function, root, log, Spot { p: start, at, base }, roots, out);
     let nodes = body.nodes;
     if verified {
         put_leaf(VERIFY_BYTE, 0, 0, 0, out, at + 8 * nodes);
@@ -147,35 +132,33 @@ pub fn write_passage(
     }
 }
 
-// The body of the function that begins at a place, behind the reads of its private parameters.
+// The body of a function, behind the reads of its private parameters.
 pub fn write_function_body(
-    file: &[u8],
-    source: &[u16],
+    function: &CheckedFunction,
     plan: Plan,
     log: &[u16],
     roots: &mut [u16],
     out: &mut [u8],
 ) -> usize
-    requires { BodyReady file.now plan.function_at source.now plan.private plan.verified
+    requires { BodyReady function.now.file.now function.now.at plan.private plan.verified
         log.now roots.old out.old plan.at plan.base }
     ensures { Numbered out.old out.new plan.at plan.base
-        (command_tree (written_in file.now plan.function_at).body) result }
+        (command_tree (written_in function.now.file.now function.now.at).body) result }
 {
-    let function_at = plan.function_at;
     let private = plan.private;
     let verified = plan.verified;
     let at = plan.at;
     let base = plan.base;
-    let parameters = byte_at(file, function_at);
+    let parameters = byte_at(function.file, function.at);
     let opened = put_openings(
-        file,
+        function.file,
         ParametersLeft {
-            place: function_at + 1,
+            place: function.at + 1,
             left: parameters,
             k: 0,
             i: 0,
-            at: at,
-            base: base,
+            at,
+            base,
         },
         roots,
         out,
@@ -184,12 +167,10 @@ pub fn write_function_body(
     let place = at + 8 * opened.nodes;
     let number = base + opened.nodes;
     let rest = write_passage(
-        file,
-        source,
+        function,
         Plan {
-            function_at: function_at,
-            private: private,
-            verified: verified,
+            private,
+            verified,
             at: place,
             base: number,
         },

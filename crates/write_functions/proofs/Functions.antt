@@ -27,7 +27,6 @@ use Rattle.write_function_room.specs.Functions.{written_in, events_in}
 use Rattle.write_functions.specs.declared.Parts.{Parts}
 use Rattle.write_functions.specs.Writing.{circuits_in, CircuitsReady, CircuitsWritten, HeadingReady, FunctionReady, FunctionWritten}
 use Rattle.write_functions.proofs.Written.{constraints_counted, trees_are, trees_counted}
-use Rattle.write_functions.proofs.Logs.{context_at}
 
 -- The bytes of trees with one more behind them.
 bytes_then : (ts : List Tree) (t : Tree) (n : ℕ)
@@ -39,11 +38,11 @@ bytes_then ts t n =
 trees_length : (ts : List Tree) (n : ℕ) → length (flat_map node_bytes (numbered_all n ts)) ≡ 8 * sizes ts
 trees_length ts n = nodes_length (numbered_all n ts) ∙ ap (λ (k : ℕ). 8 * k) (all_length ts n)
 
-module _ (file : List ℕ) (at : ℕ) (source : List ℕ) (log roots numbers headings : List ℕ) (from : ℕ) (nodes : List ℕ) (base : ℕ)
-    (ready : FunctionReady file at source log roots numbers headings from nodes base) where
-  pub circuits_ready : CircuitsReady file at source log numbers nodes base
+module _ (file : List ℕ) (at : ℕ) (log roots numbers headings : List ℕ) (from : ℕ) (nodes : List ℕ) (base : ℕ)
+    (ready : FunctionReady file at log roots numbers headings from nodes base) where
+  pub circuits_ready : CircuitsReady file at log numbers nodes base
   circuits_ready =
-      record { from = from; room = ready.room; held = ready.held; log_space = ready.log_space; number_space = ready.number_space; node_space = ready.node_space }
+      record { from = from; room = ready.room; log_space = ready.log_space; number_space = ready.number_space; node_space = ready.node_space }
 
   module _ (log_after numbers_after between : List ℕ) (parts : Parts) (written : CircuitsWritten file at log_after numbers_after nodes between base parts) where
     pub nodes_few : 8 * (base + parts.nodes) + 8 * size (command_tree (written_in file at).body) ≤ 49152
@@ -82,7 +81,7 @@ module _ (file : List ℕ) (at : ℕ) (source : List ℕ) (log roots numbers hea
         }
 
     pub body_ready : (verified : Bool) → verified ≡ ltb 0 (parts.private + parts.claims)
-        → BodyReady file at source parts.private verified log_after roots between (8 * (base + parts.nodes)) (base + parts.nodes)
+        → BodyReady file at parts.private verified log_after roots between (8 * (base + parts.nodes)) (base + parts.nodes)
     body_ready verified test =
         let few = nodes_few in
         let fit = nodes_fit in
@@ -90,7 +89,6 @@ module _ (file : List ℕ) (at : ℕ) (source : List ℕ) (log roots numbers hea
         let counted : parts.private + parts.claims ≡ length (written_in file at).constraints =
         omega (arith, constraints_counted file at, written.told.private, written.told.claims) in
         record {
-          context = context_at file at source from base ready.held ready.room;
           root = ready.room.root;
           private_is = written.told.private;
           verifies = test ∙ ap (ltb 0) counted;

@@ -7,9 +7,8 @@ use Rattle.file_accepted.proofs.Nodes.{nodes_counted_law}
 use Rattle.theory_trees.specs.Trees.{statement_in}
 use Rattle.memory_buffer.specs.Buffer.{stored}
 use Rattle.memory_buffer.proofs.Storing.{stored_length}
-use Rattle.file_accepted.specs.Context.{Context, nodes_in, scope_in, Source}
+use Rattle.file_accepted.specs.Context.{nodes_in, scope_in}
 use Rattle.file_accepted.specs.Functions.{root_at}
-use Rattle.file_accepted.proofs.Sources.{context_with}
 use Rattle.rewrite_events.specs.Events.{variable_count, statement_events}
 use Rattle.rewrite_log.specs.Entries.{Entries}
 use Rattle.rewrite_log.specs.declared.Position.{Position}
@@ -26,7 +25,7 @@ use Rattle.write_circuits.proofs.Logged.{claims_logged, circuits_logged, count_l
 use Rattle.write_circuits.proofs.Claims.{constraints_told}
 use Rattle.write_circuits.proofs.Within.{statement_within, claims_few}
 use Rattle.write_circuits.proofs.Claimable.{claimable}
-use Rattle.write_function_room.specs.Functions.{private_in, events_in, FunctionRoom}
+use Rattle.write_function_room.specs.Functions.{private_in, events_in}
 use Rattle.write_functions.specs.Writing.{constraints_in, circuits_in, CircuitsReady, CircuitsWritten}
 use Rattle.write_functions.proofs.Written.{trees_counted}
 
@@ -34,24 +33,17 @@ take_stored : (held values : List ℕ) (n : ℕ) → n ≡ length values → tak
 unfolding stored
 take_stored held values n e = ap (λ (k : ℕ). take k (values ++ drop (0 + length values) held)) e ∙ take-append_seam values (drop (0 + length values) held)
 
-pub context_at : (file : List ℕ) (at : ℕ) (source : List ℕ) (from base : ℕ) → Source file source → FunctionRoom file at from base → Context file at source
-context_at file at source from base held room = context_with file at source room.context held
-
-module _ (file : List ℕ) (at : ℕ) (source : List ℕ) (log numbers out : List ℕ) (base : ℕ) (ready : CircuitsReady file at source log numbers out base) (private : ℕ)
+module _ (file : List ℕ) (at : ℕ) (log numbers out : List ℕ) (base : ℕ) (ready : CircuitsReady file at log numbers out base) (private : ℕ)
     (opened : private ≡ private_in file at) where
-  pub ready_context : Context file at source
-  ready_context = context_at file at source ready.from base ready.held ready.room
-
   same_events : statement_of file at 0 (root_at file at) private ≡ events_in file at
   same_events = ap (statement_of file at 0 (root_at file at)) opened
 
-  pub log_ready : Ready file at source (root_at file at) log (starting_at private) (statement_of file at 0 (root_at file at))
+  pub log_ready : Ready file (root_at file at) log (starting_at private) (statement_of file at 0 (root_at file at))
   log_ready =
       let long = ap length same_events in
       let many = ap variable_count same_events in
       record {
         inside = ready.room.root;
-        context = ready_context;
         room = record { space = omega (arith, ready.room.events_by_nodes, ready.log_space); few = omega (arith, ready.room.variables) };
       }
 

@@ -7,7 +7,7 @@ use Rattle.definitions.specs.Rewriting.{Constraint, Tree, claim_trees, function_
 use Rattle.definitions.specs.Rewriting.{function_bytes}
 use Rattle.theory_crossings.specs.Crossings.{crossings}
 use Rattle.memory_buffer.specs.Buffer.{stored}
-use Rattle.file_accepted.specs.Context.{nodes_in, scope_in, Source}
+use Rattle.file_accepted.specs.Context.{nodes_in, scope_in}
 use Rattle.rewrite_events.specs.Events.{variable_count, constraints_of}
 use Rattle.rewrite_log.specs.Entries.{Entries}
 use Rattle.write_circuits.specs.Circuits.{sixes_from}
@@ -33,10 +33,9 @@ pub record Told (file : List ℕ) (at base : ℕ) (log numbers : List ℕ) (r : 
   pub fours : 4 * r.claims ≤ length numbers
   pub bytes : sixes_from numbers 0 r.claims ≡ constraint_bytes base (constraints_in file at)
 
-pub record CircuitsReady (file : List ℕ) (at : ℕ) (source : List ℕ) (log numbers out : List ℕ) (base : ℕ) : Type 0 where
+pub record CircuitsReady (file : List ℕ) (at : ℕ) (log numbers out : List ℕ) (base : ℕ) : Type 0 where
   pub from : ℕ
   pub room : FunctionRoom file at from base
-  pub held : Source file source
   pub log_space : 10 * node_count file ≤ length log
   pub number_space : 4 * node_count file ≤ length numbers
   pub node_space : most_bytes file ≤ length out
@@ -52,10 +51,9 @@ pub record HeadingReady (file : List ℕ) (at : ℕ) (log numbers headings : Lis
   pub whole : total ≡ sizes (function_trees (written_in file at))
   pub heading_space : most_headings file ≤ length headings
 
-pub record FunctionReady (file : List ℕ) (at : ℕ) (source : List ℕ) (log roots numbers headings : List ℕ) (from : ℕ)
+pub record FunctionReady (file : List ℕ) (at : ℕ) (log roots numbers headings : List ℕ) (from : ℕ)
     (nodes : List ℕ) (base : ℕ) : Type 0 where
   pub room : FunctionRoom file at from base
-  pub held : Source file source
   pub log_space : 10 * node_count file ≤ length log
   pub root_space : 3 * node_count file + 16 ≤ 2 * length roots
   pub number_space : 4 * node_count file ≤ length numbers

@@ -6,6 +6,7 @@ ghost use Rattle.memory_append.specs.Append.{Appended};
 ghost use Rattle.write_function_room.specs.Functions.{written_in};
 ghost use Rattle.write_functions.specs.Writing.{CircuitsReady, CircuitsWritten, HeadingReady, FunctionReady, FunctionWritten};
 
+use file_accepted::CheckedFunction;
 use file_bytes::byte_at;
 use rewrite_statements::function_log;
 use write_circuits::put_circuits;
@@ -34,14 +35,14 @@ pub struct Parts {
     pub nodes: usize,
 }
 
-// Where the heading of the function that begins at a place goes, and the number of its first node; then how many nodes it has.
+// Where a function's heading goes, and the number of its first node.
 #[derive(Clone, Copy)]
 pub struct Start {
-    pub function_at: usize,
     pub from: usize,
     pub base: usize,
 }
 
+// The same of the function that begins at a place, and how many nodes it has.
 #[derive(Clone, Copy)]
 pub struct HeadingPlace {
     pub function_at: usize,
@@ -52,38 +53,34 @@ pub struct HeadingPlace {
 
 // The log of the body's events, the circuits of its claims as nodes, and the claims' numbers.
 fn write_circuits(
-    file: &[u8],
-    function_at: usize,
-    source: &[u16],
+    function: &CheckedFunction,
     log: &mut [u16],
     numbers: &mut [u16],
     out: &mut [u8],
     base: usize,
 ) -> Parts
-    requires { CircuitsReady file.now function_at source.now log.old numbers.old out.old base }
-    ensures { CircuitsWritten file.now function_at log.new numbers.new
+    requires { CircuitsReady function.now.file.now function.now.at log.old numbers.old out.old base }
+    ensures { CircuitsWritten function.now.file.now function.now.at log.new numbers.new
         out.old out.new base result }
 {
-    let parameters = byte_at(file, function_at);
-    let private = count_private(file, function_at + 1, parameters);
-    let end = function_log(file, function_at, source, private, log);
+    let parameters = byte_at(function.file, function.at);
+    let private = count_private(function.file, function.at + 1, parameters);
+    let end = function_log(function, private, log);
     let circuits = put_circuits(
-        file,
-        source,
+        function,
         log,
         Run {
-            function_at: function_at,
             from: 0,
             left: end.at / 5,
             noted: 0,
             at: 8 * base,
-            base: base,
+            base,
         },
         numbers,
         out,
     );
     Parts {
-        private: private,
+        private,
         logged: end.at,
         made: end.variable - private,
         claims: circuits.count,
@@ -123,36 +120,32 @@ fn write_heading(
     )
 }
 
-// The nodes of the function that begins at a place go behind the `base` nodes that are there, and its heading stands from place
+// The nodes of the function go behind the `base` nodes that are there, and its heading stands from place
 // `from` on. The first three buffers are scratch space.
 pub fn write_function(
-    file: &[u8],
+    function: &CheckedFunction,
     start: Start,
-    source: &[u16],
     log: &mut [u16],
     roots: &mut [u16],
     numbers: &mut [u16],
     headings: &mut [u8],
     nodes: &mut [u8],
 ) -> Finished
-    requires { FunctionReady file.now start.function_at source.now log.old roots.old numbers.old
+    requires { FunctionReady function.now.file.now function.now.at log.old roots.old numbers.old
         headings.old start.from nodes.old start.base }
-    ensures { FunctionWritten file.now start.function_at headings.old headings.new start.from
+    ensures { FunctionWritten function.now.file.now function.now.at headings.old headings.new start.from
         nodes.old nodes.new start.base result }
 {
-    let function_at = start.function_at;
     let from = start.from;
     let base = start.base;
-    let parts = write_circuits(file, function_at, source, log, numbers, nodes, base);
+    let parts = write_circuits(function, log, numbers, nodes, base);
     let verified = is_verified(parts.private + parts.claims);
     let first = base + parts.nodes;
     let body = write_function_body(
-        file,
-        source,
+        function,
         Plan {
-            function_at: function_at,
             private: parts.private,
-            verified: verified,
+            verified,
             at: 8 * first,
             base: first,
         },
@@ -162,25 +155,22 @@ pub fn write_function(
     );
     let total = parts.nodes + body;
     let end = write_heading(
-        file,
+        function.file,
         log,
         numbers,
         headings,
         HeadingPlace {
-            function_at: function_at,
-            from: from,
-            base: base,
-            total: total,
+            function_at: function.at,
+            from,
+            base,
+            total,
         },
         parts,
     );
     let logged = parts.logged;
     let crossings = count_crossings(parts.private, &log[..logged]);
     Finished {
-        extent: Extent {
-            end: end,
-            nodes: total,
-        },
-        crossings: crossings,
+        extent: Extent { end, nodes: total },
+        crossings,
     }
 }

@@ -66,6 +66,6 @@ pub fn hand_out(
     Answer {
         number: 0,
         length: total,
-        counts: counts,
+        counts,
     }
 }

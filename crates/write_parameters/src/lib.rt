@@ -52,13 +52,10 @@ pub fn append_parameters(
     requires { (start + 2 * count ≤ 1000000) × (from + length (parameters_from count file.now start) ≤ length out.old) }
     ensures { Appended out.old out.new from (parameters_from count file.now start) result }
 {
-    let mut place = start;
-    let mut left = count;
     let mut at = from;
-    while 0 < left {
+    for i in 0..count {
+        let place = start + 2 * i;
         at = append_parameter(byte_at(file, place), byte_at(file, place + 1), out, at);
-        place += 2;
-        left -= 1;
     }
     at
 }
@@ -75,13 +72,9 @@ pub fn count_private(file: &[u8], start: usize, count: usize) -> usize
     requires { start + 2 * count ≤ 1000000 }
     ensures { result ≡ private_count count file.now start }
 {
-    let mut place = start;
-    let mut left = count;
     let mut private = 0;
-    while 0 < left {
-        private += one_if_private(byte_at(file, place + 1));
-        place += 2;
-        left -= 1;
+    for i in 0..count {
+        private += one_if_private(byte_at(file, start + 2 * i + 1));
     }
     private
 }
@@ -91,12 +84,10 @@ pub fn append_opening_variables(count: usize, out: &mut [u8], from: usize) -> us
     requires { from + length (opening_variables count) ≤ length out.old }
     ensures { Appended out.old out.new from (opening_variables count) result }
 {
-    let mut left = count;
     let mut at = from;
-    while 0 < left {
+    for _ in 0..count {
         let next = append_byte(READ_CELL, out, at);
         at = append_byte(1, out, next);
-        left -= 1;
     }
     at
 }
@@ -115,11 +106,9 @@ pub fn append_opening_claims(count: usize, out: &mut [u8], from: usize) -> usize
     requires { from + length (opening_claims 0 count) ≤ length out.old }
     ensures { Appended out.old out.new from (opening_claims 0 count) result }
 {
-    let mut variable = 0;
     let mut at = from;
-    while variable < count {
+    for variable in 0..count {
         at = append_opening_claim(variable, out, at);
-        variable += 1;
     }
     at
 }

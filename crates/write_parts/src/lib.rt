@@ -5,6 +5,7 @@ ghost use Rattle.definitions.specs.ContractFile.{function_count};
 ghost use Rattle.file_accepted.specs.Context.{Source};
 ghost use Rattle.write_parts.specs.Parts.{Ready, Scratch, FunctionsReady, FunctionsPut, PartsPut};
 
+use file_accepted::CheckedFunction;
 use file_bytes::{function_end, read_layout};
 use memory_append::append_byte;
 use write_crossings::{Counts, no_counts, with_crossings};
@@ -39,21 +40,23 @@ fn write_functions(
         result.extent.end result.extent.nodes result.counts.crossings }
 {
     let mut function_at = first;
-    let mut f = 0;
     let mut all = Extent {
         end: from,
         nodes: 0,
     };
     let mut counts = no_counts();
-    while f < count {
-        let written = write_function(
+    for f in 0..count {
+        let function = CheckedFunction {
             file,
+            at: function_at,
+            source,
+        };
+        let written = write_function(
+            &function,
             Start {
-                function_at: function_at,
                 from: all.end,
                 base: all.nodes,
             },
-            source,
             log,
             roots,
             numbers,
@@ -63,11 +66,10 @@ fn write_functions(
         all = behind(all, written.extent);
         counts = with_crossings(counts, f, written.crossings);
         function_at = function_end(file, function_at);
-        f += 1;
     }
     Functions {
         extent: all,
-        counts: counts,
+        counts,
     }
 }
 

@@ -3,11 +3,10 @@
 
 use rewrite_log::Position;
 
-// Where writing stands: in the function that begins at a place, before an event and a variable of its log, and before a node, by the
-// place and the number that it will have.
+// Where writing stands: before an event and a variable of a function's log, and before a node, by the place and the number that it
+// will have.
 #[derive(Clone, Copy)]
 pub struct Spot {
-    pub function_at: usize,
     pub p: Position,
     pub at: usize,
     pub base: usize,
@@ -17,7 +16,6 @@ pub struct Spot {
 // and the number of the next node.
 #[derive(Clone, Copy)]
 pub struct Run {
-    pub function_at: usize,
     pub from: usize,
     pub left: usize,
     pub noted: usize,

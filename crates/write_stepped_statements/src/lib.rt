@@ -5,20 +5,20 @@ ghost use Rattle.std.specs.Prelude.{◌+◌, ◌<◌, ◌≤◌};
 ghost use Rattle.kit.specs.Names.{length};
 ghost use Rattle.definitions.specs.ContractFile.{node_count};
 ghost use Rattle.theory_trees.specs.Trees.{statement_in};
-ghost use Rattle.file_accepted.specs.Context.{Context, nodes_in, scope_in};
+ghost use Rattle.file_accepted.specs.Context.{nodes_in, scope_in};
 ghost use Rattle.write_nodes.specs.Numbering.{Room, Numbered};
 ghost use Rattle.write_simple_statements.specs.Statements.{simple_count};
 ghost use Rattle.write_steps.specs.Steps.{steps_in, Readable};
 ghost use Rattle.write_stepped_statements.specs.Single.{single_tree};
 
+use file_accepted::CheckedFunction;
 use write_places::{Run, Spot};
 use write_simple_statements::write_statement_form;
 use write_steps::{close_steps, put_steps};
 
 // The statement is node n, and its `left` entries stand in the log; `roots` is scratch space.
 pub fn write_single(
-    file: &[u8],
-    source: &[u16],
+    function: &CheckedFunction,
     log: &[u16],
     left: usize,
     n: usize,
@@ -26,40 +26,35 @@ pub fn write_single(
     roots: &mut [u16],
     out: &mut [u8],
 ) -> usize
-    requires { (n < node_count file.now)
-        × ((Context file.now spot.function_at source.now)
-        × ((spot.p.variable + simple_count (scope_in file.now spot.function_at) (statement_in (nodes_in file.now) n) ≤ 65535)
-        × ((Readable file.now spot.function_at log.now spot.p.at left)
-        × ((length (steps_in file.now spot.function_at log.now spot.p.at left) ≤ length roots.old)
+    requires { (n < node_count function.now.file.now)
+        × ((spot.p.variable + simple_count (scope_in function.now.file.now function.now.at)
+        (statement_in (nodes_in function.now.file.now) n) ≤ 65535)
+        × ((Readable function.now.file.now function.now.at log.now spot.p.at left)
+        × ((length (steps_in function.now.file.now function.now.at log.now spot.p.at left) ≤ length roots.old)
         × (Room out.old spot.at spot.base
-        (single_tree file.now spot.function_at log.now spot.p.at left n spot.p.variable)))))) }
+        (single_tree function.now.file.now function.now.at log.now spot.p.at left n spot.p.variable))))) }
     ensures { Numbered out.old out.new spot.at spot.base
-        (single_tree file.now spot.function_at log.now spot.p.at left n spot.p.variable) result }
+        (single_tree function.now.file.now function.now.at log.now spot.p.at left n spot.p.variable) result }
 {
-    let function_at = spot.function_at;
     let from = spot.p.at;
     let i = spot.p.variable;
     let at = spot.at;
     let base = spot.base;
     let steps = put_steps(
-        file,
-        source,
+        function,
         log,
         Run {
-            function_at: function_at,
-            from: from,
-            left: left,
+            from,
+            left,
             noted: 0,
-            at: at,
-            base: base,
+            at,
+            base,
         },
         roots,
         out,
     );
     let rest = write_statement_form(
-        file,
-        function_at,
-        source,
+        function,
         n,
         i,
         out,

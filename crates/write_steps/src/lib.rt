@@ -8,12 +8,13 @@ ghost use Rattle.definitions.specs.ContractFile.{node_count};
 ghost use Rattle.definitions.specs.Rewriting.{setting, node_bytes};
 ghost use Rattle.theory_trees.specs.Trees.{expression_in};
 ghost use Rattle.memory_buffer.specs.Buffer.{stored};
-ghost use Rattle.file_accepted.specs.Context.{Context, nodes_in, scope_in};
+ghost use Rattle.file_accepted.specs.Context.{nodes_in, scope_in};
 ghost use Rattle.write_variable_counts.specs.Counts.{body_count};
 ghost use Rattle.write_nodes.specs.Numbering.{Room, Numbered};
 ghost use Rattle.write_reads.specs.Forms.{body_form};
 ghost use Rattle.write_steps.specs.Steps.{steps_in, closers, Readable, StepsRoom, StepsPut};
 
+use file_accepted::CheckedFunction;
 use file_kinds::SEQUENCE_BYTE;
 use memory_buffer::put_number;
 use rewrite_log::READ_LOGGED;
@@ -30,84 +31,81 @@ pub struct Steps {
 
 // One step: a variable is set to the body's form of node n, whose first variable is number i.
 pub fn put_step(
-    file: &[u8],
-    function_at: usize,
-    source: &[u16],
+    function: &CheckedFunction,
     variable: usize,
     n: usize,
     next: Next,
     out: &mut [u8],
 ) -> usize
-    requires { (n < node_count file.now)
-        × ((Context file.now function_at source.now)
-        × ((next.variable + body_count (scope_in file.now function_at) (expression_in (nodes_in file.now) n) ≤ 65535)
+    requires { (n < node_count function.now.file.now)
+        × ((next.variable + body_count (scope_in function.now.file.now function.now.at)
+        (expression_in (nodes_in function.now.file.now) n) ≤ 65535)
         × (Room out.old next.at next.base
-        (setting variable (body_form (scope_in file.now function_at) (expression_in (nodes_in file.now) n) next.variable))))) }
+        (setting variable (body_form (scope_in function.now.file.now function.now.at)
+        (expression_in (nodes_in function.now.file.now) n) next.variable)))) }
     ensures { Numbered out.old out.new next.at next.base
-        (setting variable (body_form (scope_in file.now function_at)
-        (expression_in (nodes_in file.now) n) next.variable)) result }
+        (setting variable (body_form (scope_in function.now.file.now function.now.at)
+        (expression_in (nodes_in function.now.file.now) n) next.variable)) result }
 {
     let i = next.variable;
     let at = next.at;
     let base = next.base;
-    let value = write_body_form(file, function_at, source, n, i, out, at, base);
+    let value = write_body_form(function, n, i, out, at, base);
     put_setting(variable, value, out, at, base)
 }
 
 // The steps of the read variables among `left` entries of a log, with their roots noted from place `noted` on.
 pub fn put_steps(
-    file: &[u8],
-    source: &[u16],
+    function: &CheckedFunction,
     log: &[u16],
     run: Run,
     roots: &mut [u16],
     out: &mut [u8],
 ) -> Steps
-    requires { (Context file.now run.function_at source.now)
-        × ((Readable file.now run.function_at log.now run.from run.left)
+    requires { (Readable function.now.file.now function.now.at log.now run.from run.left)
         × (StepsRoom out.old roots.old run.at run.base run.noted
-        (steps_in file.now run.function_at log.now run.from run.left))) }
+        (steps_in function.now.file.now function.now.at log.now run.from run.left)) }
     ensures { StepsPut out.old out.new roots.old roots.new
         run.at run.base run.noted
-        (steps_in file.now run.function_at log.now run.from run.left) result }
+        (steps_in function.now.file.now function.now.at log.now run.from run.left) result }
 {
-    let function_at = run.function_at;
     let from = run.from;
     let left = run.left;
     let noted = run.noted;
     let at = run.at;
     let base = run.base;
     if left == 0 {
-        Steps { count: 0, nodes: 0 }
-    } else if log[from] == READ_LOGGED {
+        return Steps { count: 0, nodes: 0 };
+    }
+    let rest = Run {
+        from: from + 5,
+        left: left - 1,
+        ..run
+    };
+    if log[from] == READ_LOGGED {
         let variable = log[from + 1] as usize;
         let n = log[from + 3] as usize;
         let i = log[from + 4] as usize;
         let nodes = put_step(
-            file,
-            function_at,
-            source,
+            function,
             variable,
             n,
             Next {
                 variable: i,
-                at: at,
-                base: base,
+                at,
+                base,
             },
             out,
         );
         put_number(roots, noted, (base + nodes - 1) as u16);
         let later = put_steps(
-            file,
-            source,
+            function,
             log,
             Run {
-                function_at: function_at,
-                from: from + 5,
-                left: left - 1,
                 noted: noted + 1,
                 at: at + 8 * nodes,
                 base: base + nodes,
+                ..rest
             },
             roots,
             out,
@@ -117,21 +115,7 @@ pub fn put_steps(
             nodes: nodes + later.nodes,
         }
     } else {
-        put_steps(
-            file,
-            source,
-            log,
-            Run {
-                function_at: function_at,
-                from: from + 5,
-                left: left - 1,
-                noted: noted,
-                at: at,
-                base: base,
-            },
-            roots,
-            out,
-        )
+        put_steps(function, log, rest, roots, out)
     }
 }
 

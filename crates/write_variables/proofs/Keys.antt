@@ -1,16 +1,17 @@
 -- Codes each once by first use, with a table of those seen.
-use Rattle.std.specs.Prelude.{◌≡◌, ◌||◌, ◌∷◌, ◌++◌, ◌+◌, ◌%◌, ◌<◌, ◌≤◌}
+use Rattle.std.specs.Prelude.{◌≡◌, ◌||◌, ◌∷◌, ◌++◌, ◌+◌, ◌/◌, ◌%◌, ◌<◌, ◌≤◌}
+use Rattle.std.specs.Simd.{first_chunks}
 use Rattle.kit.specs.Names.{refl, ap, sym, ◌∙◌, subst, Bool, true, false, cond, List, [], ℕ}
 use Rattle.kit.specs.Names.{arith, eqb, length, get_or, set, drop, replicate, get_or-set_same, get_or-set_other, eqb-true, eqb-false, eq-eqb}
 use Rattle.kit.specs.Names.{ne_eqb}
-use Rattle.definitions.specs.Basics.{any}
+use Rattle.definitions.specs.Basics.{any, flat_map}
 use Rattle.definitions.specs.Rewriting.{each_once}
 use Rattle.theory_laws.proofs.Lists.{zeros_at}
 use Rattle.memory_append.specs.Append.{Appended, Appending}
 use Rattle.memory_append.proofs.Appending.{appended_nothing, appending_start, appending_same, appending_room, appending_next, appending_done}
 use Rattle.write_variables.specs.PerEntry.{per_entry}
 use Rattle.write_variables.specs.Variables.{key_code, once_unseen, seen_in, KeysTaken}
-use Rattle.write_variables.proofs.PerEntry.{entry_next, entry_none}
+use Rattle.write_variables.proofs.PerEntry.{made_of, by_entries, chunk_next, chunk_none}
 
 -- What is left depends on the tests' answers alone.
 once_same : (p q : ℕ → Bool) → ((x : ℕ) → p x ≡ q x) → (ks : List ℕ) → once_unseen p ks ≡ once_unseen q ks
@@ -132,32 +133,44 @@ module _ (table : List ℕ) where
       cell_taken after held now at end k = subst (λ (l : List ℕ). KeysTaken table after l held now at end) (sym cell_code) k
 
 -- The loop over the entries.
-module _ (log held : List ℕ) (from : ℕ) (fits : from + length (each_once [] (per_entry key_code log)) ≤ length held) where
+module _ (log : List ℕ) (entries : List (List ℕ)) (are : entries ≡ first_chunks 5 (length log / 5) log)
+    (held : List ℕ) (from : ℕ) (fits : from + length (each_once [] (per_entry key_code log)) ≤ length held) where
   abbrev whole : List ℕ
   whole = each_once [] (per_entry key_code log)
 
+  abbrev keys_from : ℕ → List ℕ
+  keys_from e = flat_map (made_of key_code) (drop e entries)
+
   abbrev left_at : List ℕ → ℕ → List ℕ
-  left_at table i = once_unseen (seen_in table) (per_entry key_code (drop i log))
+  left_at table e = once_unseen (seen_in table) (keys_from e)
 
   abbrev codes : ℕ → List ℕ
-  codes i = key_code (get_or log i 0) 0 (get_or log (i + 2) 0) 0 0
+  codes e = made_of key_code (get_or entries e [])
 
   pub keys_start : Appending held held from from whole (left_at (replicate 256 0) 0)
-  keys_start = appending_same held from whole held whole (left_at (replicate 256 0) 0) from (sym (once_start 256 (per_entry key_code log))) (appending_start held from whole)
+  keys_start =
+      let all = ap (each_once []) (by_entries key_code log entries are) in
+      let none_seen = once_start 256 (keys_from 0) in
+      appending_same held from whole held whole (left_at (replicate 256 0) 0) from (all ∙ sym none_seen) (appending_start held from whole)
 
-  pub key_room : (now table : List ℕ) (at i : ℕ) → i + 4 < length log → Appending held now from at whole (left_at table i)
-      → at + length (once_unseen (seen_in table) (codes i)) ≤ length now
-  key_room now table at i h a =
-      let rest = per_entry key_code (drop (i + 5) log) in
-      let next = ap (once_unseen (seen_in table)) (entry_next key_code log i h) ∙ once_append (seen_in table) (codes i) rest in
-      appending_room held from whole now (once_unseen (seen_in table) (codes i)) (left_at table i) (once_unseen (after_codes (seen_in table) (codes i)) rest) at next a fits
+  pub key_room : (now table : List ℕ) (at e : ℕ) → e < length entries → Appending held now from at whole (left_at table e)
+      → at + length (once_unseen (seen_in table) (codes e)) ≤ length now
+  key_room now table at e h a =
+      let next = ap (once_unseen (seen_in table)) (chunk_next key_code entries e h) ∙ once_append (seen_in table) (codes e) (keys_from
+      (e + 1)) in
+      let later = once_unseen (after_codes (seen_in table) (codes e)) (keys_from (e + 1)) in
+      appending_room held from whole now (once_unseen (seen_in table) (codes e)) (left_at table e) later at next a fits
 
-  pub key_appended : (now after table marked : List ℕ) (at end i : ℕ) → i + 4 < length log → Appending held now from at whole (left_at table i)
-      → KeysTaken table marked (codes i) now after at end → Appending held after from end whole (left_at marked (i + 5))
-  key_appended now after table marked at end i h a k =
-      let next = ap (once_unseen (seen_in table)) (entry_next key_code log i h) ∙ k.later (per_entry key_code (drop (i + 5) log)) in
-      appending_next held from whole now (once_unseen (seen_in table) (codes i)) (left_at table i) (left_at marked (i + 5)) at next a fits after end k.appended
+  pub key_appended : (now after table marked : List ℕ) (at end e : ℕ) → e < length entries
+      → Appending held now from at whole (left_at table e)
+      → KeysTaken table marked (codes e) now after at end → Appending held after from end whole (left_at marked (e + 1))
+  key_appended now after table marked at end e h a k =
+      let next = ap (once_unseen (seen_in table)) (chunk_next key_code entries e h) ∙ k.later (keys_from (e + 1)) in
+      appending_next held from whole now (once_unseen (seen_in table) (codes e)) (left_at table e) (left_at marked
+      (e + 1)) at next a fits after end k.appended
 
-  pub keys_done : (now table : List ℕ) (at i : ℕ) → length log ≤ i + 4 → Appending held now from at whole (left_at table i) → Appended held now from whole at
-  keys_done now table at i h a =
-      appending_done held from whole now (left_at table i) at (ap (once_unseen (seen_in table)) (entry_none key_code log i h) ∙ once_none (seen_in table)) a
+  pub keys_done : (now table : List ℕ) (at e : ℕ) → length entries ≤ e → Appending held now from at whole (left_at table e)
+      → Appended held now from whole at
+  keys_done now table at e h a =
+      let none = ap (once_unseen (seen_in table)) (chunk_none key_code entries e h) ∙ once_none (seen_in table) in
+      appending_done held from whole now (left_at table e) at none a

@@ -4,14 +4,7 @@ use Rattle.kit.specs.Names.{ap, true, false, List, [], ℕ, arith, length, eq-eq
 use Rattle.memory_append.specs.Append.{Appended}
 use Rattle.memory_append.proofs.Appending.{appended_nothing, appended_then}
 use Rattle.rewrite_log.specs.Entries.{makes_none}
-use Rattle.write_variables.specs.PerEntry.{of_tag}
 use Rattle.write_variables.specs.Variables.{origin_of, variable_of}
-
-pub same_one : (a b : ℕ) → a ≡ b → 1 ≡ length (of_tag b a 0 0 0 0)
-same_one a b h = rw (eq-eqb a b h)
-
-pub other_none : (a b : ℕ) → (a ≡ b → ⊥) → 0 ≡ length (of_tag b a 0 0 0 0)
-other_none a b h = rw (ne_eqb a b h)
 
 module _ (tag owner : ℕ) where
   pub supplied_plain : tag ≡ 0 → owner ≡ 0 → 0 ≡ origin_of tag owner

@@ -4,7 +4,7 @@
 ghost use Rattle.std.specs.Prelude.{◌≡◌, ◌∷◌, ◌+◌, ◌≤◌};
 ghost use Rattle.kit.specs.Names.{[], length};
 ghost use Rattle.memory_append.specs.Append.{Appended};
-ghost use Rattle.write_variables.specs.PerEntry.{per_entry, of_tag, count_tag};
+ghost use Rattle.write_variables.specs.PerEntry.{per_entry, count_tag};
 ghost use Rattle.write_variables.specs.Variables.{origin_of, variable_of, key_code, once_unseen, seen_in, KeysTaken};
 ghost use Rattle.definitions.specs.Rewriting.{each_once};
 
@@ -23,25 +23,12 @@ pub const READ_CELL: u8 = 3;
 
 pub const GUARD: u8 = 4;
 
-// 1 where two numbers are the same.
-fn one_if_same(a: u16, b: u16) -> usize
-    ensures value { result ≡ length (of_tag b a 0 0 0 0) }
-    ensures upper_bound { result ≤ 1 }
-{
-    if a == b { 1 } else { 0 }
-}
-
 // How many entries of a log have a tag.
 pub fn count_tag(log: &[u16], tag: u16) -> usize
     ensures { result ≡ count_tag tag log.now }
 {
-    let mut count = 0;
-    let mut i = 0;
-    while i + 4 < log.len() {
-        count += one_if_same(log[i], tag);
-        i += 5;
-    }
-    count
+    let (entries, _) = log.as_chunks::<5>();
+    entries.iter().filter(|entry| entry[0] == tag).count()
 }
 
 // The origin of the variable that an entry makes.
@@ -83,11 +70,10 @@ pub fn append_variables(log: &[u16], out: &mut [u8], from: usize) -> usize
     requires { from + length (per_entry variable_of log.now) ≤ length out.old }
     ensures { Appended out.old out.new from (per_entry variable_of log.now) result }
 {
+    let (entries, _) = log.as_chunks::<5>();
     let mut at = from;
-    let mut i = 0;
-    while i + 4 < log.len() {
-        at = append_variable(log[i], log[i + 2], out, at);
-        i += 5;
+    for entry in entries {
+        at = append_variable(entry[0], entry[2], out, at);
     }
     at
 }
@@ -129,12 +115,11 @@ pub fn append_keys(log: &[u16], out: &mut [u8], from: usize) -> usize
     requires { from + length (each_once [] (per_entry key_code log.now)) ≤ length out.old }
     ensures { Appended out.old out.new from (each_once [] (per_entry key_code log.now)) result }
 {
+    let (entries, _) = log.as_chunks::<5>();
     let mut table: [u8; 256] = [0; 256];
     let mut at = from;
-    let mut i = 0;
-    while i + 4 < log.len() {
-        at = append_key(log[i], log[i + 2], &mut table, out, at);
-        i += 5;
+    for entry in entries {
+        at = append_key(entry[0], entry[2], &mut table, out, at);
     }
     at
 }

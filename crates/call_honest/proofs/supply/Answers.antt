@@ -21,7 +21,7 @@ put_parameters-requires c = parameters_ready _ _ _ _ _ _ c.requires.0.known.call
 
 pub log_body-logged-requires : goal.log_body-logged-requires
 log_body-logged-requires c = let known = c.requires.0.known in
-    log_room _ _ _ _ _ _ known.called _ known.held _ _ known.private_is (omega arith)
+    log_room _ _ _ _ _ _ known.called _ _ known.private_is (omega arith)
 
 pub slice_bounds-supply_logged-end : goal.slice_bounds-supply_logged-end
 slice_bounds-supply_logged-end c = sym (length-take-le _ _ (omega (arith, c.log_body-logged.ensures.fits)))
@@ -31,7 +31,7 @@ supply_logged-requires c = let opened = numbers_whole _ _ _ _ c.requires.1 c.ope
   record {
     ledger = c.requires.0.ledger;
     told = record {
-      known = opened_by _ _ _ _ _ _ _ _ _ _ c.requires.0.known opened;
+      known = opened_by _ _ _ _ _ _ _ _ _ c.requires.0.known opened;
       entries = c.log_body-logged.ensures.entries;
       addressed = c.put_addresses.ensures;
     };
@@ -46,7 +46,7 @@ returns c = let opened = numbers_whole _ _ _ _ c.requires.1 c.opened_numbers.ens
     λ l placed follows. record {
       parameters = ap contents_of front ∙ given_honest _ _ _ _ _ _ placed.called _ _ follows p.ensures;
       variables = c.supply_logged.ensures l (record {
-        known = opened_by _ _ _ _ _ _ _ _ _ _ placed opened;
+        known = opened_by _ _ _ _ _ _ _ _ _ placed opened;
         entries = c.log_body-logged.ensures.entries;
         addressed = c.put_addresses.ensures;
       }) follows;

@@ -1,4 +1,4 @@
-use Rattle.std.specs.Prelude.{◌≡◌, ◌||◌, ◌+◌, ◌*◌, ◌/◌, ◌≤◌}
+use Rattle.std.specs.Prelude.{◌≡◌, ◌||◌, ◌-◌, ◌*◌, ◌/◌}
 use Rattle.kit.specs.Names.{length}
 use Rattle.definitions.specs.Basics.{any, any_numbered}
 use Rattle.file_decoded.specs.Slices.{nodes_from}
@@ -6,10 +6,9 @@ use Rattle.check_03_declarations.specs.Outside.{node_outside}
 use Rattle.check_04_nodes.specs.Naming.{node_names_nothing}
 use Rattle.check_03_04_sections.proofs.note_nodes.Given as goal
 
-abbrev pub invariant-loop-left : goal.invariant-loop-left
-invariant-loop-left l = (l.outside || any node_outside (nodes_from l.left l.nodes l.at) ≡ any node_outside (nodes_from (length l.nodes / 5) l.nodes 0))
-    × (l.nothing || any_numbered (node_names_nothing l.fields) l.n (nodes_from l.left l.nodes l.at) ≡ any_numbered (node_names_nothing l.fields) 0 (nodes_from (length l.nodes / 5) l.nodes 0))
-    × (l.at + 5 * l.left ≤ length l.nodes) × (l.n + l.left ≤ length l.nodes)
-
-abbrev pub decreases-loop-left : goal.decreases-loop-left
-decreases-loop-left l = l.left
+abbrev pub invariant-loop-n : goal.invariant-loop-n
+invariant-loop-n l =
+    (l.outside || any node_outside (nodes_from (length l.nodes / 5 - l.n) l.nodes (5 * l.n))
+    ≡ any node_outside (nodes_from (length l.nodes / 5) l.nodes 0))
+    × (l.nothing || any_numbered (node_names_nothing l.fields) l.n (nodes_from (length l.nodes / 5 - l.n) l.nodes (5 * l.n))
+    ≡ any_numbered (node_names_nothing l.fields) 0 (nodes_from (length l.nodes / 5) l.nodes 0))

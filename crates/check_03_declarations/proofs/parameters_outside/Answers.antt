@@ -1,34 +1,31 @@
-use Rattle.kit.specs.Names.{refl, arith, rules}
+use Rattle.std.specs.Prelude.{◌≡◌, ◌+◌, ◌-◌, ◌*◌}
+use Rattle.kit.specs.Names.{refl, ap, not, arith}
 use Rattle.definitions.specs.Numbers.{parameter_in_tables}
 use Rattle.file_decoded.proofs.Records.{parameters_step, parameters_end}
-use Rattle.file_children.proofs.Loops.{noted_next, noted_done}
+use Rattle.file_children.proofs.Loops.{any_next, any_found, any_done}
 use Rattle.check_03_declarations.specs.Outside.{parameter_outside}
 use Rattle.check_03_declarations.proofs.parameters_outside.Goals as goal
 
-pub loop-left-init : goal.loop-left-init
-unfolding parameter_in_tables
-loop-left-init c = search rules
+pub loop-i-init : goal.loop-i-init
+loop-i-init c =
+    let all : c.args.count - 0 ≡ c.args.count = omega arith in
+    let start : c.args.from + 2 * 0 ≡ c.args.from = omega arith in
+    rw (all, start) refl
 
-pub number_from-data_type-requires : goal.number_from-data_type-requires
+pub loop-i-preserved : goal.loop-i-preserved
 unfolding parameter_in_tables
-number_from-data_type-requires c = search rules
+loop-i-preserved c =
+    let i = c.loop-i.i in
+    let one_less : c.args.count - (i + 1) ≡ (c.args.count - i) - 1 = omega arith in
+    let next_place : c.args.from + 2 * (i + 1) ≡ c.args.from + 2 * i + 2 = omega arith in
+    rw (one_less, next_place) (any_next parameter_outside _ _ _ _ (parameters_step _ (c.args.from + 2 * i) _ (omega arith)) c.loop-i.invariant
+    (ap not (rw (c.number_from-data_type.ensures.value, c.number_from-owner.ensures.value) at c.if-not-data_type-owner.false)))
 
-pub number_from-owner-requires : goal.number_from-owner-requires
+pub returns-then-not-data_type-owner : goal.returns-then-not-data_type-owner
 unfolding parameter_in_tables
-number_from-owner-requires c = search rules
-
-pub loop-left-smaller : goal.loop-left-smaller
-unfolding parameter_in_tables
-loop-left-smaller c = search rules
-
-pub loop-left-preserved : goal.loop-left-preserved
-unfolding parameter_in_tables
-loop-left-preserved c = let loop = c.loop-left in (
-  rw (c.number_from-data_type.ensures.value, c.number_from-owner.ensures.value)
-      (noted_next parameter_outside loop.outside _ _ _ _ (parameters_step _ loop.at _ c.loop-left-test.true) loop.invariant.0 _ refl),
-  omega arith,
-)
+returns-then-not-data_type-owner c =
+    any_found parameter_outside _ _ _ _ (parameters_step _ (c.args.from + 2 * c.loop-i.i) _ (omega arith)) c.loop-i.invariant
+    (ap not (rw (c.number_from-data_type.ensures.value, c.number_from-owner.ensures.value) at c.if-not-data_type-owner.true))
 
 pub returns : goal.returns
-unfolding parameter_in_tables
-returns c = let loop = c.loop-left in noted_done parameter_outside loop.outside _ _ (parameters_end _ loop.at _ c.loop-left-test.false) loop.invariant.0
+returns c = any_done parameter_outside _ _ (parameters_end _ (c.args.from + 2 * c.loop-i.i) _ (omega arith)) c.loop-i.invariant

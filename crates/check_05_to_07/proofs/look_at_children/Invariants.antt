@@ -1,4 +1,4 @@
-use Rattle.std.specs.Prelude.{◌≡◌, ◌||◌, ◌+◌, ◌≤◌}
+use Rattle.std.specs.Prelude.{◌≡◌, ◌||◌, ◌-◌, ◌≤◌}
 use Rattle.kit.specs.Names.{map, max}
 use Rattle.definitions.specs.Basics.{any_numbered, largest}
 use Rattle.definitions.specs.ContractFile.{node_of}
@@ -11,11 +11,12 @@ use Rattle.check_07_sorts.proofs.SortLoops.{child_wrong}
 use Rattle.check_05_to_07.proofs.Children.{rest}
 use Rattle.check_05_to_07.proofs.look_at_children.Given as goal
 
-abbrev pub invariant-loop-left : goal.invariant-loop-left
-invariant-loop-left l = (Leads l.initial.counts l.counts (rest l.nodes l.at l.i l.left) (children_of (node_from l.nodes l.at))) × (Room l.counts l.left)
-    × (max l.deepest (largest (map (depth_in l.depths) (rest l.nodes l.at l.i l.left))) ≡ largest (map (depth_in l.depths) (children_of (node_from l.nodes l.at))))
-    × (l.wrong || any_numbered (child_wrong (nodes_in l.nodes) l.expressions) l.i (rest l.nodes l.at l.i l.left) ≡ parts_wrong (nodes_in l.nodes) (node_of (node_from l.nodes l.at)))
-    × (l.deepest ≤ 512) × (l.i + l.left ≤ 3)
-
-abbrev pub decreases-loop-left : goal.decreases-loop-left
-decreases-loop-left l = l.left
+abbrev pub invariant-loop-i : goal.invariant-loop-i
+invariant-loop-i l =
+    (Leads l.initial.counts l.counts (rest l.nodes l.at l.i (l.children - l.i)) (children_of (node_from l.nodes l.at)))
+    × (Room l.counts (l.children - l.i))
+    × (max l.deepest (largest (map (depth_in l.depths) (rest l.nodes l.at l.i (l.children - l.i))))
+    ≡ largest (map (depth_in l.depths) (children_of (node_from l.nodes l.at))))
+    × (l.wrong || any_numbered (child_wrong (nodes_in l.nodes) l.expressions) l.i (rest l.nodes l.at l.i (l.children - l.i))
+    ≡ parts_wrong (nodes_in l.nodes) (node_of (node_from l.nodes l.at)))
+    × (l.deepest ≤ 512) × (l.children ≤ 3)

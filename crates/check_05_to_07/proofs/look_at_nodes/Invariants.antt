@@ -1,4 +1,4 @@
-use Rattle.std.specs.Prelude.{◌≡◌, ◌||◌, ◌+◌, ◌*◌, ◌/◌}
+use Rattle.std.specs.Prelude.{◌≡◌, ◌||◌, ◌+◌, ◌-◌, ◌*◌, ◌/◌}
 use Rattle.kit.specs.Names.{length}
 use Rattle.definitions.specs.Basics.{any, flat_map}
 use Rattle.file_decoded.specs.Slices.{nodes_from}
@@ -9,11 +9,10 @@ use Rattle.check_07_sorts.specs.Sorts.{nodes_in, parts_wrong}
 use Rattle.check_07_sorts.proofs.SortLoops.{node_wrong}
 use Rattle.check_05_to_07.proofs.look_at_nodes.Given as goal
 
-abbrev pub invariant-loop-left : goal.invariant-loop-left
-invariant-loop-left l = (Leads l.initial.counts l.counts (flat_map children_of (nodes_from l.left l.nodes l.at)) (flat_map children_of (nodes_from (length l.nodes / 5) l.nodes 0)))
-    × (Room l.counts (3 * l.left + 16)) × (Chains (nodes_in l.nodes) l.n l.depths)
-    × (l.wrong || any (node_wrong (nodes_in l.nodes)) (nodes_from l.left l.nodes l.at) ≡ any (parts_wrong (nodes_in l.nodes)) (nodes_in l.nodes))
-    × (l.at ≡ 5 * l.n) × (l.n + l.left ≡ length l.nodes / 5)
-
-abbrev pub decreases-loop-left : goal.decreases-loop-left
-decreases-loop-left l = l.left
+abbrev pub invariant-loop-n : goal.invariant-loop-n
+invariant-loop-n l =
+    (Leads l.initial.counts l.counts (flat_map children_of (nodes_from (length l.nodes / 5 - l.n) l.nodes (5 * l.n)))
+    (flat_map children_of (nodes_from (length l.nodes / 5) l.nodes 0)))
+    × (Room l.counts (3 * (length l.nodes / 5 - l.n) + 16)) × (Chains (nodes_in l.nodes) l.n l.depths)
+    × (l.wrong || any (node_wrong (nodes_in l.nodes)) (nodes_from (length l.nodes / 5 - l.n) l.nodes (5 * l.n))
+    ≡ any (parts_wrong (nodes_in l.nodes)) (nodes_in l.nodes))

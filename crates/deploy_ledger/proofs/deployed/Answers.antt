@@ -8,10 +8,10 @@ pub slice_bounds-put_places-end : goal.slice_bounds-put_places-end
 slice_bounds-put_places-end c = let n = c.put_numbers-count.ensures in n.many ∙ sym (ap length (front_stored _ _ _ _ n.stand n.many))
 
 pub put_places-places-requires : goal.put_places-places-requires
-put_places-places-requires c = let shared-slice-known2 = c.shared_slice_known-2-1.given in
-    let n = c.put_numbers-count.ensures in let front = front_stored _ _ _ _ n.stand n.many in let long = ap length front in
+put_places-places-requires c = let n = c.put_numbers-count.ensures in
+    let front = front_stored _ _ _ _ n.stand n.many in let long = ap length front in
     deployable c.args.file.now c.args.addresses.now _ c.requires.0 front (omega (arith, n.few, n.many))
-    (λ i. omega (arith, shared-slice-known2 i))
+    (λ i. omega (arith, c.type_inv.addresses i))
 
 pub returns : goal.returns
 returns c = let n = c.put_numbers-count.ensures in

@@ -1,5 +1,5 @@
-use Rattle.std.specs.Prelude.{◌≡◌, ◌+◌}
-use Rattle.kit.specs.Names.{ap, ◌∙◌, arith, length, get_or, length-set, rules}
+use Rattle.std.specs.Prelude.{◌+◌}
+use Rattle.kit.specs.Names.{ap, ◌∙◌, arith, get_or, length-set, rules}
 use Rattle.definitions.specs.ContractFile.{field_at}
 use Rattle.definitions.specs.Original.{Reader, final_address, position}
 use Rattle.definitions.specs.Ledger.{content_for}
@@ -9,7 +9,11 @@ use Rattle.deploy_ledger.proofs.Places.{short_reader, field_start, field_next, f
 use Rattle.deploy_ledger.proofs.put_field.Goals as goal
 
 pub loop-key-init : goal.loop-key-init
-loop-key-init c = let long : length c.args.places ≡ 1024 = search (unmapped, rules) in (omega arith, (long, (field_start (fields_in c.args.file.now) c.args.numbers.now c.args.f c.args.p c.args.count c.args.places, tidy_first c.args.p c.args.places)))
+loop-key-init c = record {
+  long = search (unmapped, rules);
+  stands = field_start (fields_in c.args.file.now) c.args.numbers.now c.args.f c.args.p c.args.count c.args.places;
+  tidy = tidy_first c.args.p c.args.places;
+}
 
 pub place_reader-reader-requires : goal.place_reader-reader-requires
 place_reader-reader-requires c = let deployable = c.requires.deployable in let f-bound = c.requires.f_bound in (f-bound, deployable.few_fields)
@@ -25,25 +29,22 @@ bounds-made-p c = let deployable = c.requires.deployable in let (numbers-room, c
     omega (arith, deployable.few_places, numbers-room, count-bound)
 
 pub loop-key-preserved : goal.loop-key-preserved
-loop-key-preserved c = let few = c.requires.deployable.few_places in let room = c.requires.count_in_bounds in (
-  omega arith,
-  (
-    simp length-set c.loop-key.invariant.1.0,
-    (
-      field_next (fields_in c.args.file.now) c.args.numbers.now c.args.f c.args.p c.args.count c.loop-key.key c.loop-key.made _ _ (omega arith)
-          (omega arith) (omega arith)
-          (c.content_for-content.ensures ∙ ap (λ (r : Reader). content_for r 0 0 (get_or c.args.numbers.now (c.args.p + c.loop-key.key) 0)) c.place_reader-reader.ensures)
-          c.loop-key.invariant.1.1.0,
-      λ tidy. tidy_next c.loop-key.made (c.args.p + c.loop-key.key) (c.args.p + (c.loop-key.key + 1)) _ c.loop-key.invariant.1.0 (omega arith) (omega arith)
-          (c.loop-key.invariant.1.1.1 tidy),
-    ),
-  ),
-)
+loop-key-preserved c = let fields = fields_in c.args.file.now in let numbers = c.args.numbers.now in let p = c.args.p in
+    let loop = c.loop-key in let so_far = loop.invariant in
+    let few = c.requires.deployable.few_places in let room = c.requires.count_in_bounds in
+    let content = c.content_for-content.ensures
+    ∙ ap (λ (r : Reader). content_for r 0 0 (get_or numbers (p + loop.key) 0)) c.place_reader-reader.ensures in record {
+      long = simp length-set so_far.long;
+      stands = field_next fields numbers c.args.f p c.args.count loop.key loop.made _ _ (omega arith) (omega arith) (omega arith)
+          content so_far.stands;
+      tidy = λ before. tidy_next loop.made (p + loop.key) (p + (loop.key + 1)) _ so_far.long (omega arith) (omega arith)
+          (so_far.tidy before);
+    }
 
 pub returns : goal.returns
-returns c = let (_, (_, (contents-in-is, tidy))) = c.loop-key.invariant in record {
+returns c = let loop = c.loop-key in let so_far = loop.invariant in record {
   stands =
-      field_done (fields_in c.args.file.now) c.args.numbers.now c.args.f c.args.p c.args.count c.loop-key.key _ _ (omega arith) (omega arith)
-      contents-in-is;
-  tidy = λ before. tidy_last _ _ c.loop-key.key _ (omega arith) (omega arith) (tidy before);
+      field_done (fields_in c.args.file.now) c.args.numbers.now c.args.f c.args.p c.args.count loop.key _ _ (omega arith) (omega arith)
+      so_far.stands;
+  tidy = λ before. tidy_last _ _ loop.key _ (omega arith) (omega arith) (so_far.tidy before);
 }

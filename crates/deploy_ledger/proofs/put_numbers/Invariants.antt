@@ -1,5 +1,5 @@
 -- Each turn writes the numbers of one field more.
-use Rattle.std.specs.Prelude.{◌≡◌, ◌+◌, ◌*◌, ◌-◌, ◌≤◌}
+use Rattle.std.specs.Prelude.{◌≡◌, ◌+◌, ◌*◌, ◌≤◌}
 use Rattle.kit.specs.Names.{length, drop}
 use Rattle.memory_buffer.specs.Buffer.{stored}
 use Rattle.definitions.specs.Original.{deployed_numbers}
@@ -7,9 +7,11 @@ use Rattle.file_accepted.specs.Context.{fields_in}
 use Rattle.deploy_ledger.proofs.put_numbers.Given as goal
 
 abbrev pub invariant-loop-f : goal.invariant-loop-f
-invariant-loop-f l = (l.f ≤ l.count) × ((l.p ≤ 16 * l.f) × ((l.a ≤ l.f) × ((length l.numbers ≡ length l.initial.numbers)
-    × ((stored l.numbers l.p (deployed_numbers (drop l.f (fields_in l.file)) (drop l.a l.addresses)) ≡ stored l.initial.numbers 0 (deployed_numbers (fields_in l.file) l.addresses))
-    × (l.p + length (deployed_numbers (drop l.f (fields_in l.file)) (drop l.a l.addresses)) ≡ length (deployed_numbers (fields_in l.file) l.addresses))))))
-
-abbrev pub decreases-loop-f : goal.decreases-loop-f
-decreases-loop-f l = l.count - l.f
+invariant-loop-f l = record {
+  at_most : l.p ≤ 16 * l.f;
+  given : l.a ≤ l.f;
+  stand : stored l.numbers l.p (deployed_numbers (drop l.f (fields_in l.file)) (drop l.a l.addresses))
+      ≡ stored l.initial.numbers 0 (deployed_numbers (fields_in l.file) l.addresses);
+  counted : l.p + length (deployed_numbers (drop l.f (fields_in l.file)) (drop l.a l.addresses))
+      ≡ length (deployed_numbers (fields_in l.file) l.addresses);
+}

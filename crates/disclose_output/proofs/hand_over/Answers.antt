@@ -1,11 +1,13 @@
 -- Values with room are copied; others are not begun.
-use Rattle.kit.specs.Names.{refl, arith}
-use Rattle.disclose_output.proofs.Handing.{short_handed, all_handed}
+use Rattle.kit.specs.Names.{refl, arith, length, lt-ltb, le-ltb, rules}
 use Rattle.disclose_output.proofs.hand_over.Goals as goal
 
 pub returns-then-out-values : goal.returns-then-out-values
-returns-then-out-values c = let args = c.args in short_handed args.values.now args.out.now _ refl refl (omega (arith, c.if-out-values.true))
+returns-then-out-values c =
+    let short = lt-ltb (length c.args.out.now) (length c.args.values.now) (omega (arith, c.if-out-values.true)) in
+    record { number = rw short refl; long = rw short refl; output = rw short refl }
 
 pub returns : goal.returns
-returns c = let args = c.args in
-    all_handed args.values.now args.out.now _ _ refl refl (omega (arith, c.if-out-values.false)) c.copy_values.ensures
+returns c =
+    let fits = le-ltb (length c.args.out.now) (length c.args.values.now) (omega (arith, c.if-out-values.false)) in
+    record { number = rw fits refl; long = rw fits refl; output = rw fits (search rules) }

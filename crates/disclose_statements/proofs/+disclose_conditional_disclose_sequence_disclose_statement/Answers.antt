@@ -10,77 +10,109 @@ use Rattle.disclose_statements.proofs.StatementsByKind.{first_stopped, one_room,
 use Rattle.disclose_statements.proofs.+disclose_conditional_disclose_sequence_disclose_statement.Goals as goal
 
 pub disclose_conditional-node_at-node-requires : goal.disclose_conditional-node_at-node-requires
-disclose_conditional-node_at-node-requires t c = let (_, ready) = c.requires in (ready.context.narrow, omega (arith, ready.context.long, ready.inside))
+disclose_conditional-node_at-node-requires t c =
+    let (_, ready) = c.requires in (c.args.function.now.context.narrow, omega (arith, c.args.function.now.context.long, ready.inside))
 
 pub disclose_conditional-value_asked-condition-requires : goal.disclose_conditional-value_asked-condition-requires
 disclose_conditional-value_asked-condition-requires t c = let (kind-at-is, ready) = c.requires in
-    let same = c.node_at-node.ensures.same in let kind = kind_as _ _ _ same kind-at-is in
-    let less = branches_below (node_reads _ _ _ ready.context _ ready.inside _ same) kind in (omega (arith, ready.inside, less.0), ready.context)
+    let same = c.node_at-node.ensures.same in
+    let read = node_reads _ _ _ c.args.function.now.context _ ready.inside _ same in
+    let kind = kind_as _ _ _ same kind-at-is in
+    let less = branches_below read kind in omega (arith, ready.inside, less.0)
 
 pub disclose_conditional-branch_of-branch-requires : goal.disclose_conditional-branch_of-branch-requires
 disclose_conditional-branch_of-branch-requires t c = tt
 
 pub disclose_conditional-disclose_expression-told-requires : goal.disclose_conditional-disclose_expression-told-requires
-disclose_conditional-disclose_expression-told-requires t c = let (kind-at-is, ready) = c.requires in let same = c.node_at-node.ensures.same in
-    let kind = kind_as _ _ _ same kind-at-is in let less = branches_below (node_reads _ _ _ ready.context _ ready.inside _ same) kind in
-    let chosen = branch_in c.args.file.now (is_true c.value_asked-condition.result) _ c.node_at-node.result.second c.node_at-node.result.third c.branch_of-branch.ensures in
+disclose_conditional-disclose_expression-told-requires t c =
+    let (kind-at-is, ready) = c.requires in let same = c.node_at-node.ensures.same in
+    let read = node_reads _ _ _ c.args.function.now.context _ ready.inside _ same in
+    let kind = kind_as _ _ _ same kind-at-is in let less = branches_below read kind in
+    let chosen = branch_in c.args.function.now.file.now _ _ _ _ c.branch_of-branch.ensures in
     let known = ap is_true (value_here _ _ _ _ _ _ _ ready.called c.value_asked-condition.ensures) in
-    expression_ready _ _ _ _ _ _ _ _ _ _ _ ready less.0 (condition_room _ _ _ _ _ _ _ _ _ _ (conditional_is (node_reads _ _ _ ready.context _ ready.inside _ same) kind) _ known chosen c.args.out.now _ ready.room)
+    expression_ready _ _ _ _ _ _ _ _ _ _ ready less.0 (condition_room _ _ _ _ _ _ _ _ _ _
+    (conditional_is read kind) _ known chosen c.args.out.now _ ready.room)
 
 pub disclose_conditional-returns-then-not-told : goal.disclose_conditional-returns-then-not-told
 disclose_conditional-returns-then-not-told t c = let (kind-at-is, ready) = c.requires in
     let same = c.node_at-node.ensures.same in
+    let read = node_reads _ _ _ c.args.function.now.context _ ready.inside _ same in
     let kind = kind_as _ _ _ same kind-at-is in
-    let chosen = branch_in c.args.file.now (is_true c.value_asked-condition.result) _ c.node_at-node.result.second c.node_at-node.result.third c.branch_of-branch.ensures in
+    let chosen = branch_in c.args.function.now.file.now _ _ _ _ c.branch_of-branch.ensures in
     let known = ap is_true (value_here _ _ _ _ _ _ _ ready.called c.value_asked-condition.ensures) in
-    condition_stopped _ _ _ _ _ _ _ _ _ _ (conditional_is (node_reads _ _ _ ready.context _ ready.inside _ same) kind) _ known chosen _ _ _ _ _ (not-true _ c.if-not-told.true) c.disclose_expression-told.ensures
+    condition_stopped _ _ _ _ _ _ _ _ _ _ (conditional_is read kind) _ known chosen _ _ _ _ _
+    (not-true _ c.if-not-told.true) c.disclose_expression-told.ensures
 
 pub disclose_conditional-disclose_statement-requires : goal.disclose_conditional-disclose_statement-requires
 disclose_conditional-disclose_statement-requires t c = let (kind-at-is, ready) = c.requires in
     let same = c.node_at-node.ensures.same in
-    let kind = kind_as _ _ _ same kind-at-is in let less = branches_below (node_reads _ _ _ ready.context _ ready.inside _ same) kind in
-    let chosen = branch_in c.args.file.now (is_true c.value_asked-condition.result) _ c.node_at-node.result.second c.node_at-node.result.third c.branch_of-branch.ensures in
+    let read = node_reads _ _ _ c.args.function.now.context _ ready.inside _ same in
+    let kind = kind_as _ _ _ same kind-at-is in let less = branches_below read kind in
+    let chosen = branch_in c.args.function.now.file.now _ _ _ _ c.branch_of-branch.ensures in
     let known = ap is_true (value_here _ _ _ _ _ _ _ ready.called c.value_asked-condition.ensures) in
-    let lower = branch_below _ (is_true c.value_asked-condition.result) _ c.node_at-node.result.second c.node_at-node.result.third c.branch_of-branch.ensures less.1.0 less.1.1 in
-    (omega (arith, c.decreases, lower), statement_ready _ _ _ _ _ _ _ _ _ _ _ _ ready lower (branch_room _ _ _ _ _ _ _ _ _ _ (conditional_is (node_reads _ _ _ ready.context _ ready.inside _ same) kind) _ known chosen _ _ ready.room _ _ c.disclose_expression-told.ensures (not-false _ c.if-not-told.false)))
+    let node = c.node_at-node.result in
+    let taken = is_true c.value_asked-condition.result in
+    let lower = branch_below _ taken _ node.second node.third c.branch_of-branch.ensures less.1.0 less.1.1 in (
+      omega (arith, c.decreases, lower),
+      statement_ready _ _ _ _ _ _ _ _ _ _ _ ready lower
+          (branch_room _ _ _ _ _ _ _ _ _ _ (conditional_is read kind) _ known chosen _ _ ready.room _ _ c.disclose_expression-told.ensures
+          (not-false _ c.if-not-told.false)),
+    )
 
 pub disclose_conditional-returns : goal.disclose_conditional-returns
 disclose_conditional-returns t c = let (kind-at-is, ready) = c.requires in
     let same = c.node_at-node.ensures.same in
+    let read = node_reads _ _ _ c.args.function.now.context _ ready.inside _ same in
     let kind = kind_as _ _ _ same kind-at-is in
-    let chosen = branch_in c.args.file.now (is_true c.value_asked-condition.result) _ c.node_at-node.result.second c.node_at-node.result.third c.branch_of-branch.ensures in
+    let chosen = branch_in c.args.function.now.file.now _ _ _ _ c.branch_of-branch.ensures in
     let known = ap is_true (value_here _ _ _ _ _ _ _ ready.called c.value_asked-condition.ensures) in
-    conditional_disclosed _ _ _ _ _ _ _ _ _ _ (conditional_is (node_reads _ _ _ ready.context _ ready.inside _ same) kind) _ known chosen _ _ ready.room _ _ c.disclose_expression-told.ensures (not-false _ c.if-not-told.false) _ _ _ c.disclose_statement.ensures
+    conditional_disclosed _ _ _ _ _ _ _ _ _ _ (conditional_is read kind) _ known chosen _ _ ready.room _ _
+    c.disclose_expression-told.ensures (not-false _ c.if-not-told.false) _ _ _ c.disclose_statement.ensures
 
 pub disclose_sequence-node_at-node-requires : goal.disclose_sequence-node_at-node-requires
-disclose_sequence-node_at-node-requires t c = let (_, ready) = c.requires in (ready.context.narrow, omega (arith, ready.context.long, ready.inside))
+disclose_sequence-node_at-node-requires t c =
+    let (_, ready) = c.requires in (c.args.function.now.context.narrow, omega (arith, c.args.function.now.context.long, ready.inside))
 
 pub disclose_sequence-disclose_statement-first-requires : goal.disclose_sequence-disclose_statement-first-requires
 disclose_sequence-disclose_statement-first-requires t c = let (kind-at-is, ready) = c.requires in
-    let same = c.node_at-node.ensures.same in let kind = kind_as _ _ _ same kind-at-is in
-    let less = steps_below (node_reads _ _ _ ready.context _ ready.inside _ same) kind in
-    (omega (arith, c.decreases, less.0), statement_ready _ _ _ _ _ _ _ _ _ _ _ _ ready less.0 (one_room _ _ _ _ _ _ _ _ (sequence_is (node_reads _ _ _ ready.context _ ready.inside _ same) kind) c.args.out.now _ ready.room))
+    let same = c.node_at-node.ensures.same in
+    let read = node_reads _ _ _ c.args.function.now.context _ ready.inside _ same in
+    let kind = kind_as _ _ _ same kind-at-is in
+    let less = steps_below read kind in (
+      omega (arith, c.decreases, less.0),
+      statement_ready _ _ _ _ _ _ _ _ _ _ _ ready less.0
+          (one_room _ _ _ _ _ _ _ _ (sequence_is read kind) c.args.out.now _ ready.room),
+    )
 
 pub disclose_sequence-returns-then-not-first : goal.disclose_sequence-returns-then-not-first
 disclose_sequence-returns-then-not-first t c = let (kind-at-is, ready) = c.requires in
     let same = c.node_at-node.ensures.same in
+    let read = node_reads _ _ _ c.args.function.now.context _ ready.inside _ same in
     let kind = kind_as _ _ _ same kind-at-is in
-    first_stopped _ _ _ _ _ _ _ _ (sequence_is (node_reads _ _ _ ready.context _ ready.inside _ same) kind) _ _ _ _ _ (not-true _ c.if-not-first.true) c.disclose_statement-first.ensures
+    first_stopped _ _ _ _ _ _ _ _ (sequence_is read kind) _ _ _ _ _ (not-true _ c.if-not-first.true) c.disclose_statement-first.ensures
 
 pub disclose_sequence-disclose_statement-requires : goal.disclose_sequence-disclose_statement-requires
 disclose_sequence-disclose_statement-requires t c = let (kind-at-is, ready) = c.requires in
     let same = c.node_at-node.ensures.same in
-    let kind = kind_as _ _ _ same kind-at-is in let less = steps_below (node_reads _ _ _ ready.context _ ready.inside _ same) kind in
-    (omega (arith, c.decreases, less.1), statement_ready _ _ _ _ _ _ _ _ _ _ _ _ ready less.1 (two_room _ _ _ _ _ _ _ _ (sequence_is (node_reads _ _ _ ready.context _ ready.inside _ same) kind) _ _ ready.room _ _ _ c.disclose_statement-first.ensures (not-false _ c.if-not-first.false)))
+    let read = node_reads _ _ _ c.args.function.now.context _ ready.inside _ same in
+    let kind = kind_as _ _ _ same kind-at-is in let less = steps_below read kind in (
+      omega (arith, c.decreases, less.1),
+      statement_ready _ _ _ _ _ _ _ _ _ _ _ ready less.1
+          (two_room _ _ _ _ _ _ _ _ (sequence_is read kind) _ _ ready.room _ _ _ c.disclose_statement-first.ensures
+          (not-false _ c.if-not-first.false)),
+    )
 
 pub disclose_sequence-returns : goal.disclose_sequence-returns
 disclose_sequence-returns t c = let (kind-at-is, ready) = c.requires in
     let same = c.node_at-node.ensures.same in
+    let read = node_reads _ _ _ c.args.function.now.context _ ready.inside _ same in
     let kind = kind_as _ _ _ same kind-at-is in
-    sequence_disclosed _ _ _ _ _ _ _ _ (sequence_is (node_reads _ _ _ ready.context _ ready.inside _ same) kind) _ _ ready.room _ _ _ c.disclose_statement-first.ensures (not-false _ c.if-not-first.false) _ _ _ c.disclose_statement.ensures
+    sequence_disclosed _ _ _ _ _ _ _ _ (sequence_is read kind) _ _ ready.room _ _ _ c.disclose_statement-first.ensures
+    (not-false _ c.if-not-first.false) _ _ _ c.disclose_statement.ensures
 
 pub disclose_statement-node_at-node-requires : goal.disclose_statement-node_at-node-requires
-disclose_statement-node_at-node-requires t c = let ready = c.requires in (ready.context.narrow, omega (arith, ready.context.long, ready.inside))
+disclose_statement-node_at-node-requires t c =
+    let ready = c.requires in (c.args.function.now.context.narrow, omega (arith, c.args.function.now.context.long, ready.inside))
 
 pub disclose_statement-disclose_sequence-requires : goal.disclose_statement-disclose_sequence-requires
 disclose_statement-disclose_sequence-requires t c = let ready = c.requires in
@@ -118,4 +150,14 @@ pub disclose_statement-returns-in-21 : goal.disclose_statement-returns-in-21
 disclose_statement-returns-in-21 t c = c.disclose_conditional.ensures
 
 pub disclose_statement-returns-in_default : goal.disclose_statement-returns-in_default
-disclose_statement-returns-in_default t c = let ready = c.requires in skip_disclosed _ _ _ _ _ _ (still_is (node_reads _ _ _ ready.context _ ready.inside _ c.node_at-node.ensures.same) (record { sequence = (search rules); assign_field = (search rules); assign_entry = (search rules); require = (search rules); conditional = (search rules) })) _ _ _ refl refl
+disclose_statement-returns-in_default t c =
+    let ready = c.requires in skip_disclosed _ _ _ _ _ _ (still_is
+    (node_reads _ _ _ c.args.function.now.context _ ready.inside _ c.node_at-node.ensures.same)
+    (record {
+      sequence = (search rules);
+      assign_field = (search rules);
+      assign_entry = (search rules);
+      require =
+          (search rules);
+      conditional = (search rules);
+    })) _ _ _ refl refl

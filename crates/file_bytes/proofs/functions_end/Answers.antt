@@ -1,10 +1,12 @@
+use Rattle.std.specs.Prelude.{◌≡◌, ◌+◌, ◌-◌}
 use Rattle.kit.specs.Names.{arith}
 use Rattle.file_bytes.proofs.ReadingSteps.{functions_end_next, functions_end_done}
 use Rattle.file_bytes.proofs.functions_end.Goals as goal
 
-pub loop-left-preserved : goal.loop-left-preserved
-loop-left-preserved c = let (functions-end-is, _) = c.loop-left.invariant in
-    (functions_end_next _ _ _ _ _ c.loop-left-test.true c.function_end-at.ensures.value functions-end-is, omega arith)
+pub loop-preserved : goal.loop-preserved
+loop-preserved c =
+    let one_less : c.args.count - (c.loop.counter + 1) ≡ (c.args.count - c.loop.counter) - 1 = omega arith in
+    (rw one_less (functions_end_next _ _ _ _ _ (omega arith) c.function_end-at.ensures.value c.loop.invariant.0), omega arith)
 
 pub returns : goal.returns
-returns c = let (functions-end-is, _) = c.loop-left.invariant in record { value = functions_end_done _ _ _ _ c.loop-left-test.false functions-end-is; upper_bound = omega arith }
+returns c = record { value = functions_end_done _ _ _ _ (omega arith) c.loop.invariant.0; upper_bound = omega arith }

@@ -1,9 +1,10 @@
 -- The loop's invariant: with the functions left, those stored are all.
+use Rattle.std.specs.Prelude.{◌-◌, ◌*◌, ◌/◌}
+use Rattle.kit.specs.Names.{length}
 use Rattle.file_decoder.proofs.Loops.{FunctionsLeft}
 use Rattle.file_decoder.proofs.decode_functions.Given as goal
 
-abbrev pub invariant-loop-left : goal.invariant-loop-left
-invariant-loop-left l = FunctionsLeft l.file l.from l.initial.functions l.initial.parameters l.left l.place l.at l.first l.functions l.parameters
-
-abbrev pub decreases-loop-left : goal.decreases-loop-left
-decreases-loop-left l = l.left
+abbrev pub invariant-loop-i : goal.invariant-loop-i
+invariant-loop-i l =
+    FunctionsLeft l.file l.from l.initial.functions l.initial.parameters (length l.initial.functions / 3 - l.i)
+    l.place (3 * l.i) l.first l.functions l.parameters

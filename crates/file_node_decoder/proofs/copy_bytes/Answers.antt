@@ -22,15 +22,14 @@ module _ (file : List ℕ) (from count : ℕ) (there : from + count ≤ length f
       (omega (arith, long)) (omega (arith, long))
 
 pub loop-i-init : goal.loop-i-init
-loop-i-init c = let args = c.args in (copied_start _ _ (bytes_at args.file.now args.from args.count), omega arith, refl)
+loop-i-init c = let args = c.args in (copied_start _ _ (bytes_at args.file.now args.from args.count), refl)
 
 pub loop-i-preserved : goal.loop-i-preserved
-loop-i-preserved c = let (so_far, _, _) = c.loop-i.invariant in (
-  next _ c.args.from _ c.requires.0 _ _ _ _ _ _ c.requires.1 (omega arith) so_far c.byte_in.ensures.0 c.put_number.ensures,
-  omega arith,
+loop-i-preserved c = (
+  next _ c.args.from _ c.requires.0 _ _ _ _ _ _ c.requires.1 (omega arith) c.loop-i.invariant.0 c.byte_in.ensures.0 c.put_number.ensures,
   search rules,
 )
 
 pub returns : goal.returns
-returns c = let (so_far, _, _) = c.loop-i.invariant in
-    so_far ∙ ap (stored c.args.numbers.now c.args.at) (all _ c.args.from _ c.requires.0 _ c.loop-i-test.false)
+returns c =
+    c.loop-i.invariant.0 ∙ ap (stored c.args.numbers.now c.args.at) (all _ c.args.from _ c.requires.0 _ (omega arith))

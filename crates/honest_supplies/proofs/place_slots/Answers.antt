@@ -5,15 +5,15 @@ use Rattle.honest_supplies.proofs.place_slots.Goals as goal
 
 pub supply_slots-requires : goal.supply_slots-requires
 supply_slots-requires c = let pre = c.requires in
-    ready_as _ _ _ _ _ _ _ _ (placed_supply _ _ _ _ _ c.if-private.true (sym c.is_public.ensures ∙ c.if-is_public.true)) pre
+    ready_as _ _ _ _ _ _ (placed_supply _ _ _ _ _ c.if-private.true (sym c.is_public.ensures ∙ c.if-is_public.true)) pre
 
 pub body_slots-requires : goal.body_slots-requires
 body_slots-requires c = let pre = c.requires in
-    ready_as _ _ _ _ _ _ _ _ (placed_body _ _ _ _ _ c.if-private.true (sym c.is_public.ensures ∙ c.if-is_public.false)) pre
+    ready_as _ _ _ _ _ _ (placed_body _ _ _ _ _ c.if-private.true (sym c.is_public.ensures ∙ c.if-is_public.false)) pre
 
 pub body_slots-requires-else-private : goal.body_slots-requires-else-private
 body_slots-requires-else-private c = let args = c.args in let pre = c.requires in
-    ready_as _ _ _ _ _ _ _ _ (placed_open args.file.now args.turn.function_at args.placing.n args.placing.private c.if-private.false) pre
+    ready_as _ _ _ _ _ _ (placed_open args.function.now.file.now args.function.now.at args.placing.n args.placing.private c.if-private.false) pre
 
 pub returns-then-is_public : goal.returns-then-is_public
 returns-then-is_public c = let if1-taken = c.if-private.true in
@@ -27,4 +27,4 @@ returns-else-is_public c = let if1-taken = c.if-private.true in
 
 pub returns-else-private : goal.returns-else-private
 returns-else-private c = let args = c.args in
-    wrote_as _ _ _ _ _ _ _ (placed_open args.file.now args.turn.function_at args.placing.n args.placing.private c.if-private.false) c.body_slots-else-private.ensures
+    wrote_as _ _ _ _ _ _ _ (placed_open args.function.now.file.now args.function.now.at args.placing.n args.placing.private c.if-private.false) c.body_slots-else-private.ensures

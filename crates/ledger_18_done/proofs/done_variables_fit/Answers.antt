@@ -16,6 +16,6 @@ slice_bounds-put_addresses-end c = sym (numbers_long _ _ _ c.plain_numbers.ensur
 
 pub returns : goal.returns
 returns c = let a = c.args in
-    let file = a.file.now in let scope = scope_in file a.function_at in c.variables_fit.ensures
-    ∙ ap (λ (address : Name → ℕ). all_fit fits_or_zero (map (variable_form scope address) (written_in file a.function_at).variables) (contents_of a.variables.now))
+    let file = a.function.now.file.now in let scope = scope_in file a.function.now.at in c.variables_fit.ensures
+    ∙ ap (λ (address : Name → ℕ). all_fit fits_or_zero (map (variable_form scope address) (written_in file a.function.now.at).variables) (contents_of a.variables.now))
     (c.put_addresses.ensures.addresses ∙ ap (λ (arguments : List ℕ). address_in scope a.caller arguments a.numbers.now) c.plain_numbers.ensures.first)

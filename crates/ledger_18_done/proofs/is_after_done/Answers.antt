@@ -1,5 +1,6 @@
 -- The parameters are tested, then the variables.
 use Rattle.kit.specs.Names.{sym, ◌∙◌, eq-eqb, ne_eqb}
+use Rattle.file_accepted.proofs.Sources.{context_with}
 use Rattle.ledger_struct.specs.Ledgers.{ledger_from}
 use Rattle.ledger_18_parts.proofs.Files.{room_at, parameters_few}
 use Rattle.ledger_18_parts.proofs.WellFormedParts.{done_is}
@@ -15,8 +16,15 @@ parameters_fit-requires c = (
   parameters_few c.args.file.now c.requires.0 c.args.last.function _ c.requires.1 c.function_start-function_at.ensures.value,
 )
 
+pub invariant_of-function : goal.invariant_of-function
+invariant_of-function c =
+    let room = room_at c.args.file.now c.requires.0 c.args.last.function _ c.requires.1 c.function_start-function_at.ensures.value in
+    record { context = context_with _ _ _ room.context c.decode_source-count.ensures.source }
+
 pub done_variables_fit-requires : goal.done_variables_fit-requires
-done_variables_fit-requires c = record { function_room = (room_at c.args.file.now c.requires.0 c.args.last.function _ c.requires.1 c.function_start-function_at.ensures.value, c.decode_source-count.ensures.source); parameters_len_bound = c.requires.2 }
+done_variables_fit-requires c =
+    let room = room_at c.args.file.now c.requires.0 c.args.last.function _ c.requires.1 c.function_start-function_at.ensures.value in
+    record { function_room = room; parameters_len_bound = c.requires.2 }
 
 pub returns-then-parameters_fit : goal.returns-then-parameters_fit
 unfolding ledger_from

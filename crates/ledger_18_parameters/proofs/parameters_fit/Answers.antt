@@ -8,50 +8,37 @@ use Rattle.ledger_18_parameters.proofs.ParameterSteps.{private_is_law, shown_for
 use Rattle.ledger_18_parameters.proofs.parameters_fit.Goals as goal
 
 pub loop-k-init : goal.loop-k-init
-loop-k-init c = let a = c.args in (
-  omega arith,
-  (omega arith, sym (ap (λ (l : List Form). all_fit fits l (contents_of a.flat.now)) (shown_forms_law a.all a.caller (parameters_in a.file.now a.function_at)))),
-)
+loop-k-init c = let a = c.args in
+    (omega arith, sym (ap (λ (l : List Form). all_fit fits l (contents_of a.flat.now)) (shown_forms_law a.all a.caller (parameters_in a.file.now a.function_at))))
 
 pub loop-k-preserved-then-is_hidden : goal.loop-k-preserved-then-is_hidden
-loop-k-preserved-then-is_hidden c = let byte-at2 = c.byte_at-owner in let a = c.args in let same = c.byte_at-count.ensures.value in
-    let counted = parameters_count a.file.now a.function_at in
-    let inside : c.loop-k.k < length (parameters_in a.file.now a.function_at) = omega arith in
-    let private = private_is_law a.file.now a.function_at c.loop-k.k _ (omega arith) byte-at2.ensures.value in (
-      omega arith,
-      (
-        omega arith,
-        hidden_next a.all a.caller (parameters_in a.file.now a.function_at) c.loop-k.k inside byte-at2.result private
-            (contents_of a.flat.now) c.loop-k.p _ _ c.is_hidden.ensures c.loop-k.invariant.1.1 c.if-is_hidden.true,
-      ),
-    )
-
-pub loop-k-preserved : goal.loop-k-preserved
-loop-k-preserved c = let parameter-type = c.parameter_type-code in let parameter-reader = c.parameter_reader-reader in
-    let a = c.args in
-    let same = c.byte_at-count.ensures.value in let counted = parameters_count a.file.now a.function_at in
+loop-k-preserved-then-is_hidden c = let a = c.args in let counted = parameters_count a.file.now a.function_at in
     let inside : c.loop-k.k < length (parameters_in a.file.now a.function_at) = omega arith in
     let private = private_is_law a.file.now a.function_at c.loop-k.k _ (omega arith) c.byte_at-owner.ensures.value in (
       omega arith,
-      (
-        omega arith,
-        shown_next a.all a.caller (parameters_in a.file.now a.function_at) c.loop-k.k inside c.byte_at-owner.result private
-            (contents_of a.flat.now) c.loop-k.p _ _ c.is_hidden.ensures c.loop-k.invariant.1.1 _ parameter-type.result
-            parameter-reader.result parameter-type.ensures parameter-reader.ensures c.fits_at.ensures c.if-is_hidden.false c.if-fits_at.true,
-      ),
+      hidden_next a.all a.caller (parameters_in a.file.now a.function_at) c.loop-k.k inside c.byte_at-owner.result private
+          (contents_of a.flat.now) c.loop-k.p _ _ c.is_hidden.ensures c.loop-k.invariant.1 c.if-is_hidden.true,
     )
 
-pub returns-else-fits_at : goal.returns-else-fits_at
-returns-else-fits_at c = let parameter-type = c.parameter_type-code in let parameter-reader = c.parameter_reader-reader in
-    let a = c.args in
-    let same = c.byte_at-count.ensures.value in let counted = parameters_count a.file.now a.function_at in
+pub loop-k-preserved : goal.loop-k-preserved
+loop-k-preserved c = let a = c.args in let counted = parameters_count a.file.now a.function_at in
+    let inside : c.loop-k.k < length (parameters_in a.file.now a.function_at) = omega arith in
+    let private = private_is_law a.file.now a.function_at c.loop-k.k _ (omega arith) c.byte_at-owner.ensures.value in (
+      omega arith,
+      shown_next a.all a.caller (parameters_in a.file.now a.function_at) c.loop-k.k inside c.byte_at-owner.result private
+          (contents_of a.flat.now) c.loop-k.p _ _ c.is_hidden.ensures c.loop-k.invariant.1 _ c.parameter_type-code.result
+          c.parameter_reader-reader.result c.parameter_type-code.ensures c.parameter_reader-reader.ensures c.fits_at.ensures c.if-is_hidden.false c.if-not-fits_at.false,
+    )
+
+pub returns-then-not-fits_at : goal.returns-then-not-fits_at
+returns-then-not-fits_at c = let a = c.args in let counted = parameters_count a.file.now a.function_at in
     let inside : c.loop-k.k < length (parameters_in a.file.now a.function_at) = omega arith in
     let private = private_is_law a.file.now a.function_at c.loop-k.k _ (omega arith) c.byte_at-owner.ensures.value in
     shown_stops a.all a.caller (parameters_in a.file.now a.function_at) c.loop-k.k inside c.byte_at-owner.result private
-    (contents_of a.flat.now) c.loop-k.p _ _ c.is_hidden.ensures c.loop-k.invariant.1.1 _ parameter-type.result
-    parameter-reader.result parameter-type.ensures parameter-reader.ensures c.fits_at.ensures c.if-is_hidden.false c.if-fits_at.false
+    (contents_of a.flat.now) c.loop-k.p _ _ c.is_hidden.ensures c.loop-k.invariant.1 _ c.parameter_type-code.result
+    c.parameter_reader-reader.result c.parameter_type-code.ensures c.parameter_reader-reader.ensures c.fits_at.ensures c.if-is_hidden.false c.if-not-fits_at.true
 
 pub returns : goal.returns
-returns c = let a = c.args in let same = c.byte_at-count.ensures.value in
+returns c = let a = c.args in
     let counted = parameters_count a.file.now a.function_at in
-    parameters_done a.all a.caller (parameters_in a.file.now a.function_at) c.loop-k.k c.loop-k.p a.flat.now _ (omega arith) c.loop-k.invariant.1.1
+    parameters_done a.all a.caller (parameters_in a.file.now a.function_at) c.loop-k.k c.loop-k.p a.flat.now _ (omega arith) c.loop-k.invariant.1

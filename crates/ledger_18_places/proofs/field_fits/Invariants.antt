@@ -1,5 +1,5 @@
 -- Each turn tests one place more.
-use Rattle.std.specs.Prelude.{◌≡◌, ◌+◌, ◌-◌, ◌≤◌}
+use Rattle.std.specs.Prelude.{◌≡◌, ◌+◌, ◌-◌}
 use Rattle.kit.specs.Names.{drop}
 use Rattle.definitions.specs.Ledger.{fits}
 use Rattle.file_accepted.specs.Context.{fields_in}
@@ -9,9 +9,6 @@ use Rattle.ledger_18_places.specs.Places.{field_forms}
 use Rattle.ledger_18_places.proofs.field_fits.Given as goal
 
 abbrev pub invariant-loop-key : goal.invariant-loop-key
-invariant-loop-key l = (l.key ≤ l.count)
-    × (front_fits fits (field_forms (fields_in l.file) l.numbers l.f l.key (l.count - l.key)) (drop (l.p + l.key) (contents_of l.flat))
-    ≡ front_fits fits (field_forms (fields_in l.file) l.numbers l.f 0 l.count) (drop l.p (contents_of l.flat)))
-
-abbrev pub decreases-loop-key : goal.decreases-loop-key
-decreases-loop-key l = l.count - l.key
+invariant-loop-key l =
+    front_fits fits (field_forms (fields_in l.file) l.numbers l.f l.key (l.count - l.key)) (drop (l.p + l.key) (contents_of l.flat))
+    ≡ front_fits fits (field_forms (fields_in l.file) l.numbers l.f 0 l.count) (drop l.p (contents_of l.flat))

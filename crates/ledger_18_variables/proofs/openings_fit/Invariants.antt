@@ -1,5 +1,5 @@
 -- Each turn tests one private parameter more, or passes a public one.
-use Rattle.std.specs.Prelude.{◌≡◌, ◌-◌, ◌≤◌}
+use Rattle.std.specs.Prelude.{◌≡◌, ◌≤◌}
 use Rattle.kit.specs.Names.{get_or, drop}
 use Rattle.file_accepted.specs.Context.{parameters_in}
 use Rattle.ledger_contents.specs.Contents.{contents_of}
@@ -8,9 +8,6 @@ use Rattle.ledger_18_variable.specs.Variables.{opening_forms}
 use Rattle.ledger_18_variables.proofs.openings_fit.Given as goal
 
 abbrev pub invariant-loop-k : goal.invariant-loop-k
-invariant-loop-k l = (l.k ≤ l.count) × ((l.p ≤ l.k)
+invariant-loop-k l = (l.p ≤ l.k)
     × (front_fits fits_or_zero (opening_forms (parameters_in l.file l.function_at) (get_or l.addresses 1 0) l.k) (drop l.p (contents_of l.flat))
-    ≡ front_fits fits_or_zero (opening_forms (parameters_in l.file l.function_at) (get_or l.addresses 1 0) 0) (contents_of l.flat)))
-
-abbrev pub decreases-loop-k : goal.decreases-loop-k
-decreases-loop-k l = l.count - l.k
+    ≡ front_fits fits_or_zero (opening_forms (parameters_in l.file l.function_at) (get_or l.addresses 1 0) 0) (contents_of l.flat))

@@ -1,10 +1,6 @@
 -- The loop's invariant: the codes passed have their addresses.
-use Rattle.std.specs.Prelude.{◌-◌}
 use Rattle.ledger_addresses.proofs.AddressesByCode.{Placed}
 use Rattle.ledger_addresses.proofs.put_addresses.Given as goal
 
 abbrev pub invariant-loop-code : goal.invariant-loop-code
 invariant-loop-code l = Placed l.file l.function_at l.caller l.arguments l.places l.out l.code
-
-abbrev pub decreases-loop-code : goal.decreases-loop-code
-decreases-loop-code l = 136 - l.code

@@ -1,12 +1,10 @@
 use Rattle.std.specs.Prelude.{◌≡◌, ◌+◌, ◌*◌, ◌-◌, ◌≤◌}
 use Rattle.kit.specs.Names.{drop}
-use Rattle.definitions.specs.ContractFile.{field_count}
 use Rattle.definitions.specs.Original.{position}
 use Rattle.file_accepted.specs.Context.{fields_in}
 use Rattle.ledger_places.proofs.position.Given as goal
 
 abbrev pub invariant-loop-i : goal.invariant-loop-i
-invariant-loop-i l = (position (drop l.i (fields_in l.file)) (l.f - l.i) l.at ≡ position (fields_in l.file) l.f l.key) × ((l.count ≡ field_count l.file) × (l.at ≤ 4294967295 + 16 * l.i))
-
-abbrev pub decreases-loop-i : goal.decreases-loop-i
-decreases-loop-i l = l.f - l.i
+invariant-loop-i l =
+    (position (drop l.i (fields_in l.file)) (l.f - l.i) l.at ≡ position (fields_in l.file) l.f l.key)
+    × (l.at ≤ 4294967295 + 16 * l.i)

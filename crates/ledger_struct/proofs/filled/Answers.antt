@@ -1,14 +1,16 @@
-use Rattle.kit.specs.Names.{◌∙◌, arith}
+-- Each place is made from the content at its position.
+use Rattle.std.specs.Prelude.{◌≡◌}
+use Rattle.kit.specs.Names.{arith, rules}
+use Rattle.definitions.specs.Ledger.{content_at}
+use Rattle.ledger_contents.specs.Contents.{content_of_place, contents_of}
 use Rattle.ledger_struct.specs.Whole.{zero_place}
-use Rattle.ledger_struct.proofs.Padding.{padded_none}
-use Rattle.ledger_struct.proofs.Flat.{fill_next, fill_done}
+use Rattle.ledger_struct.proofs.Made.{made_each}
+use Rattle.ledger_struct.proofs.Flat.{filled_all}
 use Rattle.ledger_struct.proofs.filled.Goals as goal
 
-pub loop-i-init : goal.loop-i-init
-loop-i-init c = (omega arith, padded_none 1024 zero_place)
-
-pub loop-i-preserved : goal.loop-i-preserved
-loop-i-preserved c = (omega arith, rw c.loop-i.invariant.1 (fill_next _ _ _ _ (omega arith) (omega arith) c.content_at-content.ensures))
-
 pub returns : goal.returns
-returns c = c.loop-i.invariant.1 ∙ fill_done _ c.loop-i.i _ (omega arith) (omega arith)
+returns g c =
+    let flat = c.args.flat.now in
+    let made = c.from_fn.ensures.items in
+    filled_all flat g.row.N _ c.requires made.long
+    (λ k inside. made_each _ (λ i place. content_of_place place ≡ content_at (contents_of flat) i) _ (λ i y q h. (search rules, search rules)) _ 0 g.row.N made.each k zero_place (omega arith) (omega arith))

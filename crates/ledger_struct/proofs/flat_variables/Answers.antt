@@ -1,15 +1,7 @@
--- The front of the buffer holds the contents.
-use Rattle.kit.specs.Names.{sym}
+use Rattle.kit.specs.Names.{rules}
 use Rattle.ledger_struct.specs.Ledgers.{ledger_of}
-use Rattle.ledger_struct.proofs.Flat.{front_long, front_due, flat_put}
 use Rattle.ledger_struct.proofs.flat_variables.Goals as goal
-
-pub slice_bounds-flatten-end-2 : goal.slice_bounds-flatten-end-2
-slice_bounds-flatten-end-2 c = sym (front_long _ _ 1024 c.args.flat.now c.at_most-size.ensures c.requires)
-
-pub flatten-requires : goal.flatten-requires
-flatten-requires c = front_due _ _ 1024 c.args.flat.now c.at_most-size.ensures c.requires
 
 pub returns : goal.returns
 unfolding ledger_of
-returns c = flat_put _ c.args.l.variable_count 1024 c.args.flat.now c.at_most-size.ensures c.requires _ c.flatten.new.flat c.flatten.auto.flat c.flatten.ensures
+returns c = search rules

@@ -1,14 +1,12 @@
-use Rattle.std.specs.Prelude.{◌+◌, ◌*◌}
-use Rattle.kit.specs.Names.{refl, ap, ℕ, arith}
+use Rattle.std.specs.Prelude.{◌≡◌, ◌+◌, ◌-◌}
+use Rattle.kit.specs.Names.{arith}
 use Rattle.rehearse_scripts.proofs.Calls.{calls_next, calls_done}
 use Rattle.rehearse_scripts.proofs.calls_end.Goals as goal
 
-pub loop-left-init : goal.loop-left-init
-loop-left-init c = (refl, omega arith)
+pub loop-preserved : goal.loop-preserved
+loop-preserved c =
+    let left : c.args.count - (c.loop.counter + 1) ≡ (c.args.count - c.loop.counter) - 1 = omega arith in
+    (rw left (calls_next _ _ _ _ _ (omega arith) (omega (arith, c.byte_at.ensures.value)) c.loop.invariant.0), omega arith)
 
-pub loop-left-preserved : goal.loop-left-preserved
-loop-left-preserved c = let (calls-end-is, _) = c.loop-left.invariant in
-    (calls_next _ _ _ _ _ c.loop-left-test.true (ap (λ (n : ℕ). c.loop-left.at + 3 + 4 * n) c.byte_at.ensures.value) calls-end-is, omega arith)
-
-pub returns : goal.returns
-returns c = let (calls-end-is, _) = c.loop-left.invariant in record { value = calls_done _ _ _ _ c.loop-left-test.false calls-end-is; upper_bound = omega arith }
+pub returns-clause-value : goal.returns-clause-value
+returns-clause-value c = calls_done _ _ _ _ (omega arith) c.loop.invariant.0

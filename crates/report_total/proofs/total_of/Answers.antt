@@ -1,25 +1,14 @@
-use Rattle.std.specs.Prelude.{◌+◌}
-use Rattle.kit.specs.Names.{ap, sym, ◌∙◌, ℕ, arith}
-use Rattle.report_order.specs.Counts.{ordered_tallies}
-use Rattle.report_total.specs.Totals.{total_of}
+use Rattle.std.specs.Prelude.{◌<◌}
+use Rattle.kit.specs.Names.{ℕ, arith, ap, ◌∙◌, get_or, get_or-take, length-take-le}
 use Rattle.report_total.proofs.Sums.{none_added, line_added}
 use Rattle.report_total.proofs.total_of.Goals as goal
 
-pub loop-i-init : goal.loop-i-init
-loop-i-init c = let args = c.args in (none_added args.counts.now args.order.now, omega arith, omega arith)
+pub loop-function-init : goal.loop-function-init
+loop-function-init c = (none_added c.args.counts.now c.args.order.now, omega arith)
 
-pub overflow_cast-order : goal.overflow_cast-order
-overflow_cast-order c = omega (arith, c.shared_slice_known-2-1.given c.loop-i.i)
-
-pub loop-i-preserved : goal.loop-i-preserved
-loop-i-preserved c = let args = c.args in let loop = c.loop-i in
-    let (added, _, _) = loop.invariant in let (enough, _) = c.requires in (
-      ap (λ (k : ℕ). k + c.count_of.result) added ∙ ap (λ (k : ℕ). total_of (ordered_tallies args.counts.now loop.i args.order.now) + k) c.count_of.ensures
-          ∙ sym (line_added args.counts.now args.order.now loop.i (omega arith)),
-      omega arith,
-      omega arith,
-    )
-
-pub returns : goal.returns
-returns c = let loop = c.loop-i in let (added, _, _) = loop.invariant in let args = c.args in
-    added ∙ ap (λ (k : ℕ). total_of (ordered_tallies args.counts.now k args.order.now)) (omega arith)
+pub loop-function-preserved : goal.loop-function-preserved
+loop-function-preserved c = let counts = c.args.counts.now in let order = c.args.order.now in let i = c.loop-function.function-index in
+    let long = length-take-le c.args.lines order c.requires.0 in
+    let here : i < c.args.lines = omega (arith, long, c.loop-function-test.true) in
+    let count = c.count_of.ensures ∙ ap (λ (f : ℕ). get_or counts f 0) (get_or-take c.args.lines order i 0 here) in
+    (omega (arith, count, line_added counts order i (omega arith)), omega arith)

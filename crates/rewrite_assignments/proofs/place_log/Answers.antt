@@ -6,21 +6,21 @@ use Rattle.rewrite_assignments.proofs.place_log.Goals as goal
 
 pub body_log-requires : goal.body_log-requires
 body_log-requires c = let args = c.args in
-    open_ready _ _ args.source.now args.guard _ _ _ _ c.requires c.if-owner-eq-EVERYONE_CODE.true
+    open_ready _ _ args.guard _ _ _ _ c.requires c.if-owner-eq-EVERYONE_CODE.true
 
 pub shape_of-log-then-owner-eq-EVERYONE_CODE : goal.shape_of-log-then-owner-eq-EVERYONE_CODE
 shape_of-log-then-owner-eq-EVERYONE_CODE c = c.body_log.auto.log
 
 pub returns-then-owner-eq-EVERYONE_CODE : goal.returns-then-owner-eq-EVERYONE_CODE
 returns-then-owner-eq-EVERYONE_CODE c = let args = c.args in
-    open_placed _ _ args.source.now args.guard _ _ _ _ _ _ c.if-owner-eq-EVERYONE_CODE.true c.body_log.ensures
+    open_placed _ _ args.guard _ _ _ _ _ _ c.if-owner-eq-EVERYONE_CODE.true c.body_log.ensures
 
 pub is_public-requires : goal.is_public-requires
-is_public-requires c = let pre-ready = c.requires.ready in (pre-ready.inside, pre-ready.context)
+is_public-requires c = c.requires.ready.inside
 
 pub supply_log-requires : goal.supply_log-requires
 supply_log-requires c = let args = c.args in let pre = c.requires in
-    public_ready _ _ args.source.now args.guard _ _ _ _ pre c.if-owner-eq-EVERYONE_CODE.false (sym c.is_public.ensures ∙ c.if-is_public.true)
+    public_ready _ _ args.guard _ _ _ _ pre c.if-owner-eq-EVERYONE_CODE.false (sym c.is_public.ensures ∙ c.if-is_public.true)
 
 pub shape_of-log-then-is_public : goal.shape_of-log-then-is_public
 shape_of-log-then-is_public c = c.supply_log.auto.log
@@ -29,11 +29,11 @@ pub returns-then-is_public : goal.returns-then-is_public
 returns-then-is_public c = let args = c.args in
     let if1-left = c.if-owner-eq-EVERYONE_CODE.false in
     let is_public_law = c.is_public.ensures in
-    public_placed _ _ args.source.now args.guard _ _ _ _ _ _ if1-left (sym is_public_law ∙ c.if-is_public.true) c.supply_log.ensures
+    public_placed _ _ args.guard _ _ _ _ _ _ if1-left (sym is_public_law ∙ c.if-is_public.true) c.supply_log.ensures
 
 pub body_log-requires-2 : goal.body_log-requires-2
 body_log-requires-2 c = let args = c.args in let pre = c.requires in
-    value_ready _ _ args.source.now args.guard _ _ _ _ pre (sym c.is_public.ensures ∙ c.if-is_public.false)
+    value_ready _ _ args.guard _ _ _ _ pre (sym c.is_public.ensures ∙ c.if-is_public.false)
 
 pub shape_of-log : goal.shape_of-log
 shape_of-log c = c.body_log-2.auto.log
@@ -41,4 +41,4 @@ shape_of-log c = c.body_log-2.auto.log
 pub returns : goal.returns
 returns c = let args = c.args in
     let is_public_law = c.is_public.ensures in
-    value_placed _ _ args.source.now args.guard _ _ _ _ _ _ (sym is_public_law ∙ c.if-is_public.false) c.body_log-2.ensures
+    value_placed _ _ args.guard _ _ _ _ _ _ (sym is_public_law ∙ c.if-is_public.false) c.body_log-2.ensures

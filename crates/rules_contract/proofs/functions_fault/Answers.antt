@@ -1,60 +1,47 @@
-use Rattle.std.specs.Prelude.{◌+◌, ◌*◌, ◌≤◌}
-use Rattle.kit.specs.Names.{◌∙◌, arith, length}
+use Rattle.std.specs.Prelude.{◌≡◌, ◌+◌, ◌*◌, ◌/◌, ◌<◌, ◌≤◌}
+use Rattle.kit.specs.Names.{refl, ◌∙◌, List, ℕ, arith, length}
 use Rattle.file_decoded.specs.Slices.{number_at, parameters_from}
+use Rattle.rules_contract.specs.Sections.{Passed}
 use Rattle.rules_contract.proofs.Functions.{functions_start_law, functions_more, functions_done, own_parameters, own_ready}
 use Rattle.rules_contract.proofs.Passing.{fields_ready, nodes_ready, few_parameters_law, parameters_listed, root_there}
 use Rattle.rules_contract.proofs.functions_fault.Goals as goal
 
+-- Function f's parameters lie inside the slice of all, from number `from` on, `own` of them.
+inside : {fields functions parameters nodes : List ℕ} → Passed fields functions parameters nodes
+    → (f from own : ℕ) → f < length functions / 3 → from ≡ number_at functions (3 * f) → own ≡ number_at functions (3 * f + 1)
+    → from + 2 * own ≤ length parameters
+inside passed f from own here first its = let within = passed.inside.each f (omega (arith, here)) in omega (arith, within, first, its)
+
 pub loop-f-init : goal.loop-f-init
-loop-f-init c = (omega arith, functions_start_law _ _ _ _ c.args.owners.now)
+loop-f-init c = functions_start_law _ _ _ _ c.args.owners.now
 
-pub overflow_mul-f : goal.overflow_mul-f
-overflow_mul-f c = let ready = c.requires.0 in let loop = c.loop-f in let here = c.loop-f-test.true in let few = ready.shaped.few_functions in omega (arith, here, few)
+pub slice_bounds-slices-end : goal.slice_bounds-slices-end
+slice_bounds-slices-end c =
+    inside c.requires.0 c.loop-f.f _ _ c.loop-f-test.true c.number_from-from.ensures.value c.number_from.ensures.value
 
-pub number_from-from-requires : goal.number_from-from-requires
-number_from-from-requires c = let ready = c.requires.0 in let loop = c.loop-f in let here = c.loop-f-test.true in let few = ready.shaped.few_functions in omega (arith, here)
-
-pub overflow_mul-f-in-loop-f : goal.overflow_mul-f-in-loop-f
-overflow_mul-f-in-loop-f c = let ready = c.requires.0 in let loop = c.loop-f in let here = c.loop-f-test.true in let few = ready.shaped.few_functions in omega (arith, here, few)
-
-pub overflow_add-f : goal.overflow_add-f
-overflow_add-f c = let ready = c.requires.0 in let loop = c.loop-f in let here = c.loop-f-test.true in let few = ready.shaped.few_functions in omega (arith, here, few)
-
-pub number_from-requires : goal.number_from-requires
-number_from-requires c = let ready = c.requires.0 in let loop = c.loop-f in let here = c.loop-f-test.true in let few = ready.shaped.few_functions in omega (arith, here)
-
-pub overflow_mul-to : goal.overflow_mul-to
-overflow_mul-to c = let ready = c.requires.0 in let loop = c.loop-f in let here = c.loop-f-test.true in let few = ready.shaped.few_functions in let small = c.number_from.ensures.upper_bound in omega (arith, small)
-
-pub overflow_add-to : goal.overflow_add-to
-overflow_add-to c = let ready = c.requires.0 in let loop = c.loop-f in let here = c.loop-f-test.true in let few = ready.shaped.few_functions in let small = c.number_from.ensures.upper_bound in let less = c.number_from-from.ensures.upper_bound in omega (arith, small, less)
-
-pub overflow_mul-f-in-loop-f-2 : goal.overflow_mul-f-in-loop-f-2
-overflow_mul-f-in-loop-f-2 c = let ready = c.requires.0 in let loop = c.loop-f in let here = c.loop-f-test.true in let few = ready.shaped.few_functions in omega (arith, here, few)
-
-pub overflow_add-f-in-loop-f : goal.overflow_add-f-in-loop-f
-overflow_add-f-in-loop-f c = let ready = c.requires.0 in let loop = c.loop-f in let here = c.loop-f-test.true in let few = ready.shaped.few_functions in omega (arith, here, few)
-
-pub number_from-root-requires : goal.number_from-root-requires
-number_from-root-requires c = let ready = c.requires.0 in let loop = c.loop-f in let here = c.loop-f-test.true in let few = ready.shaped.few_functions in omega (arith, here)
-
-pub offset_bounds-parameters-from : goal.offset_bounds-parameters-from
-offset_bounds-parameters-from c = let ready = c.requires.0 in let loop = c.loop-f in let here = c.loop-f-test.true in let few = ready.shaped.few_functions in let from = c.number_from-from.ensures.value in let its = c.number_from.ensures.value in let inside : number_at c.args.functions.now (3 * loop.f) + 2 * number_at c.args.functions.now (3 * loop.f + 1) ≤ length c.args.parameters.now = ready.inside.each loop.f (omega (arith, here)) in omega (arith, inside, from, its)
-
-pub slice_bounds-function_fault-count : goal.slice_bounds-function_fault-count
-slice_bounds-function_fault-count c = let ready = c.requires.0 in let loop = c.loop-f in let here = c.loop-f-test.true in let few = ready.shaped.few_functions in let from = c.number_from-from.ensures.value in let its = c.number_from.ensures.value in let inside : number_at c.args.functions.now (3 * loop.f) + 2 * number_at c.args.functions.now (3 * loop.f + 1) ≤ length c.args.parameters.now = ready.inside.each loop.f (omega (arith, here)) in omega (arith, inside, from, its)
-
-pub slice_bounds-function_fault-start : goal.slice_bounds-function_fault-start
-slice_bounds-function_fault-start c = let ready = c.requires.0 in let loop = c.loop-f in let here = c.loop-f-test.true in let few = ready.shaped.few_functions in let from = c.number_from-from.ensures.value in let its = c.number_from.ensures.value in let inside : number_at c.args.functions.now (3 * loop.f) + 2 * number_at c.args.functions.now (3 * loop.f + 1) ≤ length c.args.parameters.now = ready.inside.each loop.f (omega (arith, here)) in omega (arith, inside, from, its)
-
-pub slice_bounds-function_fault-end : goal.slice_bounds-function_fault-end
-slice_bounds-function_fault-end c = let ready = c.requires.0 in let loop = c.loop-f in let here = c.loop-f-test.true in let few = ready.shaped.few_functions in let from = c.number_from-from.ensures.value in let its = c.number_from.ensures.value in let inside : number_at c.args.functions.now (3 * loop.f) + 2 * number_at c.args.functions.now (3 * loop.f + 1) ≤ length c.args.parameters.now = ready.inside.each loop.f (omega (arith, here)) in omega (arith, inside, from, its)
+pub invariant_of-slices : goal.invariant_of-slices
+invariant_of-slices c =
+    let passed = c.requires.0 in let here = c.loop-f-test.true in let first = c.number_from-from.ensures.value in let its = c.number_from.ensures.value in
+    let fits = inside passed c.loop-f.f _ _ here first its in let few = few_parameters_law _ _ _ _ passed c.loop-f.f here in record {
+      ready = record {
+        declared = fields_ready _ _ _ _ passed;
+        given = own_ready c.args.sections.now.parameters.now _ _ fits (omega (arith, few, its)) (rw (its, first) (parameters_listed _ _ _ _ passed c.loop-f.f here));
+        bodies = nodes_ready _ _ _ _ passed;
+        numbered = refl;
+      };
+    }
 
 pub function_fault-requires : goal.function_fault-requires
-function_fault-requires c = let ready = c.requires.0 in let loop = c.loop-f in let here = c.loop-f-test.true in let few = ready.shaped.few_functions in let from = c.number_from-from.ensures.value in let its = c.number_from.ensures.value in let inside : number_at c.args.functions.now (3 * loop.f) + 2 * number_at c.args.functions.now (3 * loop.f + 1) ≤ length c.args.parameters.now = ready.inside.each loop.f (omega (arith, here)) in let fits : c.number_from-from.result + 2 * c.number_from.result ≤ length c.args.parameters.now = omega (arith, inside, from, its) in let so = loop.invariant.1 in let some = few_parameters_law _ _ _ _ ready loop.f here in (rw c.number_from-root.ensures.value (root_there _ _ _ _ ready loop.f here), fields_ready _ _ _ _ ready, own_ready c.args.parameters.now c.number_from-from.result c.number_from.result fits (omega (arith, some, its)) (rw (its, from) (parameters_listed _ _ _ _ ready loop.f here)), nodes_ready _ _ _ _ ready, omega (arith, c.requires.1, so.long))
+function_fault-requires c =
+    (rw c.number_from-root.ensures.value (root_there _ _ _ _ c.requires.0 c.loop-f.f c.loop-f-test.true), omega (arith, c.requires.1, c.loop-f.invariant.long))
 
 pub loop-f-preserved : goal.loop-f-preserved
-loop-f-preserved c = let ready = c.requires.0 in let loop = c.loop-f in let here = c.loop-f-test.true in let few = ready.shaped.few_functions in let from = c.number_from-from.ensures.value in let its = c.number_from.ensures.value in let inside : number_at c.args.functions.now (3 * loop.f) + 2 * number_at c.args.functions.now (3 * loop.f + 1) ≤ length c.args.parameters.now = ready.inside.each loop.f (omega (arith, here)) in let fits : c.number_from-from.result + 2 * c.number_from.result ≤ length c.args.parameters.now = omega (arith, inside, from, its) in let so = loop.invariant.1 in let some = few_parameters_law _ _ _ _ ready loop.f here in (omega (arith, here), functions_more _ _ _ _ _ _ _ _ so _ _ _ _ here (own_parameters c.args.parameters.now c.number_from-from.result c.number_from.result fits ∙ λ i. parameters_from (its i) c.args.parameters.now (from i)) (rw c.number_from-root.ensures.value at c.function_fault.ensures) c.least-fault.ensures)
+loop-f-preserved c =
+    let here = c.loop-f-test.true in let first = c.number_from-from.ensures.value in let its = c.number_from.ensures.value in
+    let fits = inside c.requires.0 c.loop-f.f _ _ here first its in
+    functions_more _ _ _ _ _ _ _ _ c.loop-f.invariant _ _ _ _ here
+    (own_parameters c.args.sections.now.parameters.now _ _ fits ∙ λ i. parameters_from (its i) c.args.sections.now.parameters.now (first i))
+    (rw c.number_from-root.ensures.value at c.function_fault.ensures) c.min-fault.ensures
 
 pub returns : goal.returns
-returns c = let done = c.loop-f-test.false in functions_done _ _ _ _ _ _ _ _ c.loop-f.invariant.1 (omega (arith, done))
+returns c = let done = c.loop-f-test.false in functions_done _ _ _ _ _ _ _ _ c.loop-f.invariant (omega (arith, done))

@@ -8,7 +8,7 @@ returns-then-other_added c = let met = c.meet.ensures in
     record { learnt = λ in_one in_other. link_learnt _ _ _ met.classed (met.long ∙ sym c.requires.3) met.links }
 
 pub returns-else-other_added : goal.returns-else-other_added
-returns-else-other_added c = rw c.copy_classes.ensures
+returns-else-other_added c = rw c.copy_from_slice.ensures.after
     (record { learnt = λ in_one in_other. other_adds_nothing _ _ _ _ _ in_one in_other c.requires.1 c.if-other_added.false })
 
 pub returns-else-one_added : goal.returns-else-one_added

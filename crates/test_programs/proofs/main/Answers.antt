@@ -5,4 +5,4 @@ use Rattle.test_programs.proofs.main.Goals.{then-read, else-read}
 
 pub loop-place-preserved : goal.loop-place-preserved
 loop-place-preserved c =
-    (search rules, (search rules, elim c.if-read.branch [ then-read w ↦ rw w.out-is (search rules) | else-read w ↦ rw w.out-is (search rules) ]))
+    (search rules, elim c.if-read.branch [ then-read w ↦ rw w.out-is (search rules) | else-read w ↦ rw w.out-is (search rules) ])

@@ -4,59 +4,59 @@ use Rattle.write_circuits.proofs.Turns.{room_same, put_same, put_none, room_circ
 use Rattle.write_circuits.proofs.+put_circuits.Goals as goal
 
 pub offset_bounds-log-from : goal.offset_bounds-log-from
-offset_bounds-log-from t c = let (_, (claimable, _)) = c.requires in let some = c.if-left-eq0.false in
+offset_bounds-log-from t c = let (claimable, _) = c.requires in let some = c.if-left-eq0.false in
     omega (arith, claimable.space)
 
 pub bounds-log-from : goal.bounds-log-from
-bounds-log-from t c = let (_, (claimable, _)) = c.requires in
+bounds-log-from t c = let (claimable, _) = c.requires in
     let some = c.if-left-eq0.false in omega (arith, claimable.space)
 
 pub put_circuit-nodes-requires : goal.put_circuit-nodes-requires
-put_circuit-nodes-requires t c = let (context, (claimable, circuits_room)) = c.requires in
+put_circuit-nodes-requires t c = let (claimable, circuits_room) = c.requires in
     let if1-left = c.if-left-eq0.false in let if2-taken = c.if-log-from-eq-CLAIM_LOGGED.true in
-    (context, (claimable_first _ _ _ _ _ if1-left claimable if2-taken, room_circuit _ _ _ _ _ _ _ (room_same _ _ _ _ _ _ _ (claims_claim _ _ _ _ _ if1-left if2-taken) circuits_room)))
+    (claimable_first _ _ _ _ _ if1-left claimable if2-taken, room_circuit _ _ _ _ _ _ _ (room_same _ _ _ _ _ _ _ (claims_claim _ _ _ _ _ if1-left if2-taken) circuits_room))
 
 pub overflow_add-base : goal.overflow_add-base
-overflow_add-base t c = let (_, (_, circuits_room)) = c.requires in
+overflow_add-base t c = let (_, circuits_room) = c.requires in
     let if1-left = c.if-left-eq0.false in
     let fits = root_fits _ _ _ _ _ _ _ (room_same _ _ _ _ _ _ _ (claims_claim _ _ _ _ _ if1-left c.if-log-from-eq-CLAIM_LOGGED.true) circuits_room) _ _ c.put_circuit-nodes.ensures in
     omega arith
 
 pub overflow_sub-base : goal.overflow_sub-base
-overflow_sub-base t c = let (_, (_, circuits_room)) = c.requires in
+overflow_sub-base t c = let (_, circuits_room) = c.requires in
     let if1-left = c.if-left-eq0.false in
     let fits = root_fits _ _ _ _ _ _ _ (room_same _ _ _ _ _ _ _ (claims_claim _ _ _ _ _ if1-left c.if-log-from-eq-CLAIM_LOGGED.true) circuits_room) _ _ c.put_circuit-nodes.ensures in
     omega arith
 
 pub overflow_cast-base : goal.overflow_cast-base
-overflow_cast-base t c = let (_, (_, circuits_room)) = c.requires in
+overflow_cast-base t c = let (_, circuits_room) = c.requires in
     let if1-left = c.if-left-eq0.false in
     let fits = root_fits _ _ _ _ _ _ _ (room_same _ _ _ _ _ _ _ (claims_claim _ _ _ _ _ if1-left c.if-log-from-eq-CLAIM_LOGGED.true) circuits_room) _ _ c.put_circuit-nodes.ensures in
     omega arith
 
 pub put_claim-requires : goal.put_claim-requires
-put_claim-requires t c = let (_, (claimable, circuits_room)) = c.requires in
+put_claim-requires t c = let (claimable, circuits_room) = c.requires in
     let if1-left = c.if-left-eq0.false in
     let if2-taken = c.if-log-from-eq-CLAIM_LOGGED.true in
     ((claimable_first _ _ _ _ _ if1-left claimable if2-taken).space, room_four _ _ _ _ _ _ _ (room_same _ _ _ _ _ _ _ (claims_claim _ _ _ _ _ if1-left if2-taken) circuits_room))
 
-pub overflow_add-from : goal.overflow_add-from
-overflow_add-from t c = let (_, (claimable, _)) = c.requires in
+pub overflow_add-rest : goal.overflow_add-rest
+overflow_add-rest t c = let (claimable, _) = c.requires in
     let if1-left = c.if-left-eq0.false in let some = if1-left in
     omega (arith, claimable.space)
 
-pub overflow_sub-left : goal.overflow_sub-left
-overflow_sub-left t c = let some = c.if-left-eq0.false in omega arith
+pub overflow_sub-rest : goal.overflow_sub-rest
+overflow_sub-rest t c = let some = c.if-left-eq0.false in omega arith
 
 pub overflow_add-noted : goal.overflow_add-noted
-overflow_add-noted t c = let (_, (_, circuits_room)) = c.requires in
+overflow_add-noted t c = let (_, circuits_room) = c.requires in
     let if1-left = c.if-left-eq0.false in
     let if2-taken = c.if-log-from-eq-CLAIM_LOGGED.true in
     let inside = room_four _ _ _ _ _ _ _ (room_same _ _ _ _ _ _ _ (claims_claim _ _ _ _ _ if1-left if2-taken) circuits_room) in
     omega (arith)
 
 pub overflow_mul-nodes : goal.overflow_mul-nodes
-overflow_mul-nodes t c = let (_, (_, circuits_room)) = c.requires in
+overflow_mul-nodes t c = let (_, circuits_room) = c.requires in
     let if1-left = c.if-left-eq0.false in
     let if2-taken = c.if-log-from-eq-CLAIM_LOGGED.true in
     let put-circuit = c.put_circuit-nodes.ensures in
@@ -64,7 +64,7 @@ overflow_mul-nodes t c = let (_, (_, circuits_room)) = c.requires in
     omega arith
 
 pub overflow_add-at : goal.overflow_add-at
-overflow_add-at t c = let (_, (_, circuits_room)) = c.requires in
+overflow_add-at t c = let (_, circuits_room) = c.requires in
     let if1-left = c.if-left-eq0.false in
     let if2-taken = c.if-log-from-eq-CLAIM_LOGGED.true in
     let put-circuit = c.put_circuit-nodes in
@@ -73,7 +73,7 @@ overflow_add-at t c = let (_, (_, circuits_room)) = c.requires in
     omega (arith, later.bytes, put-circuit.auto.out)
 
 pub overflow_add-base-then-log-from-eq-CLAIM_LOGGED : goal.overflow_add-base-then-log-from-eq-CLAIM_LOGGED
-overflow_add-base-then-log-from-eq-CLAIM_LOGGED t c = let (_, (_, circuits_room)) = c.requires in
+overflow_add-base-then-log-from-eq-CLAIM_LOGGED t c = let (_, circuits_room) = c.requires in
     let if1-left = c.if-left-eq0.false in
     let if2-taken = c.if-log-from-eq-CLAIM_LOGGED.true in
     let put-circuit = c.put_circuit-nodes.ensures in
@@ -81,14 +81,14 @@ overflow_add-base-then-log-from-eq-CLAIM_LOGGED t c = let (_, (_, circuits_room)
     omega arith
 
 pub put_circuits-later-requires : goal.put_circuits-later-requires
-put_circuits-later-requires t c = let (context, (claimable, circuits_room)) = c.requires in
+put_circuits-later-requires t c = let (claimable, circuits_room) = c.requires in
     let if1-left = c.if-left-eq0.false in
     let if2-taken = c.if-log-from-eq-CLAIM_LOGGED.true in
     let put-circuit = c.put_circuit-nodes.ensures in let some = if1-left in
-    (omega arith, (context, (claimable_next _ _ _ _ _ if1-left claimable, room_circuits _ _ _ _ _ _ _ (room_same _ _ _ _ _ _ _ (claims_claim _ _ _ _ _ if1-left if2-taken) circuits_room) _ _ _ (record { circuit = put-circuit; claim = c.put_claim.ensures }))))
+    (omega arith, (claimable_next _ _ _ _ _ if1-left claimable, room_circuits _ _ _ _ _ _ _ (room_same _ _ _ _ _ _ _ (claims_claim _ _ _ _ _ if1-left if2-taken) circuits_room) _ _ _ (record { circuit = put-circuit; claim = c.put_claim.ensures })))
 
 pub overflow_add-result : goal.overflow_add-result
-overflow_add-result t c = let (_, (_, circuits_room)) = c.requires in
+overflow_add-result t c = let (_, circuits_room) = c.requires in
     let if1-left = c.if-left-eq0.false in
     let if2-taken = c.if-log-from-eq-CLAIM_LOGGED.true in
     let put-circuit = c.put_circuit-nodes.ensures in
@@ -98,7 +98,7 @@ overflow_add-result t c = let (_, (_, circuits_room)) = c.requires in
     omega (arith, later.space, put-circuits-count, put-claim.auto.numbers)
 
 pub overflow_add-result-then-log-from-eq-CLAIM_LOGGED : goal.overflow_add-result-then-log-from-eq-CLAIM_LOGGED
-overflow_add-result-then-log-from-eq-CLAIM_LOGGED t c = let (_, (_, circuits_room)) = c.requires in
+overflow_add-result-then-log-from-eq-CLAIM_LOGGED t c = let (_, circuits_room) = c.requires in
     let if1-left = c.if-left-eq0.false in
     let if2-taken = c.if-log-from-eq-CLAIM_LOGGED.true in
     let put-circuit = c.put_circuit-nodes.ensures in
@@ -107,18 +107,10 @@ overflow_add-result-then-log-from-eq-CLAIM_LOGGED t c = let (_, (_, circuits_roo
     let later = room_circuits _ _ _ _ _ _ _ (room_same _ _ _ _ _ _ _ (claims_claim _ _ _ _ _ if1-left if2-taken) circuits_room) _ _ _ (record { circuit = put-circuit; claim = put-claim }) in
     omega (arith, later.numbers, put-circuits-nodes)
 
-pub overflow_add-from-else-log-from-eq-CLAIM_LOGGED : goal.overflow_add-from-else-log-from-eq-CLAIM_LOGGED
-overflow_add-from-else-log-from-eq-CLAIM_LOGGED t c = let (_, (claimable, _)) = c.requires in
-    let some = c.if-left-eq0.false in
-    omega (arith, claimable.space)
-
-pub overflow_sub-left-else-log-from-eq-CLAIM_LOGGED : goal.overflow_sub-left-else-log-from-eq-CLAIM_LOGGED
-overflow_sub-left-else-log-from-eq-CLAIM_LOGGED t c = let some = c.if-left-eq0.false in omega arith
-
 pub put_circuits-requires : goal.put_circuits-requires
-put_circuits-requires t c = let (context, (claimable, circuits_room)) = c.requires in
+put_circuits-requires t c = let (claimable, circuits_room) = c.requires in
     let if1-left = c.if-left-eq0.false in let some = if1-left in
-    (omega arith, (context, (claimable_next _ _ _ _ _ if1-left claimable, room_same _ _ _ _ _ _ _ (claims_other _ _ _ _ _ if1-left c.if-log-from-eq-CLAIM_LOGGED.false) circuits_room)))
+    (omega arith, (claimable_next _ _ _ _ _ if1-left claimable, room_same _ _ _ _ _ _ _ (claims_other _ _ _ _ _ if1-left c.if-log-from-eq-CLAIM_LOGGED.false) circuits_room))
 
 pub returns-then-left-eq0 : goal.returns-then-left-eq0
 returns-then-left-eq0 t c = put_same _ _ _ _ _ _ _ _ _ _ (claims_none _ _ _ _ _ c.if-left-eq0.true) (put_none _ _ _ _ _)
@@ -132,7 +124,7 @@ shape_of-out-then-log-from-eq-CLAIM_LOGGED t c = let put-circuit-kept = c.put_ci
     put-circuits-kept ∙ put-circuit-kept
 
 pub returns-then-log-from-eq-CLAIM_LOGGED : goal.returns-then-log-from-eq-CLAIM_LOGGED
-returns-then-log-from-eq-CLAIM_LOGGED t c = let (_, (_, circuits_room)) = c.requires in
+returns-then-log-from-eq-CLAIM_LOGGED t c = let (_, circuits_room) = c.requires in
     let if1-left = c.if-left-eq0.false in
     let if2-taken = c.if-log-from-eq-CLAIM_LOGGED.true in
     let put-circuit = c.put_circuit-nodes.ensures in

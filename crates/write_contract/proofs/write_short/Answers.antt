@@ -8,8 +8,8 @@ pub check_in-number-requires : goal.check_in-number-requires
 check_in-number-requires c = (
   c.requires.0,
   record {
-    for_nodes = λ h. omega (arith, c.requires.1, c.short_node_room-source.ensures);
-    for_owners = λ h. omega (arith, c.requires.1, c.short_column_room-owners.ensures);
+    for_nodes = λ h. omega (arith, c.requires.1, c.numbers_room-source.ensures.0);
+    for_owners = λ h. omega (arith, c.requires.1, c.numbers_room-owners.ensures.0);
   },
 )
 
@@ -22,7 +22,7 @@ pub slice_bounds-source-end : goal.slice_bounds-source-end
 slice_bounds-source-end c = omega (arith, c.requires.1)
 
 pub slice_bounds-write_accepted-end : goal.slice_bounds-write_accepted-end
-slice_bounds-write_accepted-end c = sym (length-take-le _ _ (omega (arith, c.requires.1, c.short_node_room-source.ensures)))
+slice_bounds-write_accepted-end c = sym (length-take-le _ _ (omega (arith, c.requires.1, c.numbers_room-source.ensures.0)))
 
 pub write_accepted-requires : goal.write_accepted-requires
 write_accepted-requires c = let check = c.check_in-number in

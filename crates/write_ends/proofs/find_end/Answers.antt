@@ -1,19 +1,19 @@
-use Rattle.std.specs.Prelude.{◌+◌}
-use Rattle.kit.specs.Names.{refl, arith, rules}
-use Rattle.write_ends.proofs.Turns.{end_here, end_later, no_end}
+use Rattle.std.proofs.Common.{rules, tests}
+use Rattle.std.proofs.lemmas.Iterator.{YieldsList-from_slice}
+use Rattle.std.proofs.lemmas.Iterator.Search.{position_from_yields_List}
+use Rattle.write_ends.proofs.Turns.{is_end, end_found, no_end}
 use Rattle.write_ends.proofs.find_end.Goals as goal
 
-pub loop-i-init : goal.loop-i-init
-loop-i-init c = (c.requires, record { place = refl; variable = refl })
+pub returns-in-Some : goal.returns-in-Some
+returns-in-Some c =
+    let from_slice = YieldsList-from_slice c.as_chunks.result.0.now c.iter.ensures.rest in
+    let answers = position_from_yields_List is_end _ _ c.position.result c.position.ensures.ran from_slice
+    (λ x b q k. search (rules, tests)) in
+    end_found c.args.log.now c.args.from _ c.as_chunks.ensures.front c.as_chunks.ensures.front_len _ answers _ c.in-Some.is
 
-pub overflow_cast-result : goal.overflow_cast-result
-overflow_cast-result c = omega (arith, c.shared_slice_known-then-log-i-eq-END_LOGGED-1.given (c.loop-i.i + 1))
-
-pub returns-then-log-i-eq-END_LOGGED : goal.returns-then-log-i-eq-END_LOGGED
-returns-then-log-i-eq-END_LOGGED c = end_here _ _ _ c.loop-i.invariant.1 c.loop-i-test.true c.if-log-i-eq-END_LOGGED.true
-
-pub loop-i-preserved : goal.loop-i-preserved
-loop-i-preserved c = (search rules, end_later _ _ _ c.loop-i.invariant.1 c.loop-i-test.true c.if-log-i-eq-END_LOGGED.false)
-
-pub returns : goal.returns
-returns c = no_end _ _ _ c.loop-i.invariant.1 (omega (arith, c.loop-i-test.false))
+pub returns-in-None : goal.returns-in-None
+returns-in-None c =
+    let from_slice = YieldsList-from_slice c.as_chunks.result.0.now c.iter.ensures.rest in
+    let answers = position_from_yields_List is_end _ _ c.position.result c.position.ensures.ran from_slice
+    (λ x b q k. search (rules, tests)) in
+    no_end c.args.log.now c.args.from _ c.as_chunks.ensures.front c.as_chunks.ensures.front_len _ answers c.in-None.is

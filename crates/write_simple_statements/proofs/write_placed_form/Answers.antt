@@ -4,20 +4,20 @@ use Rattle.write_simple_statements.proofs.Places.{placed_supplied, placed_privat
 use Rattle.write_simple_statements.proofs.write_placed_form.Goals as goal
 
 pub is_public-requires : goal.is_public-requires
-is_public-requires c = let (n-bound, (context, _)) = c.requires in (n-bound, context)
+is_public-requires c = let (n-bound, _) = c.requires in n-bound
 
 pub put_leaf-requires : goal.put_leaf-requires
-put_leaf-requires c = let (_, (_, (_, room))) = c.requires in room_any _ _ _ _ room
+put_leaf-requires c = let (_, (_, room)) = c.requires in room_any _ _ _ _ room
 
 pub write_body_form-requires : goal.write_body_form-requires
 write_body_form-requires c = let args = c.args in
-    let (n-bound, (context, (i-bound, room))) = c.requires in let is_public_law = c.is_public.ensures in
+    let (n-bound, (i-bound, room)) = c.requires in let is_public_law = c.is_public.ensures in
     let if2-left = c.if-is_public.false in let h = counted_private _ _ 0 args.private _ is_public_law if2-left in
-    (n-bound, (context, (omega (arith, i-bound), room_as _ _ _ _ _ (placed_private _ _ args.next.variable args.private _ is_public_law if2-left) room)))
+    (n-bound, (omega (arith, i-bound), room_as _ _ _ _ _ (placed_private _ _ args.next.variable args.private _ is_public_law if2-left) room))
 
 pub write_body_form-requires-else-private : goal.write_body_form-requires-else-private
-write_body_form-requires-else-private c = let (n-bound, (context, room)) = c.requires in
-    (n-bound, (context, rw c.if-private.false at room))
+write_body_form-requires-else-private c = let (n-bound, room) = c.requires in
+    (n-bound, rw c.if-private.false at room)
 
 pub shape_of-out-then-is_public : goal.shape_of-out-then-is_public
 shape_of-out-then-is_public c = c.put_leaf.auto.out

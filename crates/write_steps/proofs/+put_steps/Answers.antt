@@ -5,111 +5,111 @@ use Rattle.write_steps.proofs.Turns.{room_same, put_same, put_none, room_step, r
 use Rattle.write_steps.proofs.+put_steps.Goals as goal
 
 pub offset_bounds-log-from : goal.offset_bounds-log-from
-offset_bounds-log-from t c = let (_, (readable, _)) = c.requires in let some = c.if-left-eq0.false in
+offset_bounds-log-from t c = let (readable, _) = c.requires in let some = c.if-left-eq0.false in
     omega (arith, readable.space)
 
 pub bounds-log-from : goal.bounds-log-from
-bounds-log-from t c = let (_, (readable, _)) = c.requires in let some = c.if-left-eq0.false in
+bounds-log-from t c = let (readable, _) = c.requires in let some = c.if-left-eq0.false in
     omega (arith, readable.space)
 
 pub overflow_add-variable : goal.overflow_add-variable
-overflow_add-variable t c = let (_, (readable, _)) = c.requires in
+overflow_add-variable t c = let (readable, _) = c.requires in
     let some = c.if-left-eq0.false in
     omega (arith, readable.space)
 
 pub offset_bounds-log-from-then-log-from-eq-READ_LOGGED : goal.offset_bounds-log-from-then-log-from-eq-READ_LOGGED
-offset_bounds-log-from-then-log-from-eq-READ_LOGGED t c = let (_, (readable, _)) = c.requires in
+offset_bounds-log-from-then-log-from-eq-READ_LOGGED t c = let (readable, _) = c.requires in
     let some = c.if-left-eq0.false in
     omega (arith, readable.space)
 
 pub bounds-log-from-then-log-from-eq-READ_LOGGED : goal.bounds-log-from-then-log-from-eq-READ_LOGGED
-bounds-log-from-then-log-from-eq-READ_LOGGED t c = let (_, (readable, _)) = c.requires in
+bounds-log-from-then-log-from-eq-READ_LOGGED t c = let (readable, _) = c.requires in
     let some = c.if-left-eq0.false in omega (arith, readable.space)
 
 pub overflow_cast-variable : goal.overflow_cast-variable
 overflow_cast-variable t c = omega (arith, c.shared_slice_known-then-log-from-eq-READ_LOGGED-1.given (c.args.run.from + 1))
 
 pub overflow_add-n : goal.overflow_add-n
-overflow_add-n t c = let (_, (readable, _)) = c.requires in
+overflow_add-n t c = let (readable, _) = c.requires in
     let some = c.if-left-eq0.false in omega (arith, readable.space)
 
 pub offset_bounds-log-from-then-log-from-eq-READ_LOGGED-2 : goal.offset_bounds-log-from-then-log-from-eq-READ_LOGGED-2
-offset_bounds-log-from-then-log-from-eq-READ_LOGGED-2 t c = let (_, (readable, _)) = c.requires in
+offset_bounds-log-from-then-log-from-eq-READ_LOGGED-2 t c = let (readable, _) = c.requires in
     let some = c.if-left-eq0.false in omega (arith, readable.space)
 
 pub bounds-log-from-then-log-from-eq-READ_LOGGED-2 : goal.bounds-log-from-then-log-from-eq-READ_LOGGED-2
-bounds-log-from-then-log-from-eq-READ_LOGGED-2 t c = let (_, (readable, _)) = c.requires in
+bounds-log-from-then-log-from-eq-READ_LOGGED-2 t c = let (readable, _) = c.requires in
     let some = c.if-left-eq0.false in omega (arith, readable.space)
 
 pub overflow_cast-n : goal.overflow_cast-n
 overflow_cast-n t c = omega (arith, c.shared_slice_known-then-log-from-eq-READ_LOGGED-2-1.given (c.args.run.from + 3))
 
 pub overflow_add-i : goal.overflow_add-i
-overflow_add-i t c = let (_, (readable, _)) = c.requires in
+overflow_add-i t c = let (readable, _) = c.requires in
     let some = c.if-left-eq0.false in omega (arith, readable.space)
 
 pub offset_bounds-log-from-then-log-from-eq-READ_LOGGED-3 : goal.offset_bounds-log-from-then-log-from-eq-READ_LOGGED-3
-offset_bounds-log-from-then-log-from-eq-READ_LOGGED-3 t c = let (_, (readable, _)) = c.requires in
+offset_bounds-log-from-then-log-from-eq-READ_LOGGED-3 t c = let (readable, _) = c.requires in
     let some = c.if-left-eq0.false in omega (arith, readable.space)
 
 pub bounds-log-from-then-log-from-eq-READ_LOGGED-3 : goal.bounds-log-from-then-log-from-eq-READ_LOGGED-3
-bounds-log-from-then-log-from-eq-READ_LOGGED-3 t c = let (_, (readable, _)) = c.requires in
+bounds-log-from-then-log-from-eq-READ_LOGGED-3 t c = let (readable, _) = c.requires in
     let some = c.if-left-eq0.false in omega (arith, readable.space)
 
 pub overflow_cast-i : goal.overflow_cast-i
 overflow_cast-i t c = omega (arith, c.shared_slice_known-then-log-from-eq-READ_LOGGED-3-1.given (c.args.run.from + 4))
 
 pub put_step-nodes-requires : goal.put_step-nodes-requires
-put_step-nodes-requires t c = let (context, (readable, steps-room)) = c.requires in
+put_step-nodes-requires t c = let (readable, steps-room) = c.requires in
     let if1-left = c.if-left-eq0.false in
     let if2-taken = c.if-log-from-eq-READ_LOGGED.true in
-    (readable_inside _ _ _ _ _ if1-left readable if2-taken, (context, (readable_few _ _ _ _ _ if1-left readable if2-taken, room_step _ _ _ _ _ _ _ (room_same _ _ _ _ _ _ _ (steps_read _ _ _ _ _ if1-left if2-taken) steps-room))))
+    (readable_inside _ _ _ _ _ if1-left readable if2-taken, (readable_few _ _ _ _ _ if1-left readable if2-taken, room_step _ _ _ _ _ _ _ (room_same _ _ _ _ _ _ _ (steps_read _ _ _ _ _ if1-left if2-taken) steps-room)))
 
 pub overflow_add-base : goal.overflow_add-base
-overflow_add-base t c = let (_, (_, steps-room)) = c.requires in
+overflow_add-base t c = let (_, steps-room) = c.requires in
     let if1-left = c.if-left-eq0.false in
     let if2-taken = c.if-log-from-eq-READ_LOGGED.true in
     let fits = root_fits _ _ _ _ _ _ _ (room_same _ _ _ _ _ _ _ (steps_read _ _ _ _ _ if1-left if2-taken) steps-room) _ _ c.put_step-nodes.ensures _ refl in
     omega arith
 
 pub overflow_sub-base : goal.overflow_sub-base
-overflow_sub-base t c = let (_, (_, steps-room)) = c.requires in
+overflow_sub-base t c = let (_, steps-room) = c.requires in
     let if1-left = c.if-left-eq0.false in
     let if2-taken = c.if-log-from-eq-READ_LOGGED.true in
     let fits = root_fits _ _ _ _ _ _ _ (room_same _ _ _ _ _ _ _ (steps_read _ _ _ _ _ if1-left if2-taken) steps-room) _ _ c.put_step-nodes.ensures _ refl in
     omega arith
 
 pub overflow_cast-base : goal.overflow_cast-base
-overflow_cast-base t c = let (_, (_, steps-room)) = c.requires in
+overflow_cast-base t c = let (_, steps-room) = c.requires in
     let if1-left = c.if-left-eq0.false in
     let if2-taken = c.if-log-from-eq-READ_LOGGED.true in
     let fits = root_fits _ _ _ _ _ _ _ (room_same _ _ _ _ _ _ _ (steps_read _ _ _ _ _ if1-left if2-taken) steps-room) _ _ c.put_step-nodes.ensures _ refl in
     omega arith
 
 pub put_number-requires : goal.put_number-requires
-put_number-requires t c = let (_, (_, steps-room)) = c.requires in
+put_number-requires t c = let (_, steps-room) = c.requires in
     let if1-left = c.if-left-eq0.false in
     let if2-taken = c.if-log-from-eq-READ_LOGGED.true in
     room_root _ _ _ _ _ _ _ (room_same _ _ _ _ _ _ _ (steps_read _ _ _ _ _ if1-left if2-taken) steps-room)
 
-pub overflow_add-from : goal.overflow_add-from
-overflow_add-from t c = let (_, (readable, _)) = c.requires in
+pub overflow_add-rest : goal.overflow_add-rest
+overflow_add-rest t c = let (readable, _) = c.requires in
     let if1-left = c.if-left-eq0.false in
     let some = if1-left in omega (arith, readable.space)
 
-pub overflow_sub-left : goal.overflow_sub-left
-overflow_sub-left t c = let some = c.if-left-eq0.false in
+pub overflow_sub-rest : goal.overflow_sub-rest
+overflow_sub-rest t c = let some = c.if-left-eq0.false in
     omega arith
 
 pub overflow_add-noted : goal.overflow_add-noted
-overflow_add-noted t c = let (_, (_, steps-room)) = c.requires in
+overflow_add-noted t c = let (_, steps-room) = c.requires in
     let if1-left = c.if-left-eq0.false in
     let if2-taken = c.if-log-from-eq-READ_LOGGED.true in
     let inside = room_root _ _ _ _ _ _ _ (room_same _ _ _ _ _ _ _ (steps_read _ _ _ _ _ if1-left if2-taken) steps-room) in
     omega (arith)
 
 pub overflow_mul-nodes : goal.overflow_mul-nodes
-overflow_mul-nodes t c = let (_, (_, steps-room)) = c.requires in
+overflow_mul-nodes t c = let (_, steps-room) = c.requires in
     let if1-left = c.if-left-eq0.false in
     let if2-taken = c.if-log-from-eq-READ_LOGGED.true in
     let put_step = c.put_step-nodes.ensures in
@@ -117,7 +117,7 @@ overflow_mul-nodes t c = let (_, (_, steps-room)) = c.requires in
     omega arith
 
 pub overflow_add-at : goal.overflow_add-at
-overflow_add-at t c = let (_, (_, steps-room)) = c.requires in
+overflow_add-at t c = let (_, steps-room) = c.requires in
     let if1-left = c.if-left-eq0.false in
     let if2-taken = c.if-log-from-eq-READ_LOGGED.true in
     let put_step = c.put_step-nodes in
@@ -126,7 +126,7 @@ overflow_add-at t c = let (_, (_, steps-room)) = c.requires in
     omega (arith, later.bytes, put_step.auto.out)
 
 pub overflow_add-base-then-log-from-eq-READ_LOGGED : goal.overflow_add-base-then-log-from-eq-READ_LOGGED
-overflow_add-base-then-log-from-eq-READ_LOGGED t c = let (_, (_, steps-room)) = c.requires in
+overflow_add-base-then-log-from-eq-READ_LOGGED t c = let (_, steps-room) = c.requires in
     let if1-left = c.if-left-eq0.false in
     let if2-taken = c.if-log-from-eq-READ_LOGGED.true in
     let put_step = c.put_step-nodes.ensures in
@@ -134,14 +134,14 @@ overflow_add-base-then-log-from-eq-READ_LOGGED t c = let (_, (_, steps-room)) = 
     omega arith
 
 pub put_steps-later-requires : goal.put_steps-later-requires
-put_steps-later-requires t c = let (context, (readable, steps-room)) = c.requires in
+put_steps-later-requires t c = let (readable, steps-room) = c.requires in
     let if1-left = c.if-left-eq0.false in
     let if2-taken = c.if-log-from-eq-READ_LOGGED.true in
     let put_step = c.put_step-nodes.ensures in let some = if1-left in
-    (omega arith, (context, ((readable_next _ _ _ _ _ if1-left readable), room_steps _ _ _ _ _ _ _ (room_same _ _ _ _ _ _ _ (steps_read _ _ _ _ _ if1-left if2-taken) steps-room) _ _ put_step _ c.put_number.ensures)))
+    (omega arith, ((readable_next _ _ _ _ _ if1-left readable), room_steps _ _ _ _ _ _ _ (room_same _ _ _ _ _ _ _ (steps_read _ _ _ _ _ if1-left if2-taken) steps-room) _ _ put_step _ c.put_number.ensures))
 
 pub overflow_add-result : goal.overflow_add-result
-overflow_add-result t c = let (_, (_, steps-room)) = c.requires in
+overflow_add-result t c = let (_, steps-room) = c.requires in
     let if1-left = c.if-left-eq0.false in
     let if2-taken = c.if-log-from-eq-READ_LOGGED.true in
     let put_step = c.put_step-nodes.ensures in
@@ -151,7 +151,7 @@ overflow_add-result t c = let (_, (_, steps-room)) = c.requires in
     omega (arith, later.space, put-steps-count, put-number.auto.out)
 
 pub overflow_add-result-then-log-from-eq-READ_LOGGED : goal.overflow_add-result-then-log-from-eq-READ_LOGGED
-overflow_add-result-then-log-from-eq-READ_LOGGED t c = let (_, (_, steps-room)) = c.requires in
+overflow_add-result-then-log-from-eq-READ_LOGGED t c = let (_, steps-room) = c.requires in
     let if1-left = c.if-left-eq0.false in
     let if2-taken = c.if-log-from-eq-READ_LOGGED.true in
     let put_step = c.put_step-nodes.ensures in
@@ -160,18 +160,10 @@ overflow_add-result-then-log-from-eq-READ_LOGGED t c = let (_, (_, steps-room)) 
     let later = room_steps _ _ _ _ _ _ _ (room_same _ _ _ _ _ _ _ (steps_read _ _ _ _ _ if1-left if2-taken) steps-room) _ _ put_step _ put-number in
     omega (arith, later.numbers, put-steps-nodes)
 
-pub overflow_add-from-else-log-from-eq-READ_LOGGED : goal.overflow_add-from-else-log-from-eq-READ_LOGGED
-overflow_add-from-else-log-from-eq-READ_LOGGED t c = let (_, (readable, _)) = c.requires in
-    let some = c.if-left-eq0.false in
-    omega (arith, readable.space)
-
-pub overflow_sub-left-else-log-from-eq-READ_LOGGED : goal.overflow_sub-left-else-log-from-eq-READ_LOGGED
-overflow_sub-left-else-log-from-eq-READ_LOGGED t c = let some = c.if-left-eq0.false in omega arith
-
 pub put_steps-requires : goal.put_steps-requires
-put_steps-requires t c = let (context, (readable, steps-room)) = c.requires in
+put_steps-requires t c = let (readable, steps-room) = c.requires in
     let if1-left = c.if-left-eq0.false in let some = if1-left in
-    (omega arith, (context, ((readable_next _ _ _ _ _ if1-left readable), room_same _ _ _ _ _ _ _ (steps_other _ _ _ _ _ if1-left c.if-log-from-eq-READ_LOGGED.false) steps-room)))
+    (omega arith, ((readable_next _ _ _ _ _ if1-left readable), room_same _ _ _ _ _ _ _ (steps_other _ _ _ _ _ if1-left c.if-log-from-eq-READ_LOGGED.false) steps-room))
 
 pub returns-then-left-eq0 : goal.returns-then-left-eq0
 returns-then-left-eq0 t c = put_same _ _ _ _ _ _ _ _ _ _ (steps_none _ _ _ _ _ c.if-left-eq0.true) (put_none _ _ _ _ _)
@@ -185,7 +177,7 @@ shape_of-out-then-log-from-eq-READ_LOGGED t c = let put-step-kept = c.put_step-n
     put-steps-kept ∙ put-step-kept
 
 pub returns-then-log-from-eq-READ_LOGGED : goal.returns-then-log-from-eq-READ_LOGGED
-returns-then-log-from-eq-READ_LOGGED t c = let (_, (_, steps-room)) = c.requires in
+returns-then-log-from-eq-READ_LOGGED t c = let (_, steps-room) = c.requires in
     let if1-left = c.if-left-eq0.false in
     let if2-taken = c.if-log-from-eq-READ_LOGGED.true in
     let put_step = c.put_step-nodes.ensures in

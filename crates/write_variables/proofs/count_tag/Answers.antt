@@ -1,14 +1,13 @@
-use Rattle.kit.specs.Names.{arith}
-use Rattle.write_variables.proofs.PerEntry.{count_next, count_done}
+use Rattle.std.proofs.Common.{rules, tests}
+use Rattle.std.proofs.lemmas.Iterator.{YieldsList-from_slice}
+use Rattle.std.proofs.lemmas.Iterator.Consumers.{YieldsList-from_filter, count_from_yields_List}
+use Rattle.write_variables.proofs.PerEntry.{has_tag, tags_counted}
 use Rattle.write_variables.proofs.count_tag.Goals as goal
 
-pub loop-i-init : goal.loop-i-init
-loop-i-init c = (omega arith, omega arith, omega arith)
-
-pub loop-i-preserved : goal.loop-i-preserved
-loop-i-preserved c = let args = c.args in let (count_is, _, _) = c.loop-i.invariant in
-    (count_next args.log.now args.tag _ _ _ (omega arith) c.one_if_same-count.ensures.value count_is, omega arith, omega arith)
-
 pub returns : goal.returns
-returns c = let args = c.args in let (count_is, _, _) = c.loop-i.invariant in
-    count_done args.log.now args.tag _ c.loop-i.i (omega arith) count_is
+returns c = let args = c.args in
+    let entries = c.as_chunks.result.0.now in
+    tags_counted args.tag args.log.now entries c.as_chunks.ensures.front c.count.result
+    (count_from_yields_List c.filter.result _ c.count.ensures.ran
+    (YieldsList-from_filter _ (has_tag args.tag) (YieldsList-from_slice entries cc) c.filter.ensures.closure
+    (λ x b q k. search (rules, tests))))

@@ -4,7 +4,7 @@ use Rattle.rehearse_scripts.specs.Scripts.{numbers_at}
 use Rattle.test_ledgers.proofs.recorded.read_call.Goals as goal
 
 pub returns : goal.returns
-returns c = let count = c.byte_at-count.ensures in let made = c.arguments-made.ensures in record {
+returns c = let count = c.byte_at-count.ensures in let made = c.numbers_at-arguments.ensures in record {
   function = c.byte_at-function.ensures.value;
   caller = c.byte_at-caller.ensures.value;
   counted = count.value;

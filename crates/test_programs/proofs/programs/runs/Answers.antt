@@ -4,7 +4,7 @@ use Rattle.test_programs.proofs.programs.runs.Goals as goal
 
 pub loop-k-init : goal.loop-k-init
 loop-k-init c = let parts = c.read_script-parts.ensures in
-    ((search rules, search rules), going_start _ _ _ _ parts.party parts.calls _ _ c.line_end-at.ensures)
+    (search rules, going_start _ _ _ _ parts.party parts.calls _ _ c.line_end-at.ensures)
 
 pub returns-then-at-eq0 : goal.returns-then-at-eq0
 returns-then-at-eq0 c = let parts = c.read_script-parts.ensures in
@@ -12,7 +12,7 @@ returns-then-at-eq0 c = let parts = c.read_script-parts.ensures in
 
 pub loop-k-preserved : goal.loop-k-preserved
 loop-k-preserved c = let parts = c.read_script-parts.ensures in (
-  (search rules, search rules),
+  search rules,
   going_called _ _ _ _ parts.party parts.calls _ _ _ c.loop-k.k c.loop-k.at _ (search rules) c.if-at-eq0.false c.call_at-called.ensures
       c.line_end-at-in-loop-k.ensures c.loop-k.invariant.1,
 )

@@ -1,6 +1,0 @@
--- The room's length, by the law of `replicate` and not by counting.
-use Rattle.kit.specs.Names.{sym, ℕ, length-replicate}
-use Rattle.rules_links.proofs.class_room.Goals as goal
-
-pub returns : goal.returns
-returns c = sym (length-replicate {0} {A = ℕ} 74 0)
