@@ -20,7 +20,7 @@ module _ (test : FunctionRecord → Bool) (left : ℕ) (functions : List ℕ) (a
   pub roots_noted : left ≤ 0 → noted ≡ goal
   roots_noted h = noted_done test noted _ goal (functions_end_law parameters functions at left h) inv
 
-number_of_roots : (deep wrong a b : Bool) → a ≡ deep → b ≡ wrong → cond {A = ℕ} a 6 (cond b 7 0) ≡ first_that_holds 6 (deep ∷ wrong ∷ [])
+pub number_of_roots : (deep wrong a b : Bool) → a ≡ deep → b ≡ wrong → cond {A = ℕ} a 6 (cond b 7 0) ≡ first_that_holds 6 (deep ∷ wrong ∷ [])
 unfolding first_that_holds
 number_of_roots deep wrong a b e f = rw (e, f)
 

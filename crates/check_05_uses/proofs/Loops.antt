@@ -1,8 +1,7 @@
 -- The loops that count uses: what is left to count leads to the same counts.
 use Rattle.std.specs.Prelude.{◌≡◌, ◌||◌, ◌∷◌, ◌++◌, ◌+◌, ◌*◌, ◌-◌, ◌<◌, ◌≤◌}
-use Rattle.std.specs.List.{list_any}
-use Rattle.kit.specs.Names.{refl, ap, sym, ◌∙◌, Bool, not, List, [], map, ℕ, zero, suc}
-use Rattle.kit.specs.Names.{arith, eqb, length, get_or, take, drop, drop-cons, replicate, get_or-replicate}
+use Rattle.kit.specs.Names.{refl, ap, sym, ◌∙◌, Bool, not, or_assoc, or-false, List, [], map, ℕ, zero, suc}
+use Rattle.kit.specs.Names.{arith, add-one, eqb, length, get_or, take, replicate, get_or-replicate}
 use Rattle.definitions.specs.Basics.{any_numbered, count_if, flat_map}
 use Rattle.definitions.specs.ContractFile.{NodeRecord, Sections, node_of, children}
 use Rattle.definitions.specs.Numbers.{uses_of, used_other_than_once}
@@ -67,14 +66,19 @@ room_after_node r a b left more h c room =
     (let few : length (children (node_of r)) ≤ 3 = rw (children_are r)
     (take_few (child_count r.kind) r.first r.second r.third) in omega arith)
 
--- Whether some of the counts from a place on passes a test.
-pub any_from_list : (test : ℕ → Bool) (counts : List ℕ) (n left : ℕ) → n + left ≤ length counts
-    → list_any test (take left (drop n counts)) ≡ any_from (λ k. test (get_or counts k 0)) n left
+-- The loop over the counts.
+pub from_next : (test : ℕ → Bool) (n left : ℕ) (noted goal : Bool) → noted || any_from test n left ≡ goal → 0 < left
+    → (noted || test n) || any_from test (n + 1) (left - 1) ≡ goal
 unfolding any_from
-any_from_list test counts n zero h = refl
-any_from_list test counts n (suc left) h =
-    let inside : n < length counts = omega arith in
-    rw (drop-cons counts n 0) (ap (λ (b : Bool). test (get_or counts n 0) || b) (any_from_list test counts (suc n) left (omega arith)))
+from_next test n zero noted goal inv h = absurd (omega arith)
+from_next test n (suc left) noted goal inv h =
+    let e : suc left - 1 ≡ left = omega arith in
+    rw (e, add-one) (or_assoc noted (test n) (any_from test (suc n) left) ∙ inv)
+
+pub from_done : (test : ℕ → Bool) (n left : ℕ) (noted goal : Bool) → noted || any_from test n left ≡ goal → left ≤ 0 → noted ≡ goal
+unfolding any_from
+from_done test n zero noted goal inv h = sym (or-false noted) ∙ inv
+from_done test n (suc left) noted goal inv h = absurd (omega arith)
 
 -- Number 5 in the counts.
 numbered_from : {A : Type 0} (test : ℕ → Bool) (n : ℕ) (xs : List A) → any_numbered (λ k x. test k) n xs ≡ any_from test n (length xs)

@@ -20,5 +20,9 @@ pub fn some_other_than_one(counts: &[u16; 512], count: usize) -> bool
     requires { count ≤ 512 }
     ensures { result ≡ any_from (other_than_one counts.now) 0 count }
 {
-    counts[..count].iter().any(|uses| *uses != 1)
+    let mut other = false;
+    for uses in &counts[..count] {
+        other = other | (*uses != 1);
+    }
+    other
 }

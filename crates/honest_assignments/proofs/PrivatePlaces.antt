@@ -1,14 +1,20 @@
--- What an assignment leaves.
+-- Whether a place is private, by its code; and what an assignment leaves.
 use Rattle.std.specs.Prelude.{◌≡◌}
-use Rattle.kit.specs.Names.{Bool, cond, not, List, none, ℕ, set}
-use Rattle.definitions.specs.ContractFile.{Owner, field_at, is_everyone}
+use Rattle.kit.specs.Names.{ap, sym, ◌∙◌, Bool, cond, not, List, Option, none, ℕ, eqb, set}
+use Rattle.definitions.specs.ContractFile.{Name, Owner, FieldOwner, field_at, is_everyone, field_owner_code}
 use Rattle.definitions.specs.Owners.{name_of, place_owner}
+use Rattle.rewrite_owners.specs.Codes.{name_code, place_code}
 use Rattle.file_accepted.specs.Context.{fields_in, scope_in}
 use Rattle.rewrite_plans.specs.Plans.{node_expression}
 use Rattle.honest_supplies.specs.Supplies.{supplied_number, body_in, placed_in, Ready, Wrote}
 use Rattle.honest_supplies.proofs.Writing.{wrote_turn, room_first, room_second}
 use Rattle.honest_supplies.proofs.Steps.{placed_ready, placed_wrote}
 use Rattle.honest_assignments.specs.Assigned.{field_events, keyed_events, entry_events, FieldReady, EntryReady}
+use Rattle.rewrite_owners.proofs.Codes.{place_code_law, public_test}
+
+pub private_is_law : (code owner named : ℕ) (o : FieldOwner) (key : Option Name) → code ≡ place_code owner named → owner ≡ field_owner_code o → named ≡ name_code key
+    → not (eqb code 0) ≡ not (is_everyone (place_owner o key))
+private_is_law code owner named o key a b c = ap not (public_test code (place_owner o key) (a ∙ ap (λ (m : ℕ). place_code m named) b ∙ ap (place_code (field_owner_code o)) c ∙ sym (place_code_law o key)))
 
 module _ (taken : Bool) (before after : List ℕ) where
   pub put_at : (p q v w : ℕ) → p ≡ q → v ≡ w → after ≡ cond taken (set before p v) before → after ≡ cond taken (set before q w) before

@@ -1,11 +1,8 @@
 -- Steps of the loops between places and flat numbers.
-use Rattle.std.specs.Prelude.{◌≡◌, ◌∷◌, ◌++◌, ◌+◌, ◌-◌, ◌*◌, ◌/◌, ◌<◌, ◌≤◌}
+use Rattle.std.specs.Prelude.{◌≡◌, ◌∷◌, ◌++◌, ◌+◌, ◌*◌, ◌/◌, ◌<◌, ◌≤◌}
 use Rattle.kit.specs.Names.{refl, ap, sym, ◌∙◌, Bool, true, false, List, [], map, ℕ, min, arith}
 use Rattle.kit.specs.Names.{add-one, leb, length, get_or, set, take, drop, replicate, length-map, length-append, length-drop, take-suc}
-use Rattle.kit.specs.Names.{take-suc-set, take_all, take_at, length-take-le, leb-true, leb-false, inl, inr, ext_get_or, get_or_append}
-use Rattle.kit.specs.Names.{get_or_eq_default, get_or-replicate}
-use Rattle.std.proofs.lemmas.Bool.{cases_lt}
-use Rattle.std.proofs.lemmas.List.{get_or-map, get_or-append_right}
+use Rattle.kit.specs.Names.{take-suc-set, take_all, take_at, length-take-le, leb-true, leb-false, get_or_map}
 use Rattle.definitions.specs.Ledger as ledger
 use Rattle.theory_laws.proofs.Lists.{map-append}
 use Rattle.ledger_contents.specs.declared.Content.{Content}
@@ -15,7 +12,7 @@ use Rattle.ledger_contents.specs.Contents.{content_of_code, content_of_place, co
 use Rattle.ledger_contents.proofs.FlatContents.{length_contents_of}
 use Rattle.ledger_struct.specs.Ledgers.{Flat}
 use Rattle.ledger_struct.specs.Whole.{padded, code_of, place_of, zero_place, places_for}
-use Rattle.ledger_struct.proofs.Padding.{padded_none, padded_more, length-padded}
+use Rattle.ledger_struct.proofs.Padding.{padded_none, padded_next, padded_more}
 
 -- As many as there are, or all.
 pub take_many : {A : Type 0} (count many : ℕ) (l : List A) → many ≡ min count (length l) → take many l ≡ take count l
@@ -59,35 +56,25 @@ pub places_none : (n : ℕ) → replicate n zero_place ≡ places_for n []
 unfolding places_for
 places_none n = padded_none n zero_place
 
--- The place at each position is that of the content read there; behind the last content that is plain 0.
-filled_at : (flat : List ℕ) (n k : ℕ) (d : Place) → length flat / 5 ≤ n → k < n
-    → get_or (places_for n (contents_of flat)) k d ≡ place_of (ledger.content_at (contents_of flat) k)
-unfolding places_for padded
-filled_at flat n k d room inside =
-    let contents = contents_of flat in
-    let all = map place_of contents in
-    let behind = replicate (n - length all) zero_place in
-    let many = length_contents_of flat in
-    let few = length-map contents place_of in
-    elim (cases_lt k (length all)) [
-      | inl below ↦ get_or_append all behind d k below ∙ get_or-map place_of contents k (ledger.Content.plain 0) d (omega arith)
-      | inr past ↦
-          get_or-append_right all behind (length all) k d refl past ∙ get_or-replicate (n - length all) (k - length all) zero_place d (omega arith)
-          ∙ ap place_of (sym (get_or_eq_default contents (ledger.Content.plain 0) (omega arith)))
-    ]
+-- One place more is filled.
+pub fill_next : (flat : List ℕ) (i n : ℕ) (content : Content) → i < length flat / 5 → length flat / 5 ≤ n
+    → content_of_code content ≡ ledger.content_at (contents_of flat) i
+    → set (padded n zero_place (take i (map place_of (contents_of flat)))) i (record { content = content })
+    ≡ padded n zero_place (take (i + 1) (map place_of (contents_of flat)))
+fill_next flat i n content h k same =
+    let few : length (map place_of (contents_of flat)) ≡ length flat / 5 = length-map (contents_of flat) place_of ∙ length_contents_of flat in
+    let there : get_or (map place_of (contents_of flat)) i zero_place ≡ place_of (ledger.content_at (contents_of flat) i) =
+    get_or_map place_of (contents_of flat) i (ledger.Content.plain 0) in
+    let put : record { content = content } ≡ get_or (map place_of (contents_of flat)) i zero_place =
+    sym (there ∙ ap place_of (sym same) ∙ ap (λ (x : Content). record { content = x }) (code_back content)) in
+    rw put (padded_next n zero_place zero_place (map place_of (contents_of flat)) i (omega arith) (omega arith))
 
--- Places made one after another from the contents read.
-pub filled_all : (flat : List ℕ) (n : ℕ) (places : List Place) → length flat / 5 ≤ n → length places ≡ n
-    → ((k : ℕ) → k < n → content_of_place (get_or places k zero_place) ≡ ledger.content_at (contents_of flat) k) → places ≡ places_for n (contents_of flat)
+pub fill_done : (flat : List ℕ) (i n : ℕ) → i ≤ length flat / 5 → length flat / 5 ≤ i
+    → padded n zero_place (take i (map place_of (contents_of flat))) ≡ places_for n (contents_of flat)
 unfolding places_for
-filled_all flat n places room long read =
-    ext_get_or zero_place places (places_for n (contents_of flat)) (long ∙ sym (length-padded n zero_place (map place_of (contents_of flat)) (omega (arith, few))))
-    (λ k inside. let at : k < n = omega arith in
-    ap (λ (x : Content). record { content = x }) (sym (code_back (get_or places k zero_place).content)) ∙ ap place_of (read k at)
-    ∙ sym (filled_at flat n k zero_place room at))
-  where
-    few : length (map place_of (contents_of flat)) ≡ length flat / 5
-    few = length-map (contents_of flat) place_of ∙ length_contents_of flat
+fill_done flat i n a b =
+    let few : length (map place_of (contents_of flat)) ≡ length flat / 5 = length-map (contents_of flat) place_of ∙ length_contents_of flat in
+    rw (take_all i (map place_of (contents_of flat)) (omega arith))
 
 -- One place more stands behind those that are filled.
 pub place_next : (n : ℕ) (contents : List ledger.Content) (content : Content) → length contents < n

@@ -1,7 +1,7 @@
 -- Laws of a list that is filled up: how a loop fills it, its front.
 use Rattle.std.specs.Prelude.{◌≡◌, ◌∷◌, ◌++◌, ◌+◌, ◌-◌, ◌<◌, ◌≤◌}
 use Rattle.kit.specs.Names.{refl, List, [], append_assoc, ℕ, suc, arith, add-one, length, get_or, set}
-use Rattle.kit.specs.Names.{take, replicate, length-append, length-replicate, take-suc, set_at, take_at, length-take-le}
+use Rattle.kit.specs.Names.{take, replicate, length-append, take-suc, set_at, take_at, length-take-le}
 use Rattle.ledger_struct.specs.Whole.{padded}
 
 pub padded_none : {A : Type 0} (n : ℕ) (a : A) → replicate n a ≡ padded n a []
@@ -9,10 +9,6 @@ unfolding padded
 padded_none n a =
     let all : n - 0 ≡ n = omega arith in
     rw all
-
-pub length-padded : {A : Type 0} (n : ℕ) (a : A) (l : List A) → length l ≤ n → length (padded n a l) ≡ n
-unfolding padded
-length-padded n a l few = simp (length-append, length-replicate) (omega arith)
 
 pub take_padded : {A : Type 0} (n : ℕ) (a : A) (l : List A) → take (length l) (padded n a l) ≡ l
 unfolding padded

@@ -8,7 +8,6 @@ ghost use Rattle.ledger_struct.specs.Ledgers.{ledger_of, contents_in, Flat};
 ghost use Rattle.ledger_struct.specs.Whole.{places_for};
 
 use ledger_contents::{Content, Place};
-use std::array;
 
 // The outcome of a call: "(0 done, 1 failed)".
 pub const DONE: u8 = 0;
@@ -64,9 +63,16 @@ pub fn filled<const N: usize>(flat: &[u32]) -> [Place; N]
     requires { length flat.now / 5 ≤ N }
     ensures { result ≡ places_for N (contents_of flat.now) }
 {
-    array::from_fn(|p| Place {
-        content: ledger_contents::content_at(flat, p),
-    })
+    let zero = Place {
+        content: Content::Plain(0),
+    };
+    let mut places = [zero; N];
+    for p in 0..flat.len() / 5 {
+        places[p] = Place {
+            content: ledger_contents::content_at(flat, p),
+        };
+    }
+    places
 }
 
 // The contents of places at the front of a buffer with room for all of them. The answer is how many numbers they are.

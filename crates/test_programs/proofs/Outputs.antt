@@ -58,17 +58,17 @@ module _ (bytes : List ℕ) (i : ℕ) where
         let more : length bytes - i ≡ suc (length bytes - (i + 1)) = omega arith in
         rw (drop-cons bytes i 0 inside, more, add-one i)
 
-    pub unwritten_next : get_or bytes i 0 ≡ 170 → same_bytes (drop (i + 1) bytes) (unwritten (length bytes - (i + 1))) ≡ left_unwritten
-    unwritten_next e = rw (unwritten_step, eq-eqb (get_or bytes i 0) 170 e)
+    pub unwritten_seen : (seen : Bool) → ((seen && eqb (get_or bytes i 0) 170) && same_bytes (drop (i + 1) bytes) (unwritten (length bytes - (i + 1))))
+        ≡ (seen && left_unwritten)
+    unwritten_seen true = sym unwritten_step
+    unwritten_seen false = refl
 
-    pub unwritten_stops : (get_or bytes i 0 ≡ 170 → ⊥) → false ≡ left_unwritten
-    unwritten_stops h = rw (unwritten_step, ne_eqb (get_or bytes i 0) 170 h)
-
-  pub unwritten_ends : length bytes ≤ i → true ≡ left_unwritten
+  pub unwritten_ends : length bytes ≤ i → (seen : Bool) → seen ≡ (seen && left_unwritten)
   unfolding unwritten
-  unwritten_ends over =
+  unwritten_ends over true =
       let none : length bytes - i ≡ 0 = omega arith in
       rw (none, drop_of_length-le bytes over) (sym (same_itself []))
+  unwritten_ends over false = refl
 
 and_assoc : (s t u : Bool) → ((s && t) && u) ≡ (s && (t && u))
 and_assoc true t u = refl

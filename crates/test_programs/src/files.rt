@@ -25,12 +25,11 @@ fn fill(out: &mut [u8])
 fn is_unwritten(bytes: &[u8]) -> bool
     ensures { result ≡ same_bytes bytes.now (unwritten (length bytes.now)) }
 {
+    let mut unwritten = true;
     for byte in bytes {
-        if *byte != BEFORE {
-            return false;
-        }
+        unwritten = unwritten & (*byte == BEFORE);
     }
-    true
+    unwritten
 }
 
 // The bytes are at the front, and behind them nothing was written.

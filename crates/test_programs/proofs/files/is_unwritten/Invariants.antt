@@ -1,5 +1,5 @@
 -- What is left decides, as long as nothing before it was written.
-use Rattle.std.specs.Prelude.{◌≡◌}
+use Rattle.std.specs.Prelude.{◌≡◌, ◌&&◌}
 use Rattle.kit.specs.Names.{length}
 use Rattle.test_shared.specs.Bytes.{same_bytes}
 use Rattle.test_programs.specs.Outputs.{unwritten}
@@ -7,4 +7,4 @@ use Rattle.test_programs.proofs.Outputs.{left_unwritten}
 use Rattle.test_programs.proofs.files.is_unwritten.Given as goal
 
 abbrev pub invariant-loop-byte : goal.invariant-loop-byte
-invariant-loop-byte l = left_unwritten l.bytes l.byte-index ≡ same_bytes l.bytes (unwritten (length l.bytes))
+invariant-loop-byte l = l.unwritten && left_unwritten l.bytes l.byte-index ≡ same_bytes l.bytes (unwritten (length l.bytes))
